@@ -1,0 +1,26 @@
+-- What holds of all of a list.
+use Prim.Native.Nat.{ℕ, zero, suc}
+use mathlib.Core.List.{List, [], _∷_, _++_, map}
+use lib.ListN.{take}
+
+abbrev pub All {ℓ} : {A : Type ℓ} → (A → Type 0) → List A → Type 0
+All P [] = Unit {0}
+All P (x ∷ xs) = P x × All P xs
+
+module _ {ℓ} {A : Type ℓ} (P : A → Type 0) where
+  pub all-append : (xs ys : List A) → All P xs → All P ys → All P (xs ++ ys)
+  all-append [] ys h k = k
+  all-append (x ∷ xs) ys h k = (h .0, all-append xs ys (h .1) k)
+
+  pub all-take : (n : ℕ) (xs : List A) → All P xs → All P (take n xs)
+  all-take zero xs h = tt
+  all-take (suc n) [] h = tt
+  all-take (suc n) (x ∷ xs) h = (h .0, all-take n xs (h .1))
+
+  pub all-map : (Q : A → Type 0) → ((x : A) → P x → Q x) → (xs : List A) → All P xs → All Q xs
+  all-map Q f [] h = tt
+  all-map Q f (x ∷ xs) h = (f x (h .0), all-map Q f xs (h .1))
+
+pub all-image {ℓ κ} : {A : Type ℓ} {B : Type κ} (P : B → Type 0) (f : A → B) (xs : List A) → All (λ x. P (f x)) xs → All P (map f xs)
+all-image P f [] h = tt
+all-image P f (x ∷ xs) h = (h .0, all-image P f xs (h .1))

@@ -1,0 +1,15 @@
+pub mod Tests
+pub mod Scan
+pub mod All
+pub mod Match
+pub mod Lists
+pub mod Overlays
+pub mod Numbers
+pub mod Sectors
+pub mod Cards
+pub mod Runs
+pub mod Boot
+pub mod Classes
+pub mod Records
+pub mod Logs
+pub mod Grounds

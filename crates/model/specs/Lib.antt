@@ -1,0 +1,15 @@
+pub mod Bytes
+pub mod Scan
+pub mod Sector
+pub mod Boot
+pub mod Fat
+pub mod Chain
+pub mod Root
+pub mod Log
+pub mod Record
+pub mod Pending
+pub mod Ground
+pub mod Volume
+pub mod Text
+pub mod Listing
+pub mod Promises

@@ -1,0 +1,91 @@
+-- What is pending in a log, and ground RECORD.
+use Prim.Native.Nat.{ℕ, _+_, _-_, _*_, _/_, _%_}
+use mathlib.Core.List.{[], _∷_}
+use mathlib.Core.Bool.{Bool, true, false, _&&_, _||_, not}
+use lib.Dec.{leb, ltb, eqb}
+use Rattle.model.specs.Bytes.{Bytes, pick}
+use Rattle.model.specs.Scan.{every, between, first, all, all-from}
+use Rattle.model.specs.Sector.{Card}
+use Rattle.model.specs.Root.{attributes, first-bytes, end-slot}
+use Rattle.model.specs.Log.{Log, log-of}
+use Rattle.model.specs.Record.{r-count, r-number, r-directory, r-slot, r-high, r-from, r-cluster, r-size, record-at, decode, group-size, pends}
+use Rattle.model.specs.declared.Layout.{Layout}
+use Rattle.model.specs.declared.Area.{Area}
+use Rattle.model.specs.declared.Group.{Group}
+use Rattle.model.specs.declared.Pending.{Pending}
+use Rattle.model.specs.declared.Pending.the-variants as Pending
+
+-- Record k of a log table is pending: 16 records to a sector. The lowest that is, of n sectors; 16 * n where there is none.
+abbrev pub pending-at : Log → ℕ → Bool
+pending-at g k = pends (g (k / 16)) (k % 16)
+
+unfoldable pub first-pending : ℕ → Log → ℕ
+first-pending n g = first (pending-at g) (16 * n)
+
+-- "slots below the root entries and not above the lowest slot beginning 0": n entries, and that slot z.
+unfoldable pub slot-ok : ℕ → ℕ → ℕ → Bool
+slot-ok n z s = ltb s n && leb s z
+
+-- "operation 1 to 5, directory cluster, high word and long-name count 0, DIR_Cluster below 65,536, slots .."
+unfoldable pub record-ok : ℕ → ℕ → Bytes → Bool
+record-ok n z b =
+    every (
+    between 1 5 (r-number b) ∷ eqb (r-directory b) 0 ∷ eqb (r-high b) 0 ∷ eqb (r-count b) 0
+    ∷ ltb (r-from b) 65536 ∷ slot-ok n z (r-slot b) ∷ [])
+
+-- "alike but for name, operation and slot"
+unfoldable pub alike : Bytes → Bytes → Bool
+alike b d =
+    every (
+    eqb (attributes b) (attributes d) ∷ eqb (r-count b) (r-count d) ∷ eqb (r-directory b) (r-directory d)
+    ∷ eqb (r-high b) (r-high d) ∷ eqb (r-from b) (r-from d) ∷ eqb (r-cluster b) (r-cluster d) ∷ eqb (r-size b) (r-size d) ∷ [])
+
+-- "for rename two different slots, both records pending and alike"
+unfoldable pub pair-ok : ℕ → ℕ → Bytes → Bool
+pair-ok n z b =
+    let d = record-at b 1 in
+    every (pends b 1 ∷ alike b d ∷ slot-ok n z (r-slot d) ∷ not (eqb (r-slot b) (r-slot d)) ∷ [])
+
+-- No byte but zero from i on.
+unfoldable pub empty-from : ℕ → Bytes → Bool
+empty-from i b = all-from (λ j. eqb (b j) 0) i (512 - i)
+
+-- The records of a sector are a group as above, and "the rest of the sector is zero".
+unfoldable pub group-ok : ℕ → ℕ → Bytes → Bool
+group-ok n z b =
+    let m = group-size b in
+    every (record-ok n z b ∷ (eqb m 1 || pair-ok n z b) ∷ empty-from (32 * m) b ∷ [])
+
+-- Only the m records from record i on are pending, in a log of n sectors: "one group".
+unfoldable pub alone : ℕ → Log → ℕ → ℕ → Bool
+alone n g i m = all (λ k. (leb i k && ltb k (i + m)) || not (pending-at g k)) (16 * n)
+
+-- RECORD takes the group of which record i of the log is the first pending one. "A group is record 0 of a sector".
+unfoldable pub accepted : ℕ → ℕ → ℕ → Log → ℕ → Bool
+accepted entries z n g i =
+    let b = g (i / 16) in
+    every (eqb (i % 16) 0 ∷ group-ok entries z b ∷ alone n g i (group-size b) ∷ [])
+
+-- The group in a log sector.
+unfoldable pub group-in : ℕ → Bytes → Group
+group-in s b = record { sector = s; records = group-size b; operation = decode b }
+
+-- What the log table g of an area tells: nothing pending, a group, or records that RECORD refuses.
+unfoldable pub pending-in : ℕ → ℕ → Area → Log → Pending
+pending-in entries z a g =
+    let i = first-pending (a .sectors) g in
+    let held = pick (accepted entries z (a .sectors) g i) (Pending.Held (group-in (a .sector + i / 16) (g (i / 16)))) Pending.Broken in
+    pick (ltb i (16 * a .sectors)) held Pending.Nothing
+
+unfoldable pub pending : Layout → Area → Card → Pending
+pending l a c = pending-in (l .entries) (end-slot (l .entries) (first-bytes l c)) a (log-of a c)
+
+abbrev pub is-broken : Pending → Bool
+is-broken Pending.Nothing = false
+is-broken Pending.Broken = true
+is-broken (Pending.Held g) = false
+
+abbrev pub is-held : Pending → Bool
+is-held Pending.Nothing = false
+is-held Pending.Broken = false
+is-held (Pending.Held g) = true

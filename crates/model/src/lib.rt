@@ -1,0 +1,151 @@
+// The types that the definitions and the code share.
+
+// What the boot sector says of the sizes. `factor` is sectors per cluster, `fatsize` sectors per FAT, `entries` root entries.
+pub struct Fields {
+    pub factor: u32,
+    pub reserved: u32,
+    pub fatsize: u32,
+    pub entries: u32,
+    pub total: u32,
+}
+
+// Where the regions of a card begin, by sector, in their order on the card; `start` is the first data sector.
+pub struct Layout {
+    pub factor: u32,
+    pub fatsize: u32,
+    pub fat1: u32,
+    pub fat2: u32,
+    pub root: u32,
+    pub entries: u32,
+    pub start: u32,
+    pub total: u32,
+    pub clusters: u32,
+}
+
+// What a FAT value means.
+pub enum Class {
+    Free,
+    Next,
+    Reserved,
+    Bad,
+    End,
+    Other,
+}
+
+// The clusters marked as the log: the lowest of them, and how many there are.
+pub struct Run {
+    pub start: u32,
+    pub size: u32,
+}
+
+// Where the log lies: its first sector, and how many it has.
+pub struct Area {
+    pub sector: u32,
+    pub sectors: u32,
+}
+
+// A name, as the little-endian numbers in its 8 and its 3 bytes.
+pub struct Name {
+    pub stem: u64,
+    pub extension: u32,
+}
+
+// A root entry as a log record tells of it.
+pub struct Entry {
+    pub slot: u32,
+    pub name: Name,
+    pub attributes: u32,
+}
+
+// A file: its entry, first cluster and size.
+pub struct File {
+    pub entry: Entry,
+    pub first: u32,
+    pub size: u32,
+}
+
+// The operations that the log can hold, each with its own fields. `from` is DIR_Cluster.
+pub enum Operation {
+    Create {
+        entry: Entry,
+    },
+    Update {
+        entry: Entry,
+        last: u32,
+        from: u32,
+        size: u32,
+    },
+    Delete {
+        entry: Entry,
+        first: u32,
+        size: u32,
+    },
+    Truncate {
+        entry: Entry,
+        first: u32,
+        from: u32,
+        size: u32,
+    },
+    Rename {
+        entry: Entry,
+        first: u32,
+        size: u32,
+        to: u32,
+        renamed: Name,
+    },
+}
+
+// A group of log records, and so the plan of what recovery redoes: the log sector that it stands in, how many records it
+// has, and the operation.
+pub struct Group {
+    pub sector: u32,
+    pub records: u32,
+    pub operation: Operation,
+}
+
+// What is pending in the log.
+pub enum Pending {
+    Nothing,
+    Broken,
+    Held(Group),
+}
+
+// A card that passes grounds 1 to 6.
+pub struct Volume {
+    pub layout: Layout,
+    pub log: Area,
+    pub pending: Pending,
+}
+
+// The grounds on which a call refuses.
+pub enum Ground {
+    Short,
+    Boot,
+    Window,
+    Logarea,
+    Root,
+    Record,
+    Unclean,
+    Name,
+    Absent,
+    Directory,
+    Exists,
+    Rootfull,
+    Chain,
+    Length,
+    Nospace,
+}
+
+// How a call ends: refused; done, with its count (of stores, of bytes read, of entries); or stopped by the limit, with
+// the stores made.
+pub enum Outcome {
+    Refused(Ground),
+    Done(u32),
+    Stopped(u32),
+}
+
+// How many stores of a list were made, and whether those were all.
+pub struct Progress {
+    pub made: u32,
+    pub whole: bool,
+}

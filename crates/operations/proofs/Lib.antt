@@ -1,0 +1,4 @@
+pub mod Compute
+pub mod Flat
+pub mod Rows
+pub mod Appends

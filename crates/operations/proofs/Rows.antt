@@ -1,0 +1,50 @@
+-- The worked example, proved by computation over the definitions.
+use mathlib.Core.Path.{_≡_, refl, _∙_}
+use mathlib.Core.List.{_∷_, []}
+use lib.ListN.{getD, replicate}
+use Rattle.model.specs.Bytes.{Bytes}
+use Rattle.model.specs.Ground.{refused, granted}
+use Rattle.model.specs.Volume.{clean}
+use Rattle.model.specs.declared.Outcome.the-variants.{Done, Stopped}
+use Rattle.model.specs.declared.Ground.the-variants as Ground
+use Rattle.operations.specs.Calls.{truncates, plan}
+use Rattle.operations.specs.Outcome.{made, left, largest}
+use Rattle.operations.specs.CardK.{k, route, trace, trace-on, file}
+use Rattle.operations.specs.Worked.{Worked, volume-k, calls, rows, k3, m4, tail-of, cut-at}
+use Rattle.operations.proofs.Compute.{compute}
+use Rattle.operations.proofs.Flat.{flat, trace-flat}
+
+history-flat : (d e : Bytes) → trace-on (flat 80) (calls d e) k ≡ rows
+unfolding compute
+history-flat d e = refl
+
+zeros-row : (d : Bytes) → tail-of (made largest (plan (m4 d) k3)) 2 275 ≡ d 1299 ∷ replicate 236 0
+unfolding compute
+zeros-row d = refl
+
+cut-4 : (d : Bytes) → cut-at 4 d ≡ record { cut = Stopped 4; stored = 17 ∷ []; recovered = Done 1; file-then = file 0 [] }
+unfolding compute
+cut-4 d = refl
+
+cut-5 : (d : Bytes) → cut-at 5 d ≡ record { cut = Stopped 5; stored = 1 ∷ 33 ∷ 66 ∷ []; recovered = Done 3; file-then = file 1300 (10 ∷ 11 ∷ 12 ∷ []) }
+unfolding compute
+cut-5 d = refl
+
+longer-row : (d : Bytes) → plan (truncates route 1301) (left largest (m4 d) k3) ≡ refused Ground.Length
+unfolding compute
+longer-row d = refl
+
+pub worked : (d e : Bytes) → Worked d e
+unfolding compute
+worked d e = record {
+  m1 = refl;
+  m2 = refl;
+  history = trace-flat 80 (calls d e) k ∙ history-flat d e;
+  m4-zeros = zeros-row d;
+  m5 = cut-4 d;
+  m6 = cut-5 d;
+  largest-card = (refl, refl);
+  too-large = (refl, refl);
+  longer = longer-row d;
+  listing = refl;
+}

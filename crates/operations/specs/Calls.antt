@@ -1,0 +1,141 @@
+-- The calls that store: their grounds, in checking order, and what each then does.
+use Prim.Native.Nat.{ℕ, _-_}
+use mathlib.Core.List.{List, []}
+use mathlib.Core.Bool.{Bool, _&&_, not}
+use lib.Dec.{ltb, eqb}
+use lib.ListN.{drop, length}
+use Rattle.model.specs.Bytes.{Span, pick}
+use Rattle.model.specs.Sector.{Card, Window}
+use Rattle.model.specs.Fat.{entry, free-clusters}
+use Rattle.model.specs.Chain.{keeps-chain, needed}
+use Rattle.model.specs.Root.{name-ok, name-in, find, free-slot, slot-at, is-directory, file-at}
+use Rattle.model.specs.Ground.{Answer, granted, _when_, _>>=_, _>>_}
+use Rattle.model.specs.Volume.{examine, clean}
+use Rattle.model.specs.declared.Name.{Name}
+use Rattle.model.specs.declared.File.{File}
+use Rattle.model.specs.declared.Volume.{Volume}
+use Rattle.model.specs.declared.Ground.the-variants as Ground
+use Rattle.operations.specs.Program.{Program, ending}
+use Rattle.operations.specs.Plan.{clusters-of, old-fat, added, new-clusters, create-stores, append-stores, truncate-stores, delete-stores, rename-stores, recover-stores}
+
+-- The name in a span of 11 bytes, and the slot that it means.
+abbrev pub name-of : Span → Name
+name-of s = name-in (s .byte)
+
+unfoldable pub slot-of : Volume → Card → Span → ℕ
+slot-of v c n = find (v .layout) c (name-of n)
+
+-- "9. ABSENT: no slot has the name." "10. DIRECTORY: that slot is a directory."
+unfoldable pub file-in : Volume → Card → ℕ → Answer File
+file-in v c s = do
+  Ground.Absent when not (ltb s (v .layout .entries))
+  Ground.Directory when is-directory (slot-at (v .layout) c s)
+  granted (file-at (v .layout) c s)
+
+-- "13. CHAIN: the file breaks the chain rule"
+unfoldable pub whole : Volume → Card → File → Answer File
+whole v c f = do
+  Ground.Chain when not (keeps-chain (v .layout) (entry (old-fat v c)) (f .first) (f .size))
+  granted f
+
+-- "11. EXISTS: the new name is taken." "12. ROOTFULL: no slot begins 0 or 0xE5."
+unfoldable pub taken : Volume → Card → Span → Bool
+taken v c n = ltb (slot-of v c n) (v .layout .entries)
+
+unfoldable pub root-full : Volume → Card → Bool
+root-full v c = not (ltb (free-slot (v .layout) c) (v .layout .entries))
+
+unfoldable pub create : Window → Span → Answer Program
+create w n = do
+  v ← clean w
+  Ground.Name when not (name-ok n)
+  Ground.Exists when taken v (w .card) n
+  Ground.Rootfull when root-full v (w .card)
+  granted (create-stores v (w .card) (name-of n))
+
+-- "Appending 0 bytes or truncating to the present size makes no store."
+unfoldable pub unless-none : ℕ → Program → Program
+unless-none n p = pick (eqb n 0) (ending []) p
+
+-- The file that a name means, if it keeps the chain rule.
+unfoldable pub file-of : Volume → Card → Span → Answer File
+file-of v c n = do
+  Ground.Name when not (name-ok n)
+  file-in v c (slot-of v c n) >>= whole v c
+
+-- "15. NOSPACE: append needs more clusters than FAT1 has free."
+unfoldable pub append : Window → Span → Span → Answer Program
+append w n d = do
+  v ← clean w
+  f ← file-of v (w .card) n
+  Ground.Nospace when ltb (length (free-clusters (v .layout) (old-fat v (w .card)))) (added (v .layout) f (d .size))
+  granted (unless-none (d .size) (append-stores v (w .card) f d))
+
+-- "14. LENGTH: truncate asks more than the present size."
+unfoldable pub truncate : Window → Span → ℕ → Answer Program
+truncate w n size = do
+  v ← clean w
+  f ← file-of v (w .card) n
+  Ground.Length when ltb (f .size) size
+  granted (unless-none (f .size - size) (truncate-stores v (w .card) f size))
+
+unfoldable pub delete : Window → Span → Answer Program
+delete w n = do
+  v ← clean w
+  f ← file-of v (w .card) n
+  granted (delete-stores v (w .card) f)
+
+-- "a rename to itself too" is EXISTS. No CHAIN is asked.
+unfoldable pub rename : Window → Span → Span → Answer Program
+rename w n m = do
+  v ← clean w
+  Ground.Name when not (name-ok n && name-ok m)
+  f ← file-in v (w .card) (slot-of v (w .card) n)
+  Ground.Exists when taken v (w .card) m
+  Ground.Rootfull when root-full v (w .card)
+  granted (rename-stores v (w .card) f (name-of m))
+
+-- "Recovery asks 1 to 6"
+unfoldable pub recover : Window → Answer Program
+recover w = do
+  v ← examine w
+  granted (recover-stores (v .layout) (w .card) (v .pending))
+
+-- The writing calls and recovery, with what each is given besides the window and the limit.
+pub data Call : Type 0 where
+  creates : (name : Span) → Call
+  appends : (name bytes : Span) → Call
+  truncates : (name : Span) (size : ℕ) → Call
+  deletes : (name : Span) → Call
+  renames : (name new-name : Span) → Call
+  recovers : Call
+
+-- What a call would store on a window, or its refusal.
+unfoldable pub plan : Call → Window → Answer Program
+plan (creates n) w = create w n
+plan (appends n d) w = append w n d
+plan (truncates n size) w = truncate w n size
+plan (deletes n) w = delete w n
+plan (renames n m) w = rename w n m
+plan recovers w = recover w
+
+-- The clusters that a call takes, and those that it releases, if it is not refused: "Free clusters after a finished call are those
+-- before, less those taken, plus those released."
+unfoldable pub named-file : Volume → Card → Span → File
+named-file v c n = file-at (v .layout) c (slot-of v c n)
+
+unfoldable pub taken-by : Volume → Card → Call → List ℕ
+taken-by v c (creates n) = []
+taken-by v c (appends n d) = new-clusters v c (named-file v c n) (d .size)
+taken-by v c (truncates n size) = []
+taken-by v c (deletes n) = []
+taken-by v c (renames n m) = []
+taken-by v c recovers = []
+
+unfoldable pub released-by : Volume → Card → Call → List ℕ
+released-by v c (creates n) = []
+released-by v c (appends n d) = []
+released-by v c (truncates n size) = drop (needed (v .layout) size) (clusters-of (v .layout) (old-fat v c) (named-file v c n))
+released-by v c (deletes n) = clusters-of (v .layout) (old-fat v c) (named-file v c n)
+released-by v c (renames n m) = []
+released-by v c recovers = []

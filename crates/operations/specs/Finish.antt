@@ -1,0 +1,84 @@
+-- Steps 4 to 6: what is left of an operation once its group is on the card. An operation and the recovery of its group share it.
+use Prim.Native.Nat.{ℕ, _+_, _*_, _/_, _%_}
+use mathlib.Core.List.{List, [], _∷_, _++_, map}
+use mathlib.Core.Bool.{Bool}
+use lib.Dec.{eqb}
+use Rattle.model.specs.Bytes.{Bytes, pick, patch, zeros}
+use Rattle.model.specs.Scan.{any, indices}
+use Rattle.model.specs.Sector.{Card, Store, store}
+use Rattle.model.specs.Fat.{fat1-of, fat2-of, write-fat}
+use Rattle.model.specs.Root.{Directory, root-place, slot-at}
+use Rattle.model.specs.Record.{commit}
+use Rattle.model.specs.declared.Layout.{Layout}
+use Rattle.model.specs.declared.Name.{Name}
+use Rattle.model.specs.declared.Group.{Group}
+use Rattle.model.specs.declared.Operation.{Operation}
+use Rattle.model.specs.declared.Operation.the-variants.{Create, Update, Delete, Truncate, Rename}
+use Rattle.operations.specs.Program.{Program, ending, segment}
+
+-- An edit gives a slot new bytes; the directory after a list of edits.
+pub record Edit : Type 0 where
+  pub slot : ℕ
+  pub bytes : Bytes
+
+abbrev pub edit : ℕ → Bytes → Edit
+edit s b = record { slot = s; bytes = b }
+
+unfoldable pub set-slots : List Edit → Directory → Directory
+set-slots [] d k = d k
+set-slots (e ∷ es) d k = pick (eqb k (e .slot)) (e .bytes) (set-slots es d k)
+
+-- Fields of an entry, set.
+abbrev pub set-name : Name → Bytes → Bytes
+set-name n b = patch 8 (n .stem) 0 (patch 3 (n .extension) 8 b)
+
+abbrev pub set-first : ℕ → Bytes → Bytes
+set-first k b = patch 2 k 26 b
+
+abbrev pub set-size : ℕ → Bytes → Bytes
+set-size n b = patch 4 n 28 b
+
+abbrev pub mark-deleted : Bytes → Bytes
+mark-deleted b = patch 1 0xE5 0 b
+
+-- "attributes 0x20, the three dates 0x0021, all else 0 but the name"
+unfoldable pub new-entry : Name → Bytes
+new-entry n = set-name n (patch 1 0x20 11 (patch 2 0x21 16 (patch 2 0x21 18 (patch 2 0x21 24 zeros))))
+
+-- "Root effect. Create: a new slot .. Update: size; first cluster becomes DIR_Cluster if the last was 0. Truncate: size; first
+-- cluster 0 if size is 0. Delete: first byte 0xE5. Rename: the new slot gets the new name and bytes 11 to 31 of the old, the old
+-- gets 0xE5."
+unfoldable pub edits : Operation → Directory → List Edit
+edits (Create e) d = edit (e .slot) (new-entry (e .name)) ∷ []
+edits (Update e last from size) d =
+    let b = d (e .slot) in
+    edit (e .slot) (set-size size (pick (eqb last 0) (set-first from b) b)) ∷ []
+edits (Delete e first size) d = edit (e .slot) (mark-deleted (d (e .slot))) ∷ []
+edits (Truncate e first from size) d =
+    let b = d (e .slot) in
+    edit (e .slot) (set-size size (pick (eqb size 0) (set-first 0 b) b)) ∷ []
+edits (Rename e first size to renamed) d =
+    edit (e .slot) (mark-deleted (d (e .slot))) ∷ edit to (set-name renamed (d (e .slot))) ∷ []
+
+unfoldable pub effect : Operation → Directory → Directory
+effect o d = set-slots (edits o d) d
+
+-- Root sector r of a directory, and whether an operation edits a slot in it.
+unfoldable pub root-sector : Directory → ℕ → Bytes
+root-sector d r j = d (16 * r + j / 32) (j % 32)
+
+unfoldable pub concerns : Operation → ℕ → Bool
+concerns o r = any (map (λ e. eqb (e .slot / 16) r) (edits o (λ k. zeros)))
+
+-- "5. Root sectors concerned, rising, one store each."
+unfoldable pub root-stores : Layout → Operation → Card → List Store
+root-stores l o c =
+    map (λ r. store (root-place l r) (root-sector (effect o (slot-at l c)) r)) (indices (concerns o) (l .entries / 16))
+
+-- "4. The same FAT sectors into FAT1, rising": those of FAT2 that differ.
+unfoldable pub finish : Layout → Operation → Card → List Store
+finish l o c = write-fat l (l .fat1) (fat2-of l c) (fat1-of l c) ++ root-stores l o c
+
+-- Steps 4 and 5, then 6: "the log sector again, each record of the group starting 0xE5".
+unfoldable pub redo : Layout → Group → Card → Program
+redo l g c = segment (finish l (g .operation) c) (commit c g) (ending [])

@@ -1,0 +1,10 @@
+pub mod Program
+pub mod Finish
+pub mod Plan
+pub mod Calls
+pub mod Outcome
+pub mod Reading
+pub mod Sound
+pub mod Promises
+pub mod CardK
+pub mod Worked

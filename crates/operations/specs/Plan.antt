@@ -1,0 +1,139 @@
+-- The stores of each operation and of recovery, on a card whose grounds have been asked.
+use Prim.Native.Nat.{ℕ, _+_, _-_, _*_, _/_}
+use mathlib.Core.List.{List, [], _∷_, _++_, map, reverse}
+use lib.Dec.{ltb}
+use lib.ListN.{getD, take, drop, length}
+use Rattle.model.specs.Bytes.{Bytes, Span, pick, zeros}
+use Rattle.model.specs.Scan.{range}
+use Rattle.model.specs.Sector.{Card, Store, store, put, after}
+use Rattle.model.specs.Fat.{Fat, entry, fat1-of, fat2-of, free-clusters, link, release, write-fat}
+use Rattle.model.specs.Chain.{needed, chain, file-sector}
+use Rattle.model.specs.Root.{free-slot}
+use Rattle.model.specs.Log.{Log, log-of, unused}
+use Rattle.model.specs.Record.{records, encode}
+use Rattle.model.specs.declared.Layout.{Layout}
+use Rattle.model.specs.declared.Area.{Area}
+use Rattle.model.specs.declared.Name.{Name}
+use Rattle.model.specs.declared.File.{File}
+use Rattle.model.specs.declared.Group.{Group}
+use Rattle.model.specs.declared.Volume.{Volume}
+use Rattle.model.specs.declared.Operation.{Operation}
+use Rattle.model.specs.declared.Operation.the-variants.{Create, Update, Delete, Truncate, Rename}
+use Rattle.model.specs.declared.Pending.{Pending}
+use Rattle.model.specs.declared.Pending.the-variants as Pending
+use Rattle.operations.specs.Program.{Program, ending, segment}
+use Rattle.operations.specs.Finish.{redo}
+
+-- "If there is none, all log sectors are first stored as 512 zeros, the highest first; then the lowest serves."
+unfoldable pub clear-all : Area → List Store
+clear-all a = map (λ s. store s zeros) (reverse (range (a .sector) (a .sectors)))
+
+unfoldable pub clearing : Area → Log → List Store
+clearing a g = pick (ltb (unused (a .sectors) g) (a .sectors)) [] (clear-all a)
+
+unfoldable pub group-sector : Area → Log → ℕ
+group-sector a g = let u = unused (a .sectors) g in a .sector + pick (ltb u (a .sectors)) u 0
+
+-- The group of an operation: "into the lowest log sector whose first byte is 0".
+unfoldable pub new-group : Area → Card → Operation → Group
+new-group a c o = record { sector = group-sector a (log-of a c); records = length (records o); operation = o }
+
+unfoldable pub group-store : Group → Store
+group-store g = store (g .sector) (encode (g .operation))
+
+-- Steps 1 to 3 but for the group. "2. FAT2 sectors whose bytes change, rising." "3. Clearing of the log, if needed; then the group."
+unfoldable pub prepare : Volume → Card → List Store → Fat → List Store
+prepare v c data-stores f =
+    data-stores ++ (write-fat (v .layout) (v .layout .fat2) f (fat2-of (v .layout) c) ++ clearing (v .log) (log-of (v .log) c))
+
+-- All stores of a group: after those before it and the group's own, what is left to do on the card that these leave.
+unfoldable pub journal : Layout → Card → Group → List Store → Program
+journal l c g prep = segment prep (group-store g) (redo l g (put (after prep c) (group-store g)))
+
+unfoldable pub operate : Volume → Card → List Store → Fat → Operation → Program
+operate v c data-stores f o = journal (v .layout) c (new-group (v .log) c o) (prepare v c data-stores f)
+
+-- The FAT as it is, on a clean card.
+abbrev pub old-fat : Volume → Card → Fat
+old-fat v c = fat1-of (v .layout) c
+
+unfoldable pub create-stores : Volume → Card → Name → Program
+create-stores v c name =
+    operate v c [] (old-fat v c) (Create (record { slot = free-slot (v .layout) c; name = name; attributes = 0x20 }))
+
+-- The clusters of a file.
+unfoldable pub clusters-of : Layout → Fat → File → List ℕ
+clusters-of l t f = chain (entry t) (needed l (f .size)) (f .first)
+
+-- The last of a file's clusters, as a list and as a number (0 if it has none).
+abbrev pub last-of : List ℕ → List ℕ
+last-of ks = drop (length ks - 1) ks
+
+abbrev pub last-cluster : List ℕ → ℕ
+last-cluster ks = getD ks (length ks - 1) 0
+
+-- Sector q of a file, which held b, once d is appended to its first bytes, `old` in number: the old bytes, the new, and "bytes
+-- after the new end in the last one are zero".
+unfoldable pub appended : Bytes → ℕ → Span → ℕ → Bytes
+appended b old d q j =
+    let i = 512 * q + j in
+    pick (ltb i old) (b j) (pick (ltb i (old + d .size)) (d .byte (i - old)) 0)
+
+unfoldable pub append-sector : Card → ℕ → ℕ → Span → ℕ → Store
+append-sector c s old d q = store s (appended (c s) old d q)
+
+-- "1. Append only: the data sectors that get new bytes, by rising file offset."
+unfoldable pub data-stores : Layout → Card → List ℕ → ℕ → Span → List Store
+data-stores l c ks old d =
+    map (λ q. append-sector c (file-sector l ks q) old d q) (range (old / 512) ((old + d .size + 511) / 512 - old / 512))
+
+-- How many clusters an append of n bytes takes.
+unfoldable pub added : Layout → File → ℕ → ℕ
+added l f n = needed l (f .size + n) - needed l (f .size)
+
+-- "New clusters are the lowest free ones, in rising order, linked after the old last."
+unfoldable pub new-clusters : Volume → Card → File → ℕ → List ℕ
+new-clusters v c f n = take (added (v .layout) f n) (free-clusters (v .layout) (old-fat v c))
+
+unfoldable pub extend : List ℕ → List ℕ → Fat → Fat
+extend old [] t = t
+extend old (k ∷ ks) t = link (last-of old ++ (k ∷ ks)) t
+
+-- An append along a file's old and new clusters.
+unfoldable pub append-along : Volume → Card → File → Span → List ℕ → List ℕ → Program
+append-along v c f d old new =
+    operate v c (data-stores (v .layout) c (old ++ new) (f .size) d) (extend old new (old-fat v c))
+    (Update (f .entry) (last-cluster old) (getD new 0 0) (f .size + d .size))
+
+unfoldable pub append-stores : Volume → Card → File → Span → Program
+append-stores v c f d = append-along v c f d (clusters-of (v .layout) (old-fat v c) f) (new-clusters v c f (d .size))
+
+-- "Freed entries are 0; where any is freed, the last one kept gets the end value."
+unfoldable pub shorten : List ℕ → List ℕ → Fat → Fat
+shorten kept [] t = t
+shorten kept (k ∷ ks) t = release (k ∷ ks) (link (last-of kept) t)
+
+unfoldable pub truncate-along : Volume → Card → File → ℕ → List ℕ → List ℕ → Program
+truncate-along v c f size kept freed =
+    operate v c [] (shorten kept freed (old-fat v c)) (Truncate (f .entry) (f .first) (getD freed 0 0) size)
+
+unfoldable pub truncate-stores : Volume → Card → File → ℕ → Program
+truncate-stores v c f size =
+    let ks = clusters-of (v .layout) (old-fat v c) f in
+    let n = needed (v .layout) size in
+    truncate-along v c f size (take n ks) (drop n ks)
+
+unfoldable pub delete-stores : Volume → Card → File → Program
+delete-stores v c f =
+    operate v c [] (release (clusters-of (v .layout) (old-fat v c) f) (old-fat v c)) (Delete (f .entry) (f .first) (f .size))
+
+unfoldable pub rename-stores : Volume → Card → File → Name → Program
+rename-stores v c f name =
+    operate v c [] (old-fat v c) (Rename (f .entry) (f .first) (f .size) (free-slot (v .layout) c) name)
+
+-- "Recovery, pending group: FAT2 sectors that differ go to FAT1, rising, then 5 and 6 from the record. No pending group: FAT1
+-- sectors that differ go to FAT2, rising."
+unfoldable pub recover-stores : Layout → Card → Pending → Program
+recover-stores l c Pending.Nothing = ending (write-fat l (l .fat2) (fat1-of l c) (fat2-of l c))
+recover-stores l c Pending.Broken = ending []
+recover-stores l c (Pending.Held g) = redo l g c

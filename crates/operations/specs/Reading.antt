@@ -1,0 +1,68 @@
+-- Read and list: what they answer, and what they leave of the lent buffer.
+use Prim.Native.Nat.{ℕ, _+_, _-_, _*_, _/_, _%_, min}
+use mathlib.Core.List.{List}
+use lib.ListN.{getD, length}
+use Rattle.model.specs.Bytes.{Bytes, Span, overlay}
+use Rattle.model.specs.Scan.{indices}
+use Rattle.model.specs.Sector.{Card, Window}
+use Rattle.model.specs.Fat.{fat1-of}
+use Rattle.model.specs.Chain.{file-sector}
+use Rattle.model.specs.Root.{slot-at, listed}
+use Rattle.model.specs.Ground.{Answer, refused, granted, _>>=_}
+use Rattle.model.specs.Volume.{clean}
+use Rattle.model.specs.declared.Layout.{Layout}
+use Rattle.model.specs.declared.File.{File}
+use Rattle.model.specs.declared.Outcome.{Outcome}
+use Rattle.model.specs.declared.Outcome.the-variants.{Refused, Done}
+use Rattle.operations.specs.Plan.{clusters-of}
+use Rattle.operations.specs.Calls.{file-of}
+
+-- A count, and the first bytes of the lent buffer.
+pub record Filled : Type 0 where
+  pub count : ℕ
+  pub bytes : Span
+
+-- "a file's bytes are the first size bytes along it in FAT1": byte i, of any file on any card.
+unfoldable pub file-byte : Layout → Card → File → Bytes
+file-byte l c f i = c (file-sector l (clusters-of l (fat1-of l c) f) (i / 512)) (i % 512)
+
+-- "Read fills a lent buffer from an offset up to the end of the file, touches no byte after, and gives the count; an offset at or
+-- past the end gives 0."
+unfoldable pub reading : Layout → Card → File → ℕ → ℕ → Filled
+reading l c f offset room =
+    let n = min room (f .size - offset) in
+    record { count = n; bytes = record { size = n; byte = λ i. file-byte l c f (offset + i) } }
+
+unfoldable pub read : Window → Span → ℕ → ℕ → Answer Filled
+read w n offset room = do
+  v ← clean w
+  f ← file-of v (w .card) n
+  granted (reading (v .layout) (w .card) f offset room)
+
+-- "List copies live slots without bit 0x08, in slot order, as many as fit whole, touches no byte after them, and gives how many
+-- there are."
+unfoldable pub shown : Layout → Card → List ℕ
+shown l c = indices (λ k. listed (slot-at l c k)) (l .entries)
+
+unfoldable pub directory-listing : Layout → Card → List ℕ → ℕ → Filled
+directory-listing l c ss room = record {
+  count = length ss;
+  bytes = record {
+    size = 32 * min (length ss) (room / 32);
+    byte = λ i. slot-at l c (getD ss (i / 32) 0) (i % 32);
+  };
+}
+
+unfoldable pub list : Window → ℕ → Answer Filled
+list w room = do
+  v ← clean w
+  granted (directory-listing (v .layout) (w .card) (shown (v .layout) (w .card)) room)
+
+-- "A refusal alters no lent byte, gives count 0."
+unfoldable pub buffer-after : Answer Filled → Bytes → Bytes
+buffer-after (refused g) b = b
+buffer-after (granted f) b = overlay (f .bytes .size) (f .bytes .byte) 0 b
+
+unfoldable pub filled-outcome : Answer Filled → Outcome
+filled-outcome (refused g) = Refused g
+filled-outcome (granted f) = Done (f .count)

@@ -1,0 +1,112 @@
+-- The worked example as one statement: rows M1 to M10, and the other facts that stand with them. Appended bytes are arbitrary.
+use Prim.Native.Nat.{ℕ, _+_, _-_, _*_}
+use mathlib.Core.Path.{_≡_}
+use mathlib.Core.List.{List, [], _∷_, map}
+use lib.ListN.{getD, replicate}
+use Rattle.model.specs.Bytes.{Bytes, zeros}
+use Rattle.model.specs.Scan.{range}
+use Rattle.model.specs.Sector.{Window, Store, store}
+use Rattle.model.specs.Boot.{layout}
+use Rattle.model.specs.Ground.{Answer, refused, granted}
+use Rattle.model.specs.Volume.{mount, clean}
+use Rattle.model.specs.Text.{ascii}
+use Rattle.model.specs.Listing.{log-text}
+use Rattle.model.specs.declared.Volume.{Volume}
+use Rattle.model.specs.declared.Outcome.{Outcome}
+use Rattle.model.specs.declared.Outcome.the-variants.{Done, Stopped}
+use Rattle.model.specs.declared.Pending.the-variants as Pending
+use Rattle.model.specs.declared.Ground.the-variants as Ground
+use Rattle.operations.specs.Calls.{Call, creates, appends, truncates, deletes, recovers, plan}
+use Rattle.operations.specs.Outcome.{outcome, made, left, largest}
+use Rattle.operations.specs.CardK.{k, window-k, boot-sector, span, route, letter, trace, Row, row, Seen, file, absent, seen}
+
+-- M1: card K is clean, with its regions and its log where they should be.
+abbrev pub volume-k : Volume
+volume-k = record {
+  layout = record {
+    factor = 1;
+    fatsize = 16;
+    fat1 = 1;
+    fat2 = 17;
+    root = 33;
+    entries = 512;
+    start = 65;
+    total = 4150;
+    clusters = 4085;
+  };
+  log = record { sector = 65; sectors = 8 };
+  pending = Pending.Nothing;
+}
+
+-- The calls of M3, M4, M7, M8 and M9, then four creates: the last is the ninth group, M10.
+abbrev pub calls : Bytes → Bytes → List Call
+calls d e =
+    creates route ∷ appends route (span 1300 d) ∷ appends route (span 100 e) ∷ truncates route 512 ∷ deletes route
+    ∷ creates (letter 65) ∷ creates (letter 66) ∷ creates (letter 67) ∷ creates (letter 68) ∷ []
+
+-- For each the sectors stored, in order; DIR_Cluster; and the size and chain of ROUTE.CUT after it.
+abbrev pub rows : List Row
+rows =
+    row (65 ∷ 33 ∷ 65 ∷ []) 0 (file 0 [])
+    ∷ row (73 ∷ 74 ∷ 75 ∷ 17 ∷ 66 ∷ 1 ∷ 33 ∷ 66 ∷ []) 10 (file 1300 (10 ∷ 11 ∷ 12 ∷ []))
+    ∷ row (75 ∷ 67 ∷ 33 ∷ 67 ∷ []) 0 (file 1400 (10 ∷ 11 ∷ 12 ∷ []))
+    ∷ row (17 ∷ 68 ∷ 1 ∷ 33 ∷ 68 ∷ []) 11 (file 512 (10 ∷ []))
+    ∷ row (17 ∷ 69 ∷ 1 ∷ 33 ∷ 69 ∷ []) 0 absent
+    ∷ row (70 ∷ 33 ∷ 70 ∷ []) 0 absent
+    ∷ row (71 ∷ 33 ∷ 71 ∷ []) 0 absent
+    ∷ row (72 ∷ 33 ∷ 72 ∷ []) 0 absent
+    ∷ row (72 ∷ 71 ∷ 70 ∷ 69 ∷ 68 ∷ 67 ∷ 66 ∷ 65 ∷ 65 ∷ 33 ∷ 65 ∷ []) 0 absent
+    ∷ []
+
+-- The window after M3, and M4's call on it.
+abbrev pub k3 : Window
+k3 = left largest (creates route) k
+
+abbrev pub m4 : Bytes → Call
+m4 d = appends route (span 1300 d)
+
+-- The bytes of store i of a list, from an offset to the end of the sector.
+abbrev pub tail-of : List Store → ℕ → ℕ → List ℕ
+tail-of ss i at = map (getD ss i (store 0 zeros) .bytes) (range at (512 - at))
+
+-- M4 cut by a limit and recovered: how the cut call ends, the sectors that the recovery stores and how it ends, ROUTE.CUT then.
+pub record Cut : Type 0 where
+  pub cut : Outcome
+  pub stored : List ℕ
+  pub recovered : Outcome
+  pub file-then : Seen
+
+abbrev pub cut-at : ℕ → Bytes → Cut
+cut-at limit d =
+    let w = left limit (m4 d) k3 in
+    record {
+      cut = outcome limit (plan (m4 d) k3);
+      stored = map (λ s. s .sector) (made largest (plan recovers w));
+      recovered = outcome largest (plan recovers w);
+      file-then = seen (left largest recovers w .card);
+    }
+
+-- A window that begins with a boot sector with 1 sector per cluster, 256 sectors per FAT and this many clusters.
+abbrev pub large : ℕ → Window
+large clusters =
+    let total = 1 + 512 + 32 + clusters in
+    record { size = 512 * total; card = λ s. boot-sector 256 0 total }
+
+pub record Worked (d e : Bytes) : Type 0 where
+  -- "M1: 4,085 clusters, accepted. M2: 4,149 sectors, BOOT."
+  pub m1 : clean k ≡ granted volume-k
+  pub m2 : clean (window-k 4149) ≡ refused Ground.Boot
+  -- M3, M4, M7, M8, M9, M10
+  pub history : trace (calls d e) k ≡ rows
+  -- "sector 75 ends in 236 zeros": the third store of M4, from its last new byte on
+  pub m4-zeros : tail-of (made largest (plan (m4 d) k3)) 2 275 ≡ d 1299 ∷ replicate 236 0
+  -- "M5: limit 4 in M4, recovered: size 0. M6: limit 5: size 1,300."
+  pub m5 : cut-at 4 d ≡ record { cut = Stopped 4; stored = 17 ∷ []; recovered = Done 1; file-then = file 0 [] }
+  pub m6 : cut-at 5 d ≡ record { cut = Stopped 5; stored = 1 ∷ 33 ∷ 66 ∷ []; recovered = Done 3; file-then = file 1300 (10 ∷ 11 ∷ 12 ∷ []) }
+  -- "65,524 clusters accepted, 65,525 BOOT; truncate to size + 1, LENGTH."
+  pub largest-card : (mount (large 65524) ≡ granted (layout (large 65524 .card 0))) × (layout (large 65524 .card 0) .clusters ≡ 65524)
+  pub too-large : (mount (large 65525) ≡ refused Ground.Boot) × (layout (large 65525 .card 0) .clusters ≡ 65525)
+  pub longer : plan (truncates route 1301) (left largest (m4 d) k3) ≡ refused Ground.Length
+  -- "M3's sector 65 after its first store gives, whole:"
+  pub listing : log-text (span 512 (getD (made largest (plan (creates route) k)) 0 (store 0 zeros) .bytes))
+      ≡ ascii "log 1 sectors\n0 0 create pending ROUTE.CUT slot 0 first 0 from 0 size 0\n"

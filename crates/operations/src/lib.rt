@@ -1,0 +1,1 @@
+// What each call does, as definitions: see specs/. Nothing here has a body.
