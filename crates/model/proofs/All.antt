@@ -1,7 +1,8 @@
 -- What holds of all of a list.
 use Prim.Native.Nat.{ℕ, zero, suc}
-use mathlib.Core.List.{List, [], _∷_, _++_, map}
-use lib.ListN.{take}
+use mathlib.Core.Path.{sym, subst}
+use mathlib.Core.List.{List, [], _∷_, _++_, map, reverse, reverse-cons}
+use lib.ListN.{take, drop}
 
 abbrev pub All {ℓ} : {A : Type ℓ} → (A → Type 0) → List A → Type 0
 All P [] = Unit {0}
@@ -24,3 +25,12 @@ module _ {ℓ} {A : Type ℓ} (P : A → Type 0) where
 pub all-image {ℓ κ} : {A : Type ℓ} {B : Type κ} (P : B → Type 0) (f : A → B) (xs : List A) → All (λ x. P (f x)) xs → All P (map f xs)
 all-image P f [] h = tt
 all-image P f (x ∷ xs) h = (h .0, all-image P f xs (h .1))
+
+pub all-reverse {ℓ} : {A : Type ℓ} (P : A → Type 0) (xs : List A) → All P xs → All P (reverse xs)
+all-reverse P [] h = tt
+all-reverse P (x ∷ xs) h = subst (All P) (sym (reverse-cons x xs)) (all-append P (reverse xs) (x ∷ []) (all-reverse P xs (h .1)) (h .0, tt))
+
+pub all-drop {ℓ} : {A : Type ℓ} (P : A → Type 0) (n : ℕ) (xs : List A) → All P xs → All P (drop n xs)
+all-drop P zero xs h = h
+all-drop P (suc n) [] h = tt
+all-drop P (suc n) (x ∷ xs) h = all-drop P n xs (h .1)

@@ -1,8 +1,10 @@
 pub mod Tests
 pub mod Scan
 pub mod All
-pub mod Match
 pub mod Lists
+pub mod Match
+pub mod Indices
+pub mod Searches
 pub mod Overlays
 pub mod Numbers
 pub mod Sectors
@@ -10,6 +12,15 @@ pub mod Cards
 pub mod Runs
 pub mod Boot
 pub mod Classes
+pub mod Fats
+pub mod Walks
+pub mod Chains
+pub mod Changes
+pub mod Root
+pub mod Order
+pub mod Names
 pub mod Records
 pub mod Logs
+pub mod Pendings
 pub mod Grounds
+pub mod Volumes

@@ -2,7 +2,7 @@
 use mathlib.Core.Path.{_≡_, refl, sym, ap, _∙_}
 use mathlib.Core.Logic.{_⊎_, inl, inr, ⊎-elim}
 use mathlib.Core.List.{List, [], _∷_, _++_}
-use Prim.Native.Nat.{ℕ, _+_, _*_, _-_, _<_, _≤_}
+use Prim.Native.Nat.{ℕ, zero, suc, _+_, _*_, _-_, _<_, _≤_}
 use native.Mathlib.Omega.{arith}
 use lib.ListN.{length, getD, set, take, drop, List·getD-append}
 use lib.Seq.{getD-set-same, getD-set-other, length-take-le, getD-append-add, getD-take, getD-drop}
@@ -39,3 +39,9 @@ module _ (xs ys : List ℕ) (a k : ℕ) (fits : a + k ≤ length xs) (whole : le
       ∙ getD-append-add ys (drop k (drop a xs)) n 0
       ∙ getD-drop k (drop a xs) n 0
       ∙ getD-drop a xs (k + n) 0
+
+pub drop-all : (n : ℕ) (ks : List ℕ) → length ks ≤ n → drop n ks ≡ []
+drop-all zero [] h = refl
+drop-all zero (k ∷ ks) h = absurd (omega arith)
+drop-all (suc n) [] h = refl
+drop-all (suc n) (k ∷ ks) h = drop-all n ks (omega arith)

@@ -8,7 +8,7 @@ use mathlib.Core.Bool.{Bool, true, false}
 use mathlib.Core.List.{List, [], _∷_, _++_}
 use Rattle.model.specs.Bytes.{pick}
 use Rattle.model.specs.Scan.{walk, first-from, all-from, count-from, indices-from}
-use Rattle.model.proofs.Tests.{same?}
+use Rattle.model.proofs.Tests.{same?, less?, clash}
 
 -- the first number from i on, or one after it
 split : (i n k : ℕ) → i ≤ k → k < i + suc n → (k ≡ i) ⊎ (i + 1 ≤ k)
@@ -198,3 +198,43 @@ module _ (p : ℕ → Bool) (v : Bool) (i : ℕ) where
 -- what a search from 0 on has not found
 pub none-below : (p : ℕ → Bool) (n k : ℕ) → Sofar p false 0 k → n ≤ k → first-from p 0 n ≡ n
 none-below p n k inv l = first-none p 0 n (sofar-cut p false 0 k (0 + n) inv (omega arith)) ∙ omega arith
+
+module _ (p : ℕ → Bool) where
+  -- what none of the numbers below k has is not found below k
+  pub first-above : (i n k : ℕ) → k ≤ i + n → ((j : ℕ) → i ≤ j → j < k → p j ≡ false) → k ≤ first-from p i n
+  first-above i n k l h = ⊎-elim (λ less. go less) (λ le. le) (less? (first-from p i n) k)
+    where
+      go : first-from p i n < k → k ≤ first-from p i n
+      go less = clash (first-has p i n (omega arith)) (h (first-from p i n) (first-ge p i n) less)
+
+  -- what holds of all that p holds of is found no later
+  pub first-mono : (q : ℕ → Bool) (i n : ℕ) → ((j : ℕ) → p j ≡ true → q j ≡ true) → first-from q i n ≤ first-from p i n
+  first-mono q i n h = ⊎-elim go (λ le. le) (less? (first-from p i n) (first-from q i n))
+    where
+      go : first-from p i n < first-from q i n → first-from q i n ≤ first-from p i n
+      go less =
+          let le : first-from q i n ≤ i + n = first-le q i n in
+          clash (h (first-from p i n) (first-has p i n (omega arith))) (first-before q i n (first-from p i n) (first-ge p i n) less)
+
+-- scans of the numbers below n
+module _ (p : ℕ → Bool) (n : ℕ) where
+  pub all-of0 : ((j : ℕ) → j < n → p j ≡ true) → all-from p 0 n ≡ true
+  all-of0 h = all-of p 0 n (λ k lo hi. h k (omega arith))
+
+  pub all-at0 : all-from p 0 n ≡ true → (j : ℕ) → j < n → p j ≡ true
+  all-at0 h j less = all-at p 0 n h j (omega arith) (omega arith)
+
+  pub first-le0 : first-from p 0 n ≤ n
+  first-le0 = let h : first-from p 0 n ≤ 0 + n = first-le p 0 n in omega arith
+
+  pub first-before0 : (j : ℕ) → j < first-from p 0 n → p j ≡ false
+  first-before0 j less = first-before p 0 n j (omega arith) less
+
+  pub first-has0 : first-from p 0 n < n → p (first-from p 0 n) ≡ true
+  first-has0 h = first-has p 0 n (omega arith)
+
+  pub first-above0 : (k : ℕ) → k ≤ n → ((j : ℕ) → j < k → p j ≡ false) → k ≤ first-from p 0 n
+  first-above0 k le h = first-above p 0 n k (omega arith) (λ j lo less. h j less)
+
+  pub first-is0 : (r : ℕ) → r < n → ((j : ℕ) → j < r → p j ≡ false) → p r ≡ true → first-from p 0 n ≡ r
+  first-is0 r less none h = first-is p 0 n r (omega arith) (omega arith) (λ k lo hi. none k hi) h

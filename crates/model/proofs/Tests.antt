@@ -1,10 +1,10 @@
 -- Laws of tests.
-use Prim.Native.Nat.{ℕ, zero, suc, _<_, _≤_}
+use Prim.Native.Nat.{ℕ, zero, suc, _≤_, _<_}
 use native.Mathlib.Omega.{arith}
 use mathlib.Core.Path.{_≡_, refl, sym}
 use mathlib.Core.Logic.{_⊎_, inl, inr}
 use mathlib.Core.List.{List, [], _∷_}
-use mathlib.Core.Bool.{Bool, true, false, _&&_, _||_}
+use mathlib.Core.Bool.{Bool, true, false, _&&_, _||_, and-false}
 use lib.Dec.{leb, ltb, eqb}
 use borrow.Author.Tests.{leb-true, leb-false, le-leb, lt-leb, ltb-true, ltb-false, eqb-true, eqb-false}
 use Rattle.model.specs.Bytes.{pick}
@@ -51,6 +51,10 @@ pub or-right : (a b : Bool) → b ≡ true → (a || b) ≡ true
 or-right true b e = refl
 or-right false b e = e
 
+pub or-false : (a b : Bool) → (a || b) ≡ false → (a ≡ false) × (b ≡ false)
+or-false true b h = clash refl h
+or-false false b h = (refl, h)
+
 -- Two tests of orders that follow from each other.
 pub leb-same : (a b c d : ℕ) → (a ≤ b → c ≤ d) → (b < a → d < c) → leb a b ≡ leb c d
 leb-same a b c d f g = go (leb a b) refl
@@ -80,6 +84,22 @@ unfolding every
 each-every [] h = refl
 each-every (b ∷ bs) h = and-both b (every bs) (h .0) (each-every bs (h .1))
 
+-- A pair without brackets, for long lists: `each-every _ (first also second also tt)`.
+infixr 5 _also_
+pub _also_ : {A B : Type 0} → A → B → A × B
+a also b = (a, b)
+
+-- One test that fails is enough.
+pub every-not : (bs : List Bool) (n : ℕ) → nth bs n ≡ false → every bs ≡ false
+unfolding every
+every-not [] n h = h
+every-not (b ∷ bs) zero h = rw h
+every-not (b ∷ bs) (suc n) h = go b (every-not bs n h)
+  where
+    go : (b : Bool) → every bs ≡ false → (b && every bs) ≡ false
+    go true e = e
+    go false e = refl
+
 -- What follows from each test that may hold.
 abbrev pub Implies : Type 0 → List Bool → Type 0
 Implies P [] = Unit {0}
@@ -98,6 +118,18 @@ pub between-true : (lo hi n : ℕ) → between lo hi n ≡ true → (lo ≤ n) �
 unfolding between
 between-true lo hi n h = (leb-true lo n (and-left (leb lo n) (leb n hi) h), leb-true n hi (and-right (leb lo n) (leb n hi) h))
 
+pub between-is : (lo hi n : ℕ) → lo ≤ n → n ≤ hi → between lo hi n ≡ true
+unfolding between
+between-is lo hi n l h = rw (le-leb lo n l, le-leb n hi h)
+
+pub between-low : (lo hi n : ℕ) → n < lo → between lo hi n ≡ false
+unfolding between
+between-low lo hi n h = rw (lt-leb lo n h)
+
+pub between-high : (lo hi n : ℕ) → hi < n → between lo hi n ≡ false
+unfolding between
+between-high lo hi n h = rw (lt-leb n hi h, and-false)
+
 -- Which of two was picked, and what holds of either.
 pub which : {A : Type 0} (t : Bool) (x y z : A) → pick t x y ≡ z → ((t ≡ true) × (x ≡ z)) ⊎ ((t ≡ false) × (y ≡ z))
 which true x y z h = inl (refl, h)
@@ -106,3 +138,7 @@ which false x y z h = inr (refl, h)
 pub by-pick : {A : Type 0} (P : A → Type 0) (b : Bool) (x y : A) → (b ≡ true → P x) → (b ≡ false → P y) → P (pick b x y)
 by-pick P true x y f h = f refl
 by-pick P false x y f h = h refl
+
+pub both : (a b : Bool) → pick a b false ≡ true → (a ≡ true) × (b ≡ true)
+both true b h = (refl, h)
+both false b h = clash h refl

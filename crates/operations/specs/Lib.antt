@@ -6,5 +6,8 @@ pub mod Outcome
 pub mod Reading
 pub mod Sound
 pub mod Promises
+pub mod Cuts
+pub mod Demand3
+pub mod AfterCall
 pub mod CardK
 pub mod Worked

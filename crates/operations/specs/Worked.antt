@@ -70,13 +70,13 @@ abbrev pub tail-of : List Store → ℕ → ℕ → List ℕ
 tail-of ss i at = map (getD ss i (store 0 zeros) .bytes) (range at (512 - at))
 
 -- M4 cut by a limit and recovered: how the cut call ends, the sectors that the recovery stores and how it ends, ROUTE.CUT then.
-pub record Cut : Type 0 where
+pub record CutRow : Type 0 where
   pub cut : Outcome
   pub stored : List ℕ
   pub recovered : Outcome
   pub file-then : Seen
 
-abbrev pub cut-at : ℕ → Bytes → Cut
+abbrev pub cut-at : ℕ → Bytes → CutRow
 cut-at limit d =
     let w = left limit (m4 d) k3 in
     record {

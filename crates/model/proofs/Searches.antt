@@ -1,0 +1,130 @@
+-- Scans as loops make them: what was seen so far, and what a count says in the end.
+use Prim.Native.Nat.{ℕ, zero, suc, _+_, _-_, _<_, _≤_}
+use native.Mathlib.Nat.{add-zero, zero-add, suc-add}
+use native.Mathlib.Omega.{arith}
+use mathlib.Core.Path.{_≡_, refl, sym, ap, _∙_}
+use mathlib.Core.List.{List, [], _∷_}
+use lib.ListN.{length}
+use mathlib.Core.Logic.{⊎-elim}
+use mathlib.Core.Bool.{Bool, true, false, not}
+use lib.Dec.{eqb}
+use borrow.Author.Tests.{ne-eqb}
+use Rattle.model.specs.Bytes.{pick}
+use Rattle.model.specs.Scan.{walk, first-from, all-from, count-from, indices-from}
+use Rattle.model.proofs.Tests.{told, same?, less?}
+use Rattle.model.proofs.Scan.{first-none, first-before, count-step}
+use Rattle.model.proofs.Indices.{indices-empty}
+
+-- p is v of the numbers from i on, below k: the invariant of a search.
+abbrev pub Sofar : (ℕ → Bool) → Bool → ℕ → ℕ → Type 0
+Sofar p v i k = (m : ℕ) → i ≤ m → m < k → p m ≡ v
+
+module _ (p : ℕ → Bool) (v : Bool) (i : ℕ) where
+  pub sofar-none : (k : ℕ) → k ≤ i → Sofar p v i k
+  sofar-none k l m a b = absurd (omega arith)
+
+  pub sofar-more : (k : ℕ) → Sofar p v i k → p k ≡ v → Sofar p v i (k + 1)
+  sofar-more k inv here m l h = ⊎-elim (λ e. rw e here) (λ ne. inv m l (omega arith)) (same? m k)
+
+  pub sofar-cut : (k j : ℕ) → Sofar p v i k → j ≤ k → Sofar p v i j
+  sofar-cut k j inv le m l h = inv m l (omega arith)
+
+-- What a search from 0 on has not found.
+pub none-below : (p : ℕ → Bool) (n k : ℕ) → Sofar p false 0 k → n ≤ k → first-from p 0 n ≡ n
+none-below p n k inv l = first-none p 0 n (sofar-cut p false 0 k (0 + n) inv (omega arith)) ∙ omega arith
+
+-- All hold where none that fails is counted.
+pub count-fails : (p : ℕ → Bool) (i n : ℕ) → eqb (count-from (λ k. not (p k)) i n) 0 ≡ all-from p i n
+unfolding count-from all-from walk
+count-fails p i zero = refl
+count-fails p i (suc n) = go (p i) (count-fails p (i + 1) n)
+  where
+    go : (b : Bool) → eqb (count-from (λ k. not (p k)) (i + 1) n) 0 ≡ all-from p (i + 1) n
+        → eqb (pick (not b) (suc (count-from (λ k. not (p k)) (i + 1) n)) (count-from (λ k. not (p k)) (i + 1) n)) 0 ≡ pick b (all-from p (i + 1) n) false
+    go true h = h
+    go false h = ne-eqb (suc (count-from (λ k. not (p k)) (i + 1) n)) 0 (λ e. omega arith)
+
+-- A count, one number further: k.
+module _ (p : ℕ → Bool) (i n m k : ℕ) (so : m ≡ count-from p i n) (at : k ≡ i + n) where
+  pub count-hit : p k ≡ true → m + 1 ≡ count-from p i (n + 1)
+  count-hit h = rw (count-step p i n, ← at, h, so)
+
+  pub count-miss : p k ≡ false → m ≡ count-from p i (n + 1)
+  count-miss h = rw (count-step p i n, ← at, h) (so ∙ omega arith)
+
+module _ (p : ℕ → Bool) where
+  -- A count in two parts.
+  pub count-add : (i n m : ℕ) → count-from p i (n + m) ≡ count-from p i n + count-from p (i + n) m
+  unfolding count-from walk
+  count-add i zero m = rw (zero-add m, add-zero i) (sym (zero-add (count-from p i m)))
+  count-add i (suc n) m =
+      let e : i + suc n ≡ i + 1 + n = omega arith in
+      rw (suc-add, e, count-add (i + 1) n m) (go (p i) (count-from p (i + 1) n) (count-from p (i + 1 + n) m))
+    where
+      go : (b : Bool) (x y : ℕ) → pick b (suc (x + y)) (x + y) ≡ pick b (suc x) x + y
+      go true x y = omega arith
+      go false x y = refl
+
+  pub count-all : (i n : ℕ) → ((k : ℕ) → i ≤ k → k < i + n → p k ≡ true) → count-from p i n ≡ n
+  unfolding count-from walk
+  count-all i zero h = refl
+  count-all i (suc n) h = rw (h i (omega arith) (omega arith)) (ap suc (count-all (i + 1) n (λ k l m. h k (omega arith) (omega arith))))
+
+  pub count-zero : (i n : ℕ) → ((k : ℕ) → i ≤ k → k < i + n → p k ≡ false) → count-from p i n ≡ 0
+  unfolding count-from walk
+  count-zero i zero h = refl
+  count-zero i (suc n) h = rw (h i (omega arith) (omega arith)) (count-zero (i + 1) n (λ k l m. h k (omega arith) (omega arith)))
+
+  count-first : (i n : ℕ) → p i ≡ true → count-from p i (suc n) ≡ suc (count-from p (i + 1) n)
+  unfolding count-from walk
+  count-first i n e = rw e
+
+  -- What is there is counted.
+  pub count-some : (i n k : ℕ) → i ≤ k → k < i + n → p k ≡ true → 1 ≤ count-from p i n
+  count-some i n k l h e = ⊎-elim (λ q. absurd (none q)) (λ q. omega arith) (less? (count-from p i n) 1)
+    where
+      none : count-from p i n < 1 → ⊥
+      none q =
+          let s = count-add i (k - i) (suc (i + n - suc k)) in
+          let f : k - i + suc (i + n - suc k) ≡ n = omega arith in
+          let g : i + (k - i) ≡ k = omega arith in
+          let t : count-from p k (suc (i + n - suc k)) ≡ suc (count-from p (k + 1) (i + n - suc k)) = count-first k (i + n - suc k) e in
+          let u : count-from p i n ≡ count-from p i (k - i) + suc (count-from p (k + 1) (i + n - suc k)) = rw (f, g, t) at s in
+          omega arith
+
+  pub indices-length : (i n : ℕ) → length (indices-from p i n) ≡ count-from p i n
+  unfolding indices-from count-from walk
+  indices-length i zero = refl
+  indices-length i (suc n) = go (p i) (indices-length (i + 1) n)
+    where
+      go : (b : Bool) → length (indices-from p (i + 1) n) ≡ count-from p (i + 1) n
+          → length (pick b (i ∷ indices-from p (i + 1) n) (indices-from p (i + 1) n)) ≡ pick b (suc (count-from p (i + 1) n)) (count-from p (i + 1) n)
+      go true h = ap suc h
+      go false h = h
+
+-- The numbers that p holds of, from the first one on.
+pub indices-first : (p : ℕ → Bool) (i n : ℕ) → first-from p i n < i + n
+    → indices-from p i n ≡ first-from p i n ∷ indices-from p (first-from p i n + 1) (i + n - (first-from p i n + 1))
+unfolding first-from indices-from walk
+indices-first p i zero h = absurd (omega arith)
+indices-first p i (suc n) h = go (p i) refl (indices-first p (i + 1) n)
+  where
+    go : (b : Bool) → p i ≡ b
+        → (first-from p (i + 1) n < i + 1 + n → indices-from p (i + 1) n ≡ first-from p (i + 1) n ∷ indices-from p (first-from p (i + 1) n + 1) (i + 1 + n - (first-from p (i + 1) n + 1)))
+        → indices-from p i (suc n) ≡ first-from p i (suc n) ∷ indices-from p (first-from p i (suc n) + 1) (i + suc n - (first-from p i (suc n) + 1))
+    go true e f = let z : i + suc n - (i + 1) ≡ n = omega arith in rw (e, z) refl
+    go false e f =
+        let z : i + suc n ≡ i + 1 + n = omega arith in
+        let l : first-from p (i + 1) n < i + 1 + n = rw (e, z) at h in
+        rw (e, z) (f l)
+
+pub indices-last : (p : ℕ → Bool) (i n : ℕ) → first-from p i n ≡ i + n → indices-from p i n ≡ []
+indices-last p i n e = indices-empty p i n (λ k l h. first-before p i n k l (omega (arith, e)))
+
+-- A search that passes over numbers none of which is counted.
+pub sofar-over : (p : ℕ → Bool) (i k n : ℕ) → Sofar p false i k → count-from p k n ≡ 0 → Sofar p false i (k + n)
+sofar-over p i k n inv none m l h =
+    ⊎-elim
+    (λ low. inv m l low)
+    (λ up. ⊎-elim (λ e. absurd (let s = count-some p k n m up h e in omega arith)) (λ e. e) (told (p m)))
+    (less? m k)

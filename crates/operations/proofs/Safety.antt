@@ -1,0 +1,17 @@
+pub mod Journal
+pub mod Start
+pub mod Before
+pub mod Effect
+pub mod Steps
+pub mod After
+pub mod Redo
+pub mod Operate
+pub mod Clusters
+pub mod Files
+pub mod Fair
+pub mod Operations
+pub mod Appends
+pub mod Calls
+pub mod Recovery
+pub mod Theorem
+pub mod Instance

@@ -1,0 +1,49 @@
+//! A FAT16 writer that keeps a TI-LFAT journal on the card.
+//!
+//! This crate is written from the requirements alone, in plain Rust. It serves
+//! as an oracle for tests and as the baseline for benchmarks. A card is a slice
+//! of bytes; every writing call first fixes its whole list of sector stores
+//! from the card as it stands, then makes the first `limit` of them.
+//!
+//! Where to look:
+//! - `check`: grounds 1 to 7, which judge the card;
+//! - `lookup`: grounds 8 to 10 and 13, which judge a name and its file;
+//! - `operation`: the five writing operations;
+//! - `transaction`: the order of stores;
+//! - `recovery`: redo of a pending group, undo of anything else;
+//! - `reading`: read and list;
+//! - `listing`: the text of the log listing program;
+//! - `builder`, `inspect`: making cards for tests and looking into them.
+
+#![forbid(unsafe_code)]
+
+mod answer;
+mod builder;
+mod bytes;
+mod chain;
+mod check;
+mod fat;
+mod fat_draft;
+mod geometry;
+mod inspect;
+mod journal;
+mod listing;
+mod lookup;
+mod name;
+mod operation;
+mod reading;
+mod recovery;
+mod root;
+mod root_change;
+mod store;
+mod transaction;
+mod volume;
+
+pub use answer::{Answer, Ground};
+pub use builder::{card_k, CardSpec};
+pub use geometry::Geometry;
+pub use inspect::{file_bytes, file_chain, free_clusters, is_sound};
+pub use listing::log_listing;
+pub use operation::{append, create, delete, plan, recover, rename, run, truncate, Operation};
+pub use reading::{list, read};
+pub use store::{Sector, Store, SECTOR_BYTES};

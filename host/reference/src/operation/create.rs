@@ -1,0 +1,37 @@
+//! Create: a new slot; no cluster is touched.
+
+use crate::answer::Ground;
+use crate::check;
+use crate::fat_draft::FatDraft;
+use crate::journal::{record, Record};
+use crate::name;
+use crate::root;
+use crate::root_change::{RootChange, ARCHIVE};
+use crate::store::Store;
+use crate::transaction::Transaction;
+
+pub fn plan(card: &[u8], name: &[u8]) -> Result<Vec<Store>, Ground> {
+    let card = check::clean(card)?;
+    let name = name::parse(name)?;
+    let directory = card.volume.root();
+    if root::find(directory, &name).is_some() {
+        return Err(Ground::Exists);
+    }
+    let slot = root::lowest_available(directory).ok_or(Ground::Rootfull)?;
+    let record = Record {
+        name,
+        attributes: ARCHIVE,
+        operation: record::CREATE,
+        slot,
+        first_or_last: 0,
+        dir_cluster: 0,
+        size: 0,
+    };
+    let transaction = Transaction {
+        data: Vec::new(),
+        fat: FatDraft::new(card.volume.fat1()),
+        records: vec![record],
+        root: RootChange::Create { slot, name },
+    };
+    Ok(transaction.stores(&card))
+}

@@ -1,0 +1,73 @@
+//! The writing calls.
+
+mod append;
+mod create;
+mod delete;
+mod rename;
+mod truncate;
+
+use crate::answer::{Answer, Ground};
+use crate::recovery;
+use crate::store::{self, Store};
+
+/// A writing call with what it was given.
+#[derive(Clone, Copy, Debug, PartialEq, Eq)]
+pub enum Operation<'a> {
+    Create { name: &'a [u8] },
+    Append { name: &'a [u8], data: &'a [u8] },
+    Truncate { name: &'a [u8], size: u32 },
+    Delete { name: &'a [u8] },
+    Rename { old: &'a [u8], new: &'a [u8] },
+    Recover,
+}
+
+/// The stores that the call would make on the card as it stands, given a large
+/// enough limit.
+pub fn plan(card: &[u8], operation: &Operation) -> Result<Vec<Store>, Ground> {
+    match *operation {
+        Operation::Create { name } => create::plan(card, name),
+        Operation::Append { name, data } => append::plan(card, name, data),
+        Operation::Truncate { name, size } => truncate::plan(card, name, size),
+        Operation::Delete { name } => delete::plan(card, name),
+        Operation::Rename { old, new } => rename::plan(card, old, new),
+        Operation::Recover => recovery::plan(card),
+    }
+}
+
+/// Makes the first stores of the call's list, up to the limit.
+pub fn run(card: &mut [u8], operation: &Operation, limit: u32) -> Answer {
+    match plan(card, operation) {
+        Ok(stores) => store::make(card, &stores, limit),
+        Err(ground) => Answer::Refused(ground),
+    }
+}
+
+/// Makes an empty file.
+pub fn create(card: &mut [u8], name: &[u8], limit: u32) -> Answer {
+    run(card, &Operation::Create { name }, limit)
+}
+
+/// Adds bytes at the end of a file.
+pub fn append(card: &mut [u8], name: &[u8], data: &[u8], limit: u32) -> Answer {
+    run(card, &Operation::Append { name, data }, limit)
+}
+
+/// Shortens a file.
+pub fn truncate(card: &mut [u8], name: &[u8], size: u32, limit: u32) -> Answer {
+    run(card, &Operation::Truncate { name, size }, limit)
+}
+
+/// Removes a file and frees its clusters.
+pub fn delete(card: &mut [u8], name: &[u8], limit: u32) -> Answer {
+    run(card, &Operation::Delete { name }, limit)
+}
+
+/// Moves a file to a new slot with a new name.
+pub fn rename(card: &mut [u8], old: &[u8], new: &[u8], limit: u32) -> Answer {
+    run(card, &Operation::Rename { old, new }, limit)
+}
+
+/// Finishes or undoes what a power cut left behind.
+pub fn recover(card: &mut [u8], limit: u32) -> Answer {
+    run(card, &Operation::Recover, limit)
+}

@@ -1,0 +1,55 @@
+//! Rename: a new slot with the new name; the old one is marked deleted.
+
+use crate::answer::Ground;
+use crate::check;
+use crate::fat_draft::FatDraft;
+use crate::journal::{record, Record};
+use crate::lookup::File;
+use crate::name::{self, Name};
+use crate::root;
+use crate::root_change::RootChange;
+use crate::store::Store;
+use crate::transaction::Transaction;
+
+pub fn plan(card: &[u8], old: &[u8], new: &[u8]) -> Result<Vec<Store>, Ground> {
+    let card = check::clean(card)?;
+    let volume = &card.volume;
+    let old_name = name::parse(old)?;
+    let new_name = name::parse(new)?;
+    let file = File::find(volume, &old_name)?;
+    if root::find(volume.root(), &new_name).is_some() {
+        return Err(Ground::Exists);
+    }
+    let new_slot = root::lowest_available(volume.root()).ok_or(Ground::Rootfull)?;
+    let transaction = Transaction {
+        data: Vec::new(),
+        fat: FatDraft::new(volume.fat1()),
+        records: rename_records(&file, new_name, new_slot),
+        root: RootChange::Rename {
+            old_slot: file.slot,
+            new_slot,
+            new_name,
+        },
+    };
+    Ok(transaction.stores(&card))
+}
+
+/// Record 1 is record 0 with the new name, operation 0 and the new slot.
+fn rename_records(file: &File, new_name: Name, new_slot: usize) -> Vec<Record> {
+    let old = Record {
+        name: file.name,
+        attributes: file.attributes,
+        operation: record::RENAME,
+        slot: file.slot,
+        first_or_last: file.first_cluster,
+        dir_cluster: 0,
+        size: file.size,
+    };
+    let new = Record {
+        name: new_name,
+        operation: record::PART,
+        slot: new_slot,
+        ..old.clone()
+    };
+    vec![old, new]
+}

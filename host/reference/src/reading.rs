@@ -1,0 +1,61 @@
+//! The calls that store nothing: read and list.
+
+use crate::answer::{Answer, Ground};
+use crate::check;
+use crate::lookup::File;
+use crate::name;
+use crate::root::{slots, SLOT_BYTES};
+use crate::volume::Volume;
+
+/// Fills the buffer from the offset up to the end of the file and answers the
+/// count of bytes.
+pub fn read(card: &[u8], name: &[u8], offset: u32, buffer: &mut [u8]) -> Answer {
+    match find(card, name) {
+        Ok((volume, file, chain)) => {
+            let left = file.size.saturating_sub(offset) as usize;
+            let count = left.min(buffer.len());
+            copy_along(&volume, &chain, offset as usize, &mut buffer[..count]);
+            Answer::Done(count as u32)
+        }
+        Err(ground) => Answer::Refused(ground),
+    }
+}
+
+fn find<'a>(card: &'a [u8], name: &[u8]) -> Result<(Volume<'a>, File, Vec<u16>), Ground> {
+    let volume = check::clean(card)?.volume;
+    let file = File::find(&volume, &name::parse(name)?)?;
+    let chain = file.chain(&volume)?;
+    Ok((volume, file, chain))
+}
+
+/// Fills the buffer with the chain's bytes from the offset on.
+pub fn copy_along(volume: &Volume, chain: &[u16], offset: usize, buffer: &mut [u8]) {
+    let cluster_bytes = volume.geometry.cluster_bytes() as usize;
+    let mut at = offset;
+    let mut rest = buffer;
+    while !rest.is_empty() {
+        let source = &volume.cluster(chain[at / cluster_bytes])[at % cluster_bytes..];
+        let (piece, after) = rest.split_at_mut(source.len().min(rest.len()));
+        piece.copy_from_slice(&source[..piece.len()]);
+        at += piece.len();
+        rest = after;
+    }
+}
+
+/// Copies the live slots that are neither labels nor long names, as many as fit
+/// whole, and answers how many there are.
+pub fn list(card: &[u8], buffer: &mut [u8]) -> Answer {
+    let root = match check::clean(card) {
+        Ok(card) => card.volume.root(),
+        Err(ground) => return Answer::Refused(ground),
+    };
+    let mut places = buffer.chunks_exact_mut(SLOT_BYTES);
+    let mut count = 0;
+    for slot in slots(root).filter(|slot| slot.is_entry()) {
+        if let Some(place) = places.next() {
+            place.copy_from_slice(slot.0);
+        }
+        count += 1;
+    }
+    Answer::Done(count)
+}

@@ -1,0 +1,124 @@
+//! What an operation does to the root directory.
+
+use crate::bytes::{put16, put32};
+use crate::name::Name;
+use crate::root::{slot, DELETED, SLOTS_PER_SECTOR, SLOT_BYTES};
+use crate::store::Store;
+use crate::volume::Volume;
+
+/// The attributes of a created file.
+pub const ARCHIVE: u8 = 0x20;
+/// 1 January 1980.
+const FIRST_DATE: u16 = 0x0021;
+
+type SlotBytes = [u8; SLOT_BYTES];
+
+/// The effect of each operation on the root directory.
+#[derive(Clone, Copy, Debug, PartialEq, Eq)]
+pub enum RootChange {
+    Create {
+        slot: usize,
+        name: Name,
+    },
+    /// Append. The first cluster is given only where the file was empty.
+    Update {
+        slot: usize,
+        size: u32,
+        first_cluster: Option<u16>,
+    },
+    Truncate {
+        slot: usize,
+        size: u32,
+    },
+    Delete {
+        slot: usize,
+    },
+    Rename {
+        old_slot: usize,
+        new_slot: usize,
+        new_name: Name,
+    },
+}
+
+impl RootChange {
+    /// The root sectors concerned, rising, one store each.
+    pub fn stores(&self, volume: &Volume) -> Vec<Store> {
+        let mut changes = self.new_slots(volume.root());
+        changes.sort_by_key(|&(slot, _)| slot);
+        let mut stores: Vec<Store> = Vec::new();
+        for (slot, bytes) in changes {
+            let sector = volume.geometry.root_start() + (slot / SLOTS_PER_SECTOR) as u32;
+            if stores.last().map(|store| store.sector) != Some(sector as usize) {
+                stores.push(volume.draft(sector));
+            }
+            if let Some(store) = stores.last_mut() {
+                let at = slot % SLOTS_PER_SECTOR * SLOT_BYTES;
+                store.bytes[at..at + SLOT_BYTES].copy_from_slice(&bytes);
+            }
+        }
+        stores
+    }
+
+    /// The slots concerned, with their new bytes.
+    fn new_slots(&self, root: &[u8]) -> Vec<(usize, SlotBytes)> {
+        match *self {
+            RootChange::Create { slot, name } => vec![(slot, created(&name))],
+            RootChange::Update {
+                slot,
+                size,
+                first_cluster,
+            } => vec![(slot, resized(root, slot, size, first_cluster))],
+            RootChange::Truncate { slot, size } => {
+                let first_cluster = (size == 0).then_some(0);
+                vec![(slot, resized(root, slot, size, first_cluster))]
+            }
+            RootChange::Delete { slot } => vec![(slot, deleted(root, slot))],
+            RootChange::Rename {
+                old_slot,
+                new_slot,
+                new_name,
+            } => vec![
+                (old_slot, deleted(root, old_slot)),
+                (new_slot, renamed(root, old_slot, &new_name)),
+            ],
+        }
+    }
+}
+
+fn present(root: &[u8], index: usize) -> SlotBytes {
+    let mut bytes = [0; SLOT_BYTES];
+    bytes.copy_from_slice(slot(root, index).0);
+    bytes
+}
+
+fn created(name: &Name) -> SlotBytes {
+    let mut bytes = [0; SLOT_BYTES];
+    bytes[..11].copy_from_slice(name);
+    bytes[11] = ARCHIVE;
+    let dates = [16, 18, 24]; // creation, access, write
+    for at in dates {
+        put16(&mut bytes, at, FIRST_DATE);
+    }
+    bytes
+}
+
+fn resized(root: &[u8], index: usize, size: u32, first_cluster: Option<u16>) -> SlotBytes {
+    let mut bytes = present(root, index);
+    if let Some(cluster) = first_cluster {
+        put16(&mut bytes, 26, cluster);
+    }
+    put32(&mut bytes, 28, size);
+    bytes
+}
+
+fn deleted(root: &[u8], index: usize) -> SlotBytes {
+    let mut bytes = present(root, index);
+    bytes[0] = DELETED;
+    bytes
+}
+
+fn renamed(root: &[u8], old: usize, new_name: &Name) -> SlotBytes {
+    let mut bytes = present(root, old);
+    bytes[..11].copy_from_slice(new_name);
+    bytes
+}

@@ -1,0 +1,248 @@
+//! The checking order. Each ladder starts from a card and a call with every
+//! ground of that call at once and mends them one by one; at each step the call
+//! must refuse on the first ground still standing and alter nothing.
+
+use crate::support::cards::Card;
+use crate::support::{pattern, Name, OTHER, PANEL, ROUTE};
+use reference::*;
+
+const FOLDER: &Name = b"FOLDER     ";
+const BROKEN: &Name = b"BROKEN     ";
+const BAD_NAME: &[u8] = b"lower case ";
+
+/// A card with its window length and all faults of grounds 1 to 7.
+struct Ladder {
+    card: Card,
+    length: usize,
+}
+
+impl Ladder {
+    fn new() -> Self {
+        let mut card = Card::k();
+        card.put_slot(0, ROUTE, 0x20, 20, 700);
+        card.put_chain(&[20, 21], 0xFFFF);
+        card.put_slot(1, FOLDER, 0x10, 30, 0);
+        card.put_slot(2, BROKEN, 0x20, 0, 700);
+        card.put_slot(3, OTHER, 0x20, 0, 0);
+        card.fill();
+        card.bytes[511] = 0; // BOOT
+        card.set_fat1(100, 0xFFF6); // LOGAREA, UNCLEAN
+        card.slot_mut(200)[0] = b'X'; // ROOT
+        card.log_sector_mut(0)[0] = b'X'; // RECORD: operation 0
+        Ladder { card, length: 511 }
+    }
+
+    /// Mends the ground and leaves the later ones standing.
+    fn mend(&mut self, ground: Ground) {
+        match ground {
+            Ground::Short => self.length = 512,
+            Ground::Boot => self.card.bytes[511] = 0xAA,
+            Ground::Window => self.length = self.card.bytes.len(),
+            Ground::Logarea => self.card.set_fat1(100, 0xFFF9),
+            Ground::Root => self.card.slot_mut(200)[0] = 0,
+            Ground::Record => self.card.log_sector_mut(0)[13] = 3,
+            Ground::Unclean => {
+                self.card.log_sector_mut(0)[0] = 0xE5;
+                self.card.set_fat1(100, 0xFFF7);
+            }
+            other => panic!("{other} is the call's"),
+        }
+    }
+
+    /// The call refuses on the ground and alters no byte of the card.
+    fn expect(&mut self, operation: &Operation, ground: Ground) {
+        let before = self.card.bytes.clone();
+        let window = &mut self.card.bytes[..self.length];
+        assert_eq!(plan(window, operation), Err(ground), "{operation:?}");
+        for limit in [0, 1, u32::MAX] {
+            let answer = run(window, operation, limit);
+            assert_eq!(answer, Answer::Refused(ground), "{operation:?}");
+        }
+        assert!(self.card.bytes == before);
+    }
+
+    /// Climbs grounds 1 to `last`.
+    fn climb(&mut self, operation: &Operation, last: Ground) {
+        for ground in Ground::ALL {
+            if ground <= last {
+                self.expect(operation, ground);
+                self.mend(ground);
+            }
+        }
+    }
+
+    fn expect_all(&mut self, steps: &[(Operation, Ground)]) {
+        for (operation, ground) in steps {
+            self.expect(operation, *ground);
+        }
+    }
+}
+
+#[test]
+fn create_ladder() {
+    let call = |name| Operation::Create { name };
+    let mut ladder = Ladder::new();
+    ladder.climb(&call(BAD_NAME), Ground::Unclean);
+    ladder.card.fill_root(4);
+    ladder.expect_all(&[
+        (call(BAD_NAME), Ground::Name),
+        (call(ROUTE), Ground::Exists),
+        (call(PANEL), Ground::Rootfull),
+    ]);
+    ladder.card.slot_mut(9)[0] = 0xE5;
+    assert!(plan(&ladder.card.bytes, &call(PANEL)).is_ok());
+}
+
+#[test]
+fn append_ladder() {
+    let data = pattern(5_000, 0);
+    let call = |name| Operation::Append { name, data: &data };
+    let mut ladder = Ladder::new();
+    ladder.climb(&call(BAD_NAME), Ground::Unclean);
+    ladder.expect_all(&[
+        (call(BAD_NAME), Ground::Name),
+        (call(PANEL), Ground::Absent),
+        (call(FOLDER), Ground::Directory),
+        (call(BROKEN), Ground::Chain),
+        (call(ROUTE), Ground::Nospace),
+    ]);
+    for cluster in 100..109 {
+        ladder.card.set_fats(cluster, 0);
+    }
+    ladder.expect(&call(ROUTE), Ground::Nospace);
+    ladder.card.set_fats(109, 0);
+    assert!(plan(&ladder.card.bytes, &call(ROUTE)).is_ok());
+}
+
+#[test]
+fn truncate_ladder() {
+    let call = |name| Operation::Truncate { name, size: 701 };
+    let mut ladder = Ladder::new();
+    ladder.climb(&call(BAD_NAME), Ground::Unclean);
+    ladder.expect_all(&[
+        (call(BAD_NAME), Ground::Name),
+        (call(PANEL), Ground::Absent),
+        (call(FOLDER), Ground::Directory),
+        (call(BROKEN), Ground::Chain),
+        (call(ROUTE), Ground::Length),
+    ]);
+    let fits = Operation::Truncate {
+        name: ROUTE,
+        size: 699,
+    };
+    assert!(plan(&ladder.card.bytes, &fits).is_ok());
+}
+
+#[test]
+fn delete_ladder() {
+    let call = |name| Operation::Delete { name };
+    let mut ladder = Ladder::new();
+    ladder.climb(&call(BAD_NAME), Ground::Unclean);
+    ladder.expect_all(&[
+        (call(BAD_NAME), Ground::Name),
+        (call(PANEL), Ground::Absent),
+        (call(FOLDER), Ground::Directory),
+        (call(BROKEN), Ground::Chain),
+    ]);
+    assert!(plan(&ladder.card.bytes, &call(ROUTE)).is_ok());
+}
+
+#[test]
+fn rename_ladder() {
+    let call = |old, new| Operation::Rename { old, new };
+    let mut ladder = Ladder::new();
+    ladder.climb(&call(BAD_NAME, BAD_NAME), Ground::Unclean);
+    ladder.card.fill_root(4);
+    ladder.expect_all(&[
+        (call(BAD_NAME, ROUTE), Ground::Name),
+        (call(PANEL, BAD_NAME), Ground::Name),
+        (call(PANEL, ROUTE), Ground::Absent),
+        (call(FOLDER, ROUTE), Ground::Directory),
+        (call(ROUTE, ROUTE), Ground::Exists),
+        (call(ROUTE, FOLDER), Ground::Exists),
+        (call(ROUTE, PANEL), Ground::Rootfull),
+    ]);
+    ladder.card.slot_mut(9)[0] = 0xE5;
+    assert!(plan(&ladder.card.bytes, &call(BROKEN, PANEL)).is_ok());
+}
+
+#[test]
+fn recovery_ladder() {
+    let mut ladder = Ladder::new();
+    ladder.climb(&Operation::Recover, Ground::Record);
+    let stores = plan(&ladder.card.bytes, &Operation::Recover).unwrap();
+    assert!(!stores.is_empty(), "the group is still pending");
+}
+
+#[test]
+fn read_ladder() {
+    let mut ladder = Ladder::new();
+    let expect = |ladder: &Ladder, name: &[u8], ground| {
+        let mut buffer = [0x5A; 64];
+        let window = &ladder.card.bytes[..ladder.length];
+        for offset in [0, 1, u32::MAX] {
+            let answer = read(window, name, offset, &mut buffer);
+            assert_eq!(answer, Answer::Refused(ground));
+        }
+        let answer = read(window, name, 0, &mut []);
+        assert_eq!(answer, Answer::Refused(ground));
+        assert_eq!(buffer, [0x5A; 64]);
+    };
+    for &ground in &Ground::ALL[..7] {
+        expect(&ladder, BAD_NAME, ground);
+        ladder.mend(ground);
+    }
+    expect(&ladder, BAD_NAME, Ground::Name);
+    expect(&ladder, PANEL, Ground::Absent);
+    expect(&ladder, FOLDER, Ground::Directory);
+    expect(&ladder, BROKEN, Ground::Chain);
+    let answer = read(&ladder.card.bytes, ROUTE, 0, &mut [0; 64]);
+    assert_eq!(answer, Answer::Done(64));
+}
+
+#[test]
+fn list_ladder() {
+    let mut ladder = Ladder::new();
+    for &ground in &Ground::ALL[..7] {
+        let mut buffer = [0x5A; 64];
+        let answer = list(&ladder.card.bytes[..ladder.length], &mut buffer);
+        assert_eq!(answer, Answer::Refused(ground));
+        assert_eq!(buffer, [0x5A; 64]);
+        ladder.mend(ground);
+    }
+    let answer = list(&ladder.card.bytes, &mut []);
+    assert_eq!(answer, Answer::Done(4));
+}
+
+#[test]
+fn root_slot_after_the_end() {
+    for byte in [0xE5, b'A', 0x01, 0xFF] {
+        let mut card = Card::k();
+        card.put_slot(0, ROUTE, 0x20, 0, 0);
+        card.slot_mut(511)[0] = byte;
+        let answer = list(&card.bytes, &mut []);
+        assert_eq!(answer, Answer::Refused(Ground::Root));
+    }
+    let mut card = Card::k();
+    card.slot_mut(0)[0] = 0xE5;
+    card.slot_mut(1)[5] = 7;
+    card.slot_mut(1)[11] = 0x20;
+    assert_eq!(list(&card.bytes, &mut []), Answer::Done(0));
+}
+
+#[test]
+fn any_difference_between_the_fats_is_unclean() {
+    let mut card = Card::k();
+    // The first byte, one of entry 1, a middle one, and the last, which
+    // belongs to no cluster.
+    for at in [0, 3, 5_000, 16 * 512 - 1] {
+        for fat in [1, 17] {
+            let place = fat * 512 + at;
+            card.bytes[place] ^= 1;
+            let answer = list(&card.bytes, &mut []);
+            assert_eq!(answer, Answer::Refused(Ground::Unclean), "{at}");
+            card.bytes[place] ^= 1;
+        }
+    }
+    assert_eq!(list(&card.bytes, &mut []), Answer::Done(0));
+}

@@ -1,0 +1,194 @@
+//! Random histories next to a model that knows only names and bytes.
+
+use crate::support::cards::{random_card, Card};
+use crate::support::history::{random_step, Step};
+use crate::support::random::Random;
+use crate::support::ALL;
+use reference::*;
+use std::collections::BTreeMap;
+
+/// The files by name, and how much room there is.
+struct Model {
+    files: BTreeMap<Vec<u8>, Vec<u8>>,
+    root_entries: usize,
+    cluster_bytes: usize,
+    room: usize,
+}
+
+impl Model {
+    fn new(card: &Card) -> Self {
+        Model {
+            files: BTreeMap::new(),
+            root_entries: usize::from(card.spec.root_entries),
+            cluster_bytes: usize::from(card.spec.sectors_per_cluster) * 512,
+            room: free_clusters(&card.bytes).len(),
+        }
+    }
+
+    fn clusters(&self, bytes: usize) -> usize {
+        bytes.div_ceil(self.cluster_bytes)
+    }
+
+    fn free(&self) -> usize {
+        let taken: usize = self.files.values().map(|f| self.clusters(f.len())).sum();
+        self.room - taken
+    }
+
+    fn find(&mut self, name: &[u8]) -> Result<&mut Vec<u8>, Ground> {
+        if name.len() != 11 {
+            return Err(Ground::Name);
+        }
+        self.files.get_mut(name).ok_or(Ground::Absent)
+    }
+
+    fn check_new(&self, name: &[u8]) -> Result<(), Ground> {
+        if name.len() != 11 {
+            Err(Ground::Name)
+        } else if self.files.contains_key(name) {
+            Err(Ground::Exists)
+        } else if self.files.len() == self.root_entries {
+            Err(Ground::Rootfull)
+        } else {
+            Ok(())
+        }
+    }
+
+    fn step(&mut self, step: &Step) -> Result<(), Ground> {
+        match step {
+            Step::Create(name) => {
+                self.check_new(name)?;
+                self.files.insert(name.clone(), Vec::new());
+            }
+            Step::Append(name, data) => {
+                let size = self.find(name)?.len();
+                let more = self.clusters(size + data.len()) - self.clusters(size);
+                if more > self.free() {
+                    return Err(Ground::Nospace);
+                }
+                self.find(name)?.extend(data);
+            }
+            Step::Truncate(name, size) => {
+                let file = self.find(name)?;
+                if *size as usize > file.len() {
+                    return Err(Ground::Length);
+                }
+                file.truncate(*size as usize);
+            }
+            Step::Delete(name) => {
+                self.find(name)?;
+                self.files.remove(name);
+            }
+            Step::Rename(old, new) => {
+                if new.len() != 11 {
+                    return Err(Ground::Name);
+                }
+                self.find(old)?;
+                self.check_new(new)?;
+                let file = self.files.remove(old).unwrap();
+                self.files.insert(new.clone(), file);
+            }
+        }
+        Ok(())
+    }
+
+    /// The card holds exactly the model's files.
+    fn assert_on(&self, card: &[u8]) {
+        assert!(is_sound(card));
+        assert_eq!(free_clusters(card).len(), self.free());
+        assert_eq!(list(card, &mut []), Answer::Done(self.files.len() as u32));
+        for (name, bytes) in &self.files {
+            let mut buffer = vec![0x5A; bytes.len() + 40];
+            let answer = read(card, name, 0, &mut buffer);
+            assert_eq!(answer, Answer::Done(bytes.len() as u32));
+            assert_eq!(buffer[..bytes.len()], bytes[..]);
+            assert_eq!(buffer[bytes.len()..], [0x5A; 40]);
+        }
+    }
+}
+
+#[test]
+fn histories_agree_with_a_model() {
+    let mut refusals = BTreeMap::new();
+    for seed in 0..40 {
+        let mut random = Random::new(seed);
+        let mut card = random_card(&mut random);
+        let mut model = Model::new(&card);
+        for _ in 0..120 {
+            let step = random_step(&mut random, model.cluster_bytes);
+            let answer = run(&mut card.bytes, &step.operation(), ALL);
+            match model.step(&step) {
+                Ok(()) => assert!(matches!(answer, Answer::Done(_)), "{seed} {step:?}"),
+                Err(ground) => {
+                    assert_eq!(answer, Answer::Refused(ground), "{seed} {step:?}");
+                    *refusals.entry(ground).or_insert(0) += 1;
+                }
+            }
+            model.assert_on(&card.bytes);
+        }
+    }
+    // The histories are worth something: all these refusals came up.
+    for ground in [
+        Ground::Name,
+        Ground::Absent,
+        Ground::Exists,
+        Ground::Length,
+        Ground::Nospace,
+    ] {
+        assert!(refusals.get(&ground) > Some(&10), "{ground}");
+    }
+}
+
+#[test]
+fn filling_and_emptying_the_root() {
+    let mut card = Card::new(CardSpec {
+        root_entries: 32,
+        total_sectors: 4_120,
+        ..CardSpec::K
+    });
+    for round in 0..3 {
+        for file in 0..32 {
+            let name = format!("R{round}F{file:02}   CUT");
+            let answer = create(&mut card.bytes, name.as_bytes(), ALL);
+            assert!(matches!(answer, Answer::Done(_)), "{name} {answer:?}");
+        }
+        let refused = create(&mut card.bytes, b"ONEMORE    ", ALL);
+        assert_eq!(refused, Answer::Refused(Ground::Rootfull));
+        assert_eq!(list(&card.bytes, &mut []), Answer::Done(32));
+        for file in (0..32).rev() {
+            let name = format!("R{round}F{file:02}   CUT");
+            let answer = delete(&mut card.bytes, name.as_bytes(), ALL);
+            assert!(matches!(answer, Answer::Done(_)), "{name} {answer:?}");
+        }
+    }
+}
+
+#[test]
+fn taken_and_released_clusters() {
+    for seed in 100..120 {
+        let mut random = Random::new(seed);
+        let mut card = random_card(&mut random);
+        let cluster_bytes = usize::from(card.spec.sectors_per_cluster) * 512;
+        let mut used = Vec::new();
+        for _ in 0..100 {
+            let before = free_clusters(&card.bytes);
+            let step = random_step(&mut random, cluster_bytes);
+            run(&mut card.bytes, &step.operation(), ALL);
+            let now = chains(&card);
+            let released = used.iter().filter(|c| !now.contains(c));
+            let mut expected: Vec<u16> = before.iter().chain(released).copied().collect();
+            expected.retain(|cluster| !now.contains(cluster));
+            expected.sort_unstable();
+            assert_eq!(free_clusters(&card.bytes), expected);
+            used = now;
+        }
+    }
+}
+
+/// All clusters of all files.
+fn chains(card: &Card) -> Vec<u16> {
+    let slots = 0..usize::from(card.spec.root_entries);
+    slots
+        .filter(|&slot| ![0, 0xE5].contains(&card.slot(slot)[0]))
+        .flat_map(|slot| file_chain(&card.bytes, slot).unwrap())
+        .collect()
+}

@@ -1,0 +1,21 @@
+//! The requirements, checked by running. Cards are built here byte by byte, so
+//! that the expected values do not come from the code under test.
+
+mod answers;
+mod append_and_truncate;
+mod boot;
+mod buffers;
+mod damage;
+mod file_ops;
+mod grounds;
+mod histories;
+mod inspection;
+mod limits;
+mod listing;
+mod log_area;
+mod names;
+mod power_cuts;
+mod records;
+mod recovery;
+mod support;
+mod worked_card;

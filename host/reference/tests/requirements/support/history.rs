@@ -1,0 +1,72 @@
+//! Random operations on few names, so that refusals come up often too.
+
+use super::random::Random;
+use super::{Name, OTHER, PANEL, ROUTE};
+use reference::Operation;
+
+pub const NAMES: [&Name; 6] = [
+    ROUTE,
+    PANEL,
+    OTHER,
+    b"KEEL    CUT",
+    b"STEM       ",
+    b"SHEER_L CUT",
+];
+
+/// An operation that owns what it is given.
+#[derive(Clone, Debug)]
+pub enum Step {
+    Create(Vec<u8>),
+    Append(Vec<u8>, Vec<u8>),
+    Truncate(Vec<u8>, u32),
+    Delete(Vec<u8>),
+    Rename(Vec<u8>, Vec<u8>),
+}
+
+impl Step {
+    pub fn operation(&self) -> Operation<'_> {
+        match self {
+            Step::Create(name) => Operation::Create { name },
+            Step::Append(name, data) => Operation::Append { name, data },
+            Step::Truncate(name, size) => Operation::Truncate { name, size: *size },
+            Step::Delete(name) => Operation::Delete { name },
+            Step::Rename(old, new) => Operation::Rename { old, new },
+        }
+    }
+}
+
+fn random_name(random: &mut Random) -> Vec<u8> {
+    if random.one_in(40) {
+        return b"bad name".to_vec();
+    }
+    random.pick(&NAMES).to_vec()
+}
+
+/// A length that often meets a sector's or cluster's edge.
+fn random_length(random: &mut Random, cluster_bytes: usize) -> usize {
+    match random.below(6) {
+        0 => random.below(4),
+        1 => 512 * random.below(4),
+        2 => cluster_bytes * random.below(5),
+        3 => (cluster_bytes * random.below(4)).saturating_sub(1),
+        4 => random.below(600),
+        _ => random.below(5 * cluster_bytes),
+    }
+}
+
+pub fn random_step(random: &mut Random, cluster_bytes: usize) -> Step {
+    let name = random_name(random);
+    match random.below(16) {
+        0..=3 => Step::Create(name),
+        4..=8 => {
+            let length = random_length(random, cluster_bytes);
+            Step::Append(name, random.bytes(length))
+        }
+        9..=11 => {
+            let size = random_length(random, cluster_bytes);
+            Step::Truncate(name, size as u32)
+        }
+        12 | 13 => Step::Delete(name),
+        _ => Step::Rename(name, random_name(random)),
+    }
+}
