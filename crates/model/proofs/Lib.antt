@@ -24,3 +24,11 @@ pub mod Logs
 pub mod Pendings
 pub mod Grounds
 pub mod Volumes
+pub mod Copies
+pub mod Pieces
+pub mod Turns
+pub mod Entries
+pub mod Lowest
+pub mod Laying
+pub mod Needed
+pub mod Few

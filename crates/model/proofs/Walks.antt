@@ -143,11 +143,12 @@ module _ (l : Layout) (few : l .clusters ≤ 65524) (e : ℕ → ℕ) where
   distinct-chain zero k h = tt
   distinct-chain (suc zero) k h = (tt, tt)
   distinct-chain (suc (suc n)) k h =
-      let rest : ends-after l e (suc n) (e k) ≡ true = both (in-range l k) (ends-after l e (suc n) (e k)) h .1 in
-      (all-map (λ j. (r : ℕ) × (r ≤ suc n) × (ends-after l e r j ≡ true)) (λ j. k ≡ j → ⊥)
-        (λ j q same. let z : suc (suc n) ≡ q .0 = ends-unique (suc (suc n)) (q .0) k h (rw (← same) at (q .2)) in let le : q .0 ≤ suc n = q .1 in omega arith)
-        (chain e (suc n) (e k)) (nearer (suc n) (e k) rest (suc n) (omega arith)),
-      distinct-chain (suc n) (e k) rest)
+      let rest : ends-after l e (suc n) (e k) ≡ true = both (in-range l k) (ends-after l e (suc n) (e k)) h .1 in (
+        all-map (λ j. (r : ℕ) × (r ≤ suc n) × (ends-after l e r j ≡ true)) (λ j. k ≡ j → ⊥)
+            (λ j q same. let z : suc (suc n) ≡ q .0 = ends-unique (suc (suc n)) (q .0) k h (rw (← same) at (q .2)) in let le : q .0 ≤ suc n = q .1 in omega arith)
+            (chain e (suc n) (e k)) (nearer (suc n) (e k) rest (suc n) (omega arith)),
+        distinct-chain (suc n) (e k) rest,
+      )
 
   -- So they are no more than the card has.
   pub ends-few : (n k : ℕ) → ends-after l e n k ≡ true → n ≤ l .clusters

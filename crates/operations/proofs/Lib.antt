@@ -3,4 +3,8 @@ pub mod Flat
 pub mod Rows
 pub mod Appends
 pub mod Clearing
+pub mod Roots
+pub mod Lasts
+pub mod Added
+pub mod DataStores
 pub mod Safety

@@ -9,5 +9,6 @@ pub mod Promises
 pub mod Cuts
 pub mod Demand3
 pub mod AfterCall
+pub mod Saved
 pub mod CardK
 pub mod Worked

@@ -20,6 +20,7 @@ use Rattle.model.specs.declared.Layout.{Layout}
 use Rattle.model.specs.declared.Pending.{Pending}
 use Rattle.model.specs.declared.Volume.{Volume}
 use Rattle.model.specs.declared.Operation.the-variants.{Update}
+use Rattle.model.proofs.Walks.{chain-length}
 use Rattle.operations.specs.Plan.{appended, added, data-stores, append-sector, clusters-of, new-clusters, append-stores, append-along, extend, last-cluster}
 use Rattle.operations.specs.Sound.{Sound, chain-of}
 use Rattle.model.proofs.Tests.{same?}
@@ -27,7 +28,6 @@ use Rattle.model.proofs.All.{All, all-take, all-append, all-map, all-image}
 use Rattle.model.proofs.Indices.{Distinct, distinct-take, distinct-indices, distinct-append, pigeon, indices-all, indices-length, all-getD, all-mem, mem-getD}
 use Rattle.model.proofs.Cards.{clip-clip, clip-at}
 use Rattle.model.proofs.Chains.{chain-distinct, Used, needed-holds, in-cluster, one-place, longer, meet}
-use Rattle.model.proofs.Walks.{chain-length}
 use Rattle.model.proofs.Names.{Live}
 use Rattle.model.proofs.Volumes.{layout-of, first-fat, volume-of}
 use Rattle.operations.proofs.Safety.Start.{Start, shape-of, Clear}
@@ -61,34 +61,34 @@ module _ {size : ℕ} {c : Card} (st : Start size c) (s : ℕ) (live : Live (lay
   sh : Shape l
   sh = shape-of st
 
-  abbrev total : ℕ
+  abbrev pub total : ℕ
   total = file-size b + d .size
 
-  abbrev ks : List ℕ
+  abbrev pub ks : List ℕ
   ks = the-chain st s live whole
 
-  abbrev new : List ℕ
+  abbrev pub new : List ℕ
   new = take (needed l total - needed l (file-size b)) (free-clusters l fat)
 
-  abbrev both-lists : List ℕ
+  abbrev pub both-lists : List ℕ
   both-lists = ks ++ new
 
   -- ---- clusters
 
-  fresh : All (Fresh l fat) new
+  pub fresh : All (Fresh l fat) new
   fresh = all-take (Fresh l fat) (needed l total - needed l (file-size b)) (free-clusters l fat) (free-fresh l fat)
 
-  new-plain : All (Plain l fat) new
+  pub new-plain : All (Plain l fat) new
   new-plain = fresh-plain l fat new fresh
 
-  all-plain : All (Plain l fat) both-lists
+  pub all-plain : All (Plain l fat) both-lists
   all-plain = all-append (Plain l fat) ks new (old-plain st s live whole) new-plain
 
-  all-low : All (λ k. 2 ≤ k) both-lists
+  pub all-low : All (λ k. 2 ≤ k) both-lists
   all-low = all-map (Plain l fat) (λ k. 2 ≤ k) (λ k u. u .low) both-lists all-plain
 
   -- Old and new clusters: distinct, in range, enough.
-  distinct : Distinct both-lists
+  pub distinct : Distinct both-lists
   unfolding free-clusters
   distinct =
       let olds : Distinct ks = chain-distinct l (sh .few) (entry fat) (sh .factor-low) (first-cluster b) (file-size b) whole in
@@ -97,7 +97,7 @@ module _ {size : ℕ} {c : Card} (st : Start size c) (s : ℕ) (live : Live (lay
       λ k u. all-map (Fresh l fat) (λ j. k ≡ j → ⊥) (λ j w e. u .busy (rw e (w .none))) new fresh in
       distinct-append ks new olds news (all-map (Used l (entry fat)) (λ k. All (λ j. k ≡ j → ⊥) new) apart ks (old-used st s live whole))
 
-  enough : needed l total ≤ length both-lists
+  pub enough : needed l total ≤ length both-lists
   unfolding added file-at
   enough =
       let a : length new ≡ needed l total - needed l (file-size b) = length-take-le (needed l total - needed l (file-size b)) (free-clusters l fat) room in
@@ -108,7 +108,7 @@ module _ {size : ℕ} {c : Card} (st : Start size c) (s : ℕ) (live : Live (lay
   few-clusters = pigeon 2 (l .clusters) both-lists distinct (all-map (Plain l fat) (λ k. (2 ≤ k) × (k < 2 + l .clusters)) (λ k u. (u .low, u .high)) both-lists all-plain)
 
   -- So the new size fits its four bytes.
-  total-fits : total < 4294967296
+  pub total-fits : total < 4294967296
   total-fits =
       let e : needed l total ≤ l .clusters = omega (arith, enough, few-clusters) in
       let n : total ≤ l .clusters * (512 * l .factor) = needed-holds l (sh .factor-low) total (l .clusters) e in
@@ -117,19 +117,19 @@ module _ {size : ℕ} {c : Card} (st : Start size c) (s : ℕ) (live : Live (lay
 
   -- ---- data stores
 
-  abbrev start : ℕ
+  abbrev pub start : ℕ
   start = file-size b / 512
 
-  abbrev many : ℕ
+  abbrev pub many : ℕ
   many = (total + 511) / 512 - file-size b / 512
 
-  abbrev place : ℕ → ℕ
+  abbrev pub place : ℕ → ℕ
   place q = file-sector l both-lists q
 
-  abbrev ds : List Store
+  abbrev pub ds : List Store
   ds = data-stores l c both-lists (file-size b) d
 
-  in-lists : (q : ℕ) → start ≤ q → q < start + many → q / l .factor < length both-lists
+  pub in-lists : (q : ℕ) → start ≤ q → q < start + many → q / l .factor < length both-lists
   in-lists q lo hi = omega (arith, enough, in-cluster l (sh .factor-low) q total (omega arith))
 
   -- What holds of each data store holds of all.
@@ -138,7 +138,7 @@ module _ {size : ℕ} {c : Card} (st : Start size c) (s : ℕ) (live : Live (lay
   data-all P h = all-image P (λ q. append-sector c (place q) (file-size b) d q) (range start many)
       (indices-all (λ q. P (append-sector c (place q) (file-size b) d q)) (λ k. true) start many (λ q lo hi e. h q (in-lists q lo hi)))
 
-  outside : All (λ s. Clear c (s .sector)) ds
+  pub outside : All (λ s. Clear c (s .sector)) ds
   unfolding append-sector
   outside = data-all (λ s. Clear c (s .sector)) (λ q within. sector-clear st both-lists all-plain q within)
 
@@ -173,7 +173,7 @@ module _ {size : ℕ} {c : Card} (st : Start size c) (s : ℕ) (live : Live (lay
         let not-new : All (λ j. getD ts n 0 ≡ j → ⊥) new = all-map (Fresh l fat) (λ j. getD ts n 0 ≡ j → ⊥) (λ j w same. u .busy (rw same (w .none))) new fresh in
         all-getD (λ j. getD ts n 0 ≡ j → ⊥) both-lists (all-append (λ j. getD ts n 0 ≡ j → ⊥) ks new not-old not-new) (q / l .factor) within (m .0)
 
-    append-spared : (t i : ℕ) → t < l .entries → is-file (slot-at l c t) ≡ true → i < file-size (slot-at l c t)
+    pub append-spared : (t i : ℕ) → t < l .entries → is-file (slot-at l c t) ≡ true → i < file-size (slot-at l c t)
         → Spared c ds (file-sector l (chain-of l c t) (i / 512)) (i % 512)
     unfolding append-sector
     append-spared t i in-root is less = record {

@@ -19,13 +19,13 @@ use Rattle.model.specs.declared.Ground.{Ground}
 use Rattle.model.specs.declared.Layout.{Layout}
 use Rattle.model.specs.declared.Pending.{Pending}
 use Rattle.model.specs.declared.Volume.{Volume}
+use Rattle.model.proofs.Walks.{chain-length}
 use Rattle.operations.specs.Program.{Program, ending}
 use Rattle.operations.specs.Plan.{create-stores, rename-stores, delete-stores, clusters-of, new-clusters, added, truncate-stores, append-stores}
 use Rattle.operations.specs.Calls.{Call, taken-by, released-by, file-in, slot-of, name-of, whole, file-of, root-full, create, creates, taken, rename, renames, delete, deletes, named-file, unless-none, truncate, truncates, append, appends, recover, recovers, plan}
 use Rattle.operations.specs.Cuts.{program-of}
 use Rattle.model.proofs.Tests.{and-both, and-right}
 use Rattle.model.proofs.Lists.{drop-all}
-use Rattle.model.proofs.Walks.{chain-length}
 use Rattle.model.proofs.Grounds.{then, asked, bound}
 use Rattle.model.proofs.Names.{Live, found-live, found-listed}
 use Rattle.model.proofs.Volumes.{window, volume-of, layout-of, first-fat}

@@ -70,11 +70,11 @@ name-over n j b x near = go (less? j 1)
 
 -- ---- edits
 
-set-in : (e : Edit) (es : List Edit) (d : Directory) (k : ℕ) → k ≡ e .slot → set-slots (e ∷ es) d k ≡ e .bytes
+pub set-in : (e : Edit) (es : List Edit) (d : Directory) (k : ℕ) → k ≡ e .slot → set-slots (e ∷ es) d k ≡ e .bytes
 unfolding set-slots
 set-in e es d k h = rw (eq-eqb k (e .slot) h)
 
-set-out : (e : Edit) (es : List Edit) (d : Directory) (k : ℕ) → (k ≡ e .slot → ⊥) → set-slots (e ∷ es) d k ≡ set-slots es d k
+pub set-out : (e : Edit) (es : List Edit) (d : Directory) (k : ℕ) → (k ≡ e .slot → ⊥) → set-slots (e ∷ es) d k ≡ set-slots es d k
 unfolding set-slots
 set-out e es d k h = rw (ne-eqb k (e .slot) h)
 

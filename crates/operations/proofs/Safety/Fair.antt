@@ -18,6 +18,7 @@ use Rattle.model.specs.declared.Layout.{Layout}
 use Rattle.model.specs.declared.Operation.{Operation}
 use Rattle.model.specs.declared.Pending.{Pending}
 use Rattle.model.specs.declared.Volume.{Volume}
+use Rattle.operations.proofs.Clearing.{clearing-length}
 use Rattle.operations.specs.Program.{Program, stores, ending}
 use Rattle.operations.specs.Finish.{redo}
 use Rattle.operations.specs.Plan.{operate, journal, prepare, new-group, group-store}
@@ -25,7 +26,6 @@ use Rattle.operations.specs.Outcome.{largest}
 use Rattle.operations.specs.Sound.{Sound, chain-of}
 use Rattle.model.proofs.All.{All}
 use Rattle.model.proofs.Fats.{free, write-length, entry-clip}
-use Rattle.operations.proofs.Clearing.{clearing-length}
 use Rattle.model.proofs.Volumes.{window, volume-of, layout-of, first-fat, area-of}
 use Rattle.operations.proofs.Safety.Journal.{Kept}
 use Rattle.operations.proofs.Safety.Start.{Start, shape-of, fat2, fatsize-few, entries-few, log-few}

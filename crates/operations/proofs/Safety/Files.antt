@@ -11,12 +11,12 @@ use Rattle.model.specs.Chain.{needed, file-sector, chain}
 use Rattle.model.specs.Root.{is-file, slot-at, file-size, file-at, first-cluster, root-place}
 use Rattle.model.specs.Promises.{Shape}
 use Rattle.model.specs.declared.Layout.{Layout}
+use Rattle.model.proofs.Walks.{chain-length}
 use Rattle.operations.specs.Plan.{clusters-of}
 use Rattle.operations.specs.Sound.{Sound, chain-of, proper}
 use Rattle.model.proofs.All.{All, all-map}
 use Rattle.model.proofs.Fats.{entry-same}
 use Rattle.model.proofs.Chains.{Used, chain-used, in-cluster, chain-same}
-use Rattle.model.proofs.Walks.{chain-length}
 use Rattle.model.proofs.Volumes.{layout-of, first-fat}
 use Rattle.operations.proofs.Safety.Start.{Start, shape-of, Clear, Table, slots-same}
 use Rattle.operations.proofs.Safety.Clusters.{sector-clear, used-plain}

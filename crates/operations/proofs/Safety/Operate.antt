@@ -20,6 +20,7 @@ use Rattle.model.specs.declared.Layout.{Layout}
 use Rattle.model.specs.declared.Operation.{Operation}
 use Rattle.model.specs.declared.Pending.{Pending}
 use Rattle.model.specs.declared.Volume.{Volume}
+use Rattle.operations.proofs.Clearing.{clearing-all}
 use Rattle.operations.specs.Program.{stores}
 use Rattle.operations.specs.Finish.{root-sector, effect, finish, redo}
 use Rattle.operations.specs.Plan.{prepare, group-store, operate, journal, new-group, clearing, group-sector}
@@ -29,7 +30,6 @@ use Rattle.model.proofs.Cards.{Away, after-append, after-away, put-out, put-in,
 use Rattle.model.proofs.Changes.{Keeps, after-keeps, put-clipped}
 use Rattle.model.proofs.Fats.{write-done, entry-clip}
 use Rattle.model.proofs.Records.{Fits}
-use Rattle.operations.proofs.Clearing.{clearing-all}
 use Rattle.model.proofs.Pendings.{Named, Recorded, quiet-zeros, group-of, Quiet}
 use Rattle.model.proofs.Grounds.{then}
 use Rattle.model.proofs.Volumes.{layout-of, SameMarks, first-fat, window, volume-of, area-of}
@@ -77,10 +77,10 @@ module _ {size : ℕ} {c : Card} (st : Start size c) where
   sh = shape-of st
 
   -- The group's sector, counted from the log's first.
-  abbrev spot : ℕ
+  abbrev pub spot : ℕ
   spot = pick (ltb (unused (log .sectors) (log-of log c)) (log .sectors)) (unused (log .sectors) (log-of log c)) 0
 
-  spot-in : spot < log .sectors
+  pub spot-in : spot < log .sectors
   spot-in = by-pick (λ i. i < log .sectors) (ltb (unused (log .sectors) (log-of log c)) (log .sectors)) (unused (log .sectors) (log-of log c)) 0
       (ltb-true (unused (log .sectors) (log-of log c)) (log .sectors)) (λ _. log-some st)
 

@@ -15,13 +15,13 @@ use Rattle.model.specs.Log.{log-of}
 use Rattle.model.specs.declared.Layout.{Layout}
 use Rattle.model.specs.declared.Operation.{Operation}
 use Rattle.model.specs.declared.Volume.{Volume}
+use Rattle.operations.proofs.Clearing.{clearing-all}
 use Rattle.operations.specs.Finish.{root-sector, effect, root-stores, concerns, finish}
 use Rattle.operations.specs.Plan.{prepare, clearing}
 use Rattle.model.proofs.All.{All, all-append, all-image}
 use Rattle.model.proofs.Indices.{indices-all0, has, indices-has0, indices-length}
 use Rattle.model.proofs.Changes.{Covers, covers-left, covers-right, covers-image}
 use Rattle.model.proofs.Fats.{write-all, write-covers, write-length}
-use Rattle.operations.proofs.Clearing.{clearing-all}
 
 -- ---- before the group
 

@@ -86,7 +86,7 @@ module _ (size : ℕ) (Good : Card → Type 0) (x : Card) (once : ℕ) where
       go false t r = let z : _≡_ {A = ℕ} 0 1 = cc in absurd (omega arith)
 
 -- Bytes of a file along its chain.
-along : (l : Layout) (x : Card) (s : ℕ) (ks : List ℕ) (i : ℕ) → chain-of l x s ≡ ks → file-byte l x (file-at l x s) i ≡ x (file-sector l ks (i / 512)) (i % 512)
+pub along : (l : Layout) (x : Card) (s : ℕ) (ks : List ℕ) (i : ℕ) → chain-of l x s ≡ ks → file-byte l x (file-at l x s) i ≡ x (file-sector l ks (i / 512)) (i % 512)
 unfolding file-byte chain-of
 along l x s ks i e = ap (λ (ks : List ℕ). x (file-sector l ks (i / 512)) (i % 512)) e
 

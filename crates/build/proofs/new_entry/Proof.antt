@@ -1,0 +1,41 @@
+use mathlib.Core.Path.{_≡_, ap, _∙_}
+use Rattle.model.specs.Bytes.{Bytes, patch}
+use Rattle.operations.specs.Finish.{set-name, new-entry}
+use Rattle.build.proofs.Laws.{all-zero}
+use borrow.Author.Needs.{needs}
+use Rattle.build.proofs.new_entry.Statement.{statement}
+use Rattle.build.proofs.new_entry.Tie as tie
+use Rattle.build.proofs.new_entry.Reads as reads
+use Rattle.build.proofs.new_entry.Lts as lts
+use Rattle.build.proofs.set.Reads as set-reads
+use Rattle.build.proofs.set_name.Reads as set-name-reads
+
+set-requires : tie.Need-set-requires
+set-requires c κs = search needs
+
+set-requires-2 : tie.Need-set-requires-2
+set-requires-2 c κs = search needs
+
+set-requires-3 : tie.Need-set-requires-3
+set-requires-3 c κs = search needs
+
+set-requires-4 : tie.Need-set-requires-4
+set-requires-4 c κs = search needs
+
+set-name-requires : tie.Need-set-name-requires
+set-name-requires c κs = search needs
+
+returns : tie.Need-returns
+unfolding new-entry
+returns c =
+    c .set-name .ensures
+    ∙ ap (λ (x : Bytes). set-name (c .before .before .before .before .before .args .name) x)
+    (c .before .set4 .ensures ∙ ap (λ (x : Bytes). patch 1 0x20 11 x)
+    (c .before .before .set3 .ensures ∙ ap (λ (x : Bytes). patch 2 0x21 16 x)
+    (c .before .before .before .set2 .ensures ∙ ap (λ (x : Bytes). patch 2 0x21 18 x)
+    (c .before .before .before .before .set .ensures ∙ ap (λ (x : Bytes). patch 2 0x21 24 x) (all-zero 32)))))
+
+pub new-entry-spec : {M : Type 1} → statement M
+new-entry-spec =
+    tie.close
+    (tie.spec set-requires set-requires-2 set-requires-3 set-requires-4 set-name-requires returns)

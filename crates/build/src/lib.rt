@@ -1,0 +1,68 @@
+// Root entries and log records, built field by field, and laid into a sector.
+use model::Name;
+ghost use mathlib.Core.Path.{_≡_};
+ghost use Prim.Native.Nat.{_+_, _*_, _%_, _≤_, _<_};
+ghost use Rattle.model.specs.Bytes.{bytes-of, overlay, patch};
+ghost use Rattle.operations.specs.Finish.{set-name, new-entry};
+
+fn low(x: u64) -> u8
+    ensures { λ r. ⌜ r ≡ x % 256 ⌝ }
+{
+    (x % 256) as u8
+}
+
+// The n bytes from `at` on hold the number v, whose higher bytes are dropped.
+fn set_wide(b: [u8; 32], at: usize, n: usize, v: u64) -> [u8; 32]
+    requires { ⌜ at + n ≤ 32 ⌝ }
+    ensures { λ r. ⌜ bytes-of r ≡ patch n v at (bytes-of b) ⌝ }
+{
+    let mut out = b;
+    let mut rest = v;
+    let mut k = 0;
+    while k < n {
+        out[at + k] = low(rest);
+        rest = rest / 256;
+        k += 1;
+    }
+    out
+}
+
+pub fn set(b: [u8; 32], at: usize, n: usize, v: u32) -> [u8; 32]
+    requires { ⌜ at + n ≤ 32 ⌝ }
+    ensures { λ r. ⌜ bytes-of r ≡ patch n v at (bytes-of b) ⌝ }
+{
+    set_wide(b, at, n, sector::wider(v))
+}
+
+pub fn set_name(b: [u8; 32], name: Name) -> [u8; 32]
+    ensures { λ r. ⌜ bytes-of r ≡ set-name name (bytes-of b) ⌝ }
+{
+    let e = set(b, 8, 3, name.extension);
+    set_wide(e, 0, 8, name.stem)
+}
+
+// The entry of a new file: attributes 0x20, the three dates 0x0021.
+pub fn new_entry(name: Name) -> [u8; 32]
+    ensures { λ r. ⌜ bytes-of r ≡ new-entry name ⌝ }
+{
+    let a = set([0u8; 32], 24, 2, 0x21);
+    let b = set(a, 18, 2, 0x21);
+    let c = set(b, 16, 2, 0x21);
+    let d = set(c, 11, 1, 0x20);
+    set_name(d, name)
+}
+
+// Entry or record k of a sector becomes b.
+pub fn lay(buf: [u8; 512], k: usize, b: [u8; 32]) -> [u8; 512]
+    requires { ⌜ k < 16 ⌝ }
+    ensures { λ r. ⌜ bytes-of r ≡ overlay 32 (bytes-of b) (32 * k) (bytes-of buf) ⌝ }
+{
+    let mut out = buf;
+    let at = 32 * k;
+    let mut j = 0;
+    while j < 32 {
+        out[at + j] = b[j];
+        j += 1;
+    }
+    out
+}

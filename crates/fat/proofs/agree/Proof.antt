@@ -1,0 +1,63 @@
+use mathlib.Core.Path.{sym, _∙_}
+use mathlib.Core.Bool.{true}
+use Prim.Native.Nat.{_+_, _-_, _≤_}
+use native.Mathlib.Omega.{arith}
+use borrow.Author.Tests.{not-true, not-false}
+use Rattle.model.specs.Sector.{card-of}
+use Rattle.model.specs.Fat.{same, fats-agree}
+use Rattle.model.proofs.Scan.{all-of, all-not}
+use Rattle.model.proofs.Searches.{Sofar, sofar-none, sofar-more, sofar-cut}
+use borrow.Author.Needs.{needs}
+use Rattle.fat.proofs.agree.Statement.{statement}
+use Rattle.fat.proofs.agree.Tie as tie
+
+abbrev Inv-loop : tie.InvT-loop
+Inv-loop w a b n s₀ s = (s ≤ n) × Sofar (λ m. same (card-of w (a + m)) (card-of w (b + m))) true 0 s
+
+abbrev μ-loop : tie.MeasureT-loop
+μ-loop w a b n s₀ s = n - s
+
+loop-holds : tie.Need-loop-holds Inv-loop μ-loop
+loop-holds c = (search needs, sofar-none _ _ _ _ (omega arith))
+
+add-differs : tie.Need-add-differs Inv-loop μ-loop
+add-differs c = search needs
+
+add-differs-2 : tie.Need-add-differs-2 Inv-loop μ-loop
+add-differs-2 c = search needs
+
+differs-requires : tie.Need-differs-requires Inv-loop μ-loop
+differs-requires c κs = search needs
+
+returns : tie.Need-returns Inv-loop μ-loop
+unfolding fats-agree
+returns c = sym (all-not _ _ _ (c .before .before .before .loop .s) (omega arith) (omega arith) (not-true _ (sym (c .before .differs .ensures) ∙ c .if1 .taken)))
+
+add-s : tie.Need-add-s Inv-loop μ-loop
+add-s c = search needs
+
+loop-less : tie.Need-loop-less Inv-loop μ-loop
+loop-less c = search needs
+
+loop-again : tie.Need-loop-again Inv-loop μ-loop
+loop-again c = (search needs, sofar-more _ _ _ _ (c .before .before .before .loop .inv .1) (not-false _ (sym (c .before .differs .ensures) ∙ c .if1 .left)))
+
+returns-2 : tie.Need-returns-2 Inv-loop μ-loop
+unfolding fats-agree
+returns-2 c = sym (all-of _ _ _ (sofar-cut _ _ _ _ _ (c .before .loop .inv .1) (omega arith)))
+
+pub agree-spec : {M : Type 1} → statement M
+agree-spec =
+    tie.close
+    (tie.spec
+    Inv-loop
+    μ-loop
+    loop-holds
+    add-differs
+    add-differs-2
+    differs-requires
+    returns
+    add-s
+    loop-less
+    loop-again
+    returns-2)

@@ -1,0 +1,136 @@
+// The log: the scan for pending records, the group that they make, and the next unused sector.
+use model::Area;
+use model::Layout;
+use model::Pending;
+ghost use mathlib.Core.Path.{_≡_};
+ghost use Prim.Native.Nat.{_+_, _-_, _*_, _/_, _≤_, _<_};
+ghost use lib.ListN.{length};
+ghost use Rattle.model.specs.Sector.{card-of};
+ghost use Rattle.model.specs.Scan.{first-from};
+ghost use Rattle.model.specs.Promises.{Held};
+ghost use Rattle.model.specs.Root.{end-slot, first-bytes};
+ghost use Rattle.model.specs.Log.{log-of, unused};
+ghost use Rattle.model.specs.Pending.{pending-at, first-pending, alone, pending-in, pending};
+ghost use Rattle.journal.specs.Place.{Lent, place-of, judged};
+
+// Where a record stands in a log table: its sector, and its number there.
+pub enum Place {
+    At(u32, u32),
+    Nowhere,
+}
+
+fn sectors_of(log: &[u8]) -> u32
+    requires { ⌜ length (now log) ≤ 65536 ⌝ }
+    ensures { λ r. ⌜ r ≡ length (now (log .entry)) / 512 ⌝ }
+{
+    (log.len() / 512) as u32
+}
+
+// The first pending record of a log table.
+pub fn scan(log: &[u8]) -> Place
+    requires { ⌜ length (now log) ≤ 65536 ⌝ }
+    ensures { λ p. ⌜
+        p ≡ place-of (first-pending (length (now (log .entry)) / 512) (card-of (now (log .entry)))) (length (now (log .entry)) / 512) ⌝ }
+{
+    let sectors = sectors_of(log);
+    let mut s = 0;
+    let mut r = 0;
+    'log: while s < sectors {
+        r = 0;
+        while r < 16 {
+            if record::pends(log, s, r) {
+                break 'log;
+            }
+            r += 1;
+        }
+        s += 1;
+    }
+    if s == sectors {
+        return Place::Nowhere;
+    }
+    Place::At(s, r)
+}
+
+// The first pending record from record `from` of the table on; the number of records where there is none.
+fn next_pending(log: &[u8], from: u32) -> u32
+    requires { ⌜ (length (now log) ≤ 65536) × (from ≤ 16 * (length (now log) / 512)) ⌝ }
+    ensures { λ r. ⌜
+        r ≡ first-from (pending-at (card-of (now (log .entry)))) from (16 * (length (now (log .entry)) / 512) - from) ⌝ }
+{
+    let n = 16 * sectors_of(log);
+    let mut k = from;
+    while k < n {
+        if record::pends(log, k / 16, k % 16) {
+            return k;
+        }
+        k += 1;
+    }
+    n
+}
+
+// Whether the m records from the first pending one, record 0 of sector s, are the only pending ones.
+fn is_alone(log: &[u8], s: u32, m: u32) -> bool
+    requires { ⌜
+        (length (now log) ≤ 65536) × (s < length (now log) / 512) × (m ≤ 16)
+        × (first-pending (length (now log) / 512) (card-of (now log)) ≡ 16 * s) ⌝ }
+    ensures { λ r. ⌜ r ≡ alone (length (now (log .entry)) / 512) (card-of (now (log .entry))) (16 * s) m ⌝ }
+{
+    16 * sectors_of(log) <= next_pending(log, 16 * s + m)
+}
+
+// What the first pending record, record r of sector s, begins.
+fn judge(log: &[u8], entries: u32, z: u32, a: Area, s: u32, r: u32) -> Pending
+    requires { ⌜ Lent a (now log) × (s < a .sectors) × (r < 16) × (first-pending (a .sectors) (card-of (now log)) ≡ 16 * s + r) ⌝ }
+    ensures { λ p. ⌜ p ≡ judged entries z a (card-of (now (log .entry))) (16 * s + r) ⌝ }
+{
+    if r != 0 {
+        return Pending::Broken;
+    }
+    if !group::group_ok(log, s, entries, z) {
+        return Pending::Broken;
+    }
+    if !is_alone(log, s, group::group_size(log, s)) {
+        return Pending::Broken;
+    }
+    Pending::Held(group::group_at(log, s, a.sector))
+}
+
+// What is pending in a log table that lies at `a`; z is the lowest root slot beginning 0.
+pub fn pending_in(log: &[u8], entries: u32, z: u32, a: Area) -> Pending
+    requires { ⌜ Lent a (now log) ⌝ }
+    ensures { λ p. ⌜ p ≡ pending-in entries z a (card-of (now (log .entry))) ⌝ }
+{
+    let place = scan(log);
+    match place {
+        Place::Nowhere => Pending::Nothing,
+        Place::At(s, r) => judge(log, entries, z, a, s, r),
+    }
+}
+
+// What is pending on a card. Only the log's part of the window is lent to the scan.
+pub fn pending_of(w: &[u8], l: Layout, a: Area, z: u32) -> Pending
+    requires { ⌜
+        Held l (now w) × (a .sector + a .sectors ≤ l .total) × (a .sectors ≤ 128)
+        × (z ≡ end-slot (l .entries) (first-bytes l (card-of (now w)))) ⌝ }
+    ensures { λ p. ⌜ p ≡ pending l a (card-of (now (w .entry))) ⌝ }
+{
+    let from = 512 * sector::index(a.sector);
+    let end = from + 512 * sector::index(a.sectors);
+    pending_in(&w[from..end], l.entries, z, a)
+}
+
+// The lowest sector of the log whose first byte is 0, counted from its first; the number of sectors where there is none.
+pub fn unused_of(w: &[u8], a: Area) -> u32
+    requires { ⌜ (512 * (a .sector + a .sectors) ≤ length (now w)) × (a .sector + a .sectors < 4294967296) ⌝ }
+    ensures { λ r. ⌜ (r ≡ unused (a .sectors) (log-of a (card-of (now (w .entry))))) × (r ≤ a .sectors) ⌝ }
+{
+    let n = a.sectors;
+    let mut s = 0;
+    while s < n {
+        if sector::byte(w, a.sector + s, 0) == 0 {
+            return s;
+        }
+        s += 1;
+    }
+    n
+}

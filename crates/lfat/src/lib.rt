@@ -1,0 +1,61 @@
+// The calls that a C program links.
+use model::Ground;
+use model::Outcome;
+ghost use mathlib.Core.Path.{_≡_};
+ghost use Prim.Native.Nat.{_<_};
+ghost use lib.ListN.{length};
+ghost use Rattle.model.specs.Bytes.{view};
+ghost use Rattle.model.specs.Sector.{window-of};
+ghost use Rattle.model.specs.Ground.{ground-number};
+ghost use Rattle.operations.specs.Outcome.{outcome-number};
+ghost use Rattle.operations.specs.Reading.{read, list};
+ghost use Rattle.operations.specs.Promises.{Answered};
+
+fn ground_number(g: Ground) -> u32
+    ensures { λ r. ⌜ (r ≡ ground-number g) × (r < 16) ⌝ }
+{
+    match g {
+        Ground::Short => 1,
+        Ground::Boot => 2,
+        Ground::Window => 3,
+        Ground::Logarea => 4,
+        Ground::Root => 5,
+        Ground::Record => 6,
+        Ground::Unclean => 7,
+        Ground::Name => 8,
+        Ground::Absent => 9,
+        Ground::Directory => 10,
+        Ground::Exists => 11,
+        Ground::Rootfull => 12,
+        Ground::Chain => 13,
+        Ground::Length => 14,
+        Ground::Nospace => 15,
+    }
+}
+
+// An outcome as code * 2^32 + count.
+fn number_of(r: Outcome) -> u64
+    ensures { λ n. ⌜ n ≡ outcome-number r ⌝ }
+{
+    match r {
+        Outcome::Refused(g) => sector::wider(ground_number(g)) * 4294967296,
+        Outcome::Done(n) => sector::wider(n),
+        Outcome::Stopped(n) => 1095216660480 + sector::wider(n),
+    }
+}
+
+// Copies the entries of the root directory into the buffer, 32 bytes each, as many as fit; counts how many there are.
+#[no_mangle]
+pub extern "C" fn lfat_list(card: &[u8], buffer: &mut [u8]) -> u64
+    ensures { λ r. ⌜ Answered (list (window-of (now (card .entry))) (length (now (buffer .entry)))) (now (buffer .entry)) (now (buffer .exit)) r ⌝ }
+{
+    number_of(reading::list(card, buffer))
+}
+
+// Copies a file's bytes from an offset on into the buffer; counts how many.
+#[no_mangle]
+pub extern "C" fn lfat_read(card: &[u8], name: &[u8], offset: u32, buffer: &mut [u8]) -> u64
+    ensures { λ r. ⌜ Answered (read (window-of (now (card .entry))) (view (now (name .entry))) offset (length (now (buffer .entry)))) (now (buffer .entry)) (now (buffer .exit)) r ⌝ }
+{
+    number_of(reading::read(card, name, offset, buffer))
+}

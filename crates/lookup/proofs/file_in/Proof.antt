@@ -1,0 +1,43 @@
+use mathlib.Core.Path.{_≡_, refl, sym, ap, _∙_}
+use Prim.Native.Nat.{ℕ}
+use native.Mathlib.Omega.{arith}
+use lib.ListN.{length}
+use lib.Dec.{ltb, leb}
+use borrow.Author.Tests.{not-true, not-false, lt-ltb, le-ltb, eqb-true}
+use Rattle.model.specs.Bytes.{view}
+use Rattle.model.specs.Sector.{card-of}
+use Rattle.model.specs.Root.{name-ok, find, file-at, entry-at}
+use Rattle.model.specs.Ground.{granted, _when_, _>>=_, _>>_}
+use Rattle.model.specs.declared.File.{File}
+use Rattle.model.proofs.Tests.{every-at}
+use Rattle.operations.specs.Calls.{slot-of, file-in, whole, file-of, taken, root-full}
+use Rattle.lookup.specs.Found.{found-of}
+use borrow.Author.Needs.{needs}
+use Rattle.lookup.proofs.file_in.Statement.{statement}
+use Rattle.lookup.proofs.file_in.Tie as tie
+use Rattle.lookup.proofs.file_in.Reads as reads
+use Rattle.lookup.proofs.file_in.Lts as lts
+use Rattle.root.proofs.file_at.Reads as file-at-reads
+use Rattle.root.proofs.is_directory.Reads as is-directory-reads
+
+returns : tie.Need-returns
+unfolding file-in _when_ _>>_
+returns c = (rw (le-ltb (c .before .before .before .before .args .s) (c .before .before .before .before .args .v .layout .entries) (omega arith)), tt)
+
+is-directory-requires : tie.Need-is-directory-requires
+is-directory-requires c κs = search needs
+
+returns-2 : tie.Need-returns-2
+unfolding file-in _when_ _>>_
+returns-2 c = (rw (lt-ltb (c .before .before .before .before .before .before .args .s) (c .before .before .before .before .before .before .args .v .layout .entries) (omega arith), sym (c .before .is-directory .ensures) ∙ c .if2 .taken), tt)
+
+file-at-requires : tie.Need-file-at-requires
+file-at-requires c κs = search needs
+
+returns-3 : tie.Need-returns-3
+unfolding file-in _when_ _>>_ file-at entry-at
+returns-3 c = let f : File = c .file-at .result in let s : f .entry .slot ≡ c .before .before .before .before .before .before .before .args .s = ap (λ (x : File). x .entry .slot) (c .file-at .ensures) in (rw (lt-ltb (c .before .before .before .before .before .before .before .args .s) (c .before .before .before .before .before .before .before .args .v .layout .entries) (omega arith), sym (c .before .before .is-directory .ensures) ∙ c .before .if2 .left) (ap granted (c .file-at .ensures)), (record { slot = omega (arith, s); is = c .file-at .ensures ∙ ap (file-at (c .before .before .before .before .before .before .before .args .v .layout) (card-of (c .before .before .before .before .before .before .before .args .w .now))) (sym s) }, s))
+
+pub file-in-spec : {M : Type 1} → statement M
+file-in-spec =
+    tie.close (tie.spec returns is-directory-requires returns-2 file-at-requires returns-3)

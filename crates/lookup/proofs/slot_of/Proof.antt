@@ -1,0 +1,35 @@
+use mathlib.Core.Path.{_≡_, refl, sym, ap, _∙_}
+use Prim.Native.Nat.{ℕ}
+use native.Mathlib.Omega.{arith}
+use lib.ListN.{length}
+use lib.Dec.{ltb, leb}
+use borrow.Author.Tests.{not-true, not-false, lt-ltb, le-ltb, eqb-true}
+use Rattle.model.specs.Bytes.{view}
+use Rattle.model.specs.Sector.{card-of}
+use Rattle.model.specs.Root.{name-ok, find, file-at, entry-at}
+use Rattle.model.specs.Ground.{granted, _when_, _>>=_, _>>_}
+use Rattle.model.specs.declared.File.{File}
+use Rattle.model.proofs.Tests.{every-at}
+use Rattle.operations.specs.Calls.{slot-of, file-in, whole, file-of, taken, root-full}
+use Rattle.lookup.specs.Found.{found-of}
+use borrow.Author.Needs.{needs}
+use Rattle.lookup.proofs.slot_of.Statement.{statement}
+use Rattle.lookup.proofs.slot_of.Tie as tie
+use Rattle.lookup.proofs.slot_of.Reads as reads
+use Rattle.lookup.proofs.slot_of.Lts as lts
+use Rattle.names.proofs.name_of.Reads as name-of-reads
+use Rattle.root.proofs.find_slot.Reads as find-slot-reads
+
+name-of-requires : tie.Need-name-of-requires
+unfolding name-ok
+name-of-requires c κs = let e : length (c .before .before .before .args .name .now) ≡ 11 = eqb-true _ _ (every-at _ (c .before .before .before .pre .1) 0) in omega arith
+
+find-slot-requires : tie.Need-find-slot-requires
+find-slot-requires c κs = search needs
+
+returns : tie.Need-returns
+unfolding slot-of
+returns c = (c .find-slot .ensures .0 ∙ ap (find (c .before .before .before .before .before .args .v .layout) (card-of (c .before .before .before .before .before .args .w .now))) (c .before .name-of .ensures), c .find-slot .ensures .1)
+
+pub slot-of-spec : {M : Type 1} → statement M
+slot-of-spec = tie.close (tie.spec name-of-requires find-slot-requires returns)

@@ -1,0 +1,64 @@
+use mathlib.Core.Path.{_≡_, refl, sym, ap, _∙_}
+use Prim.Native.Nat.{ℕ}
+use native.Mathlib.Omega.{arith}
+use borrow.Author.Tests.{not-true, not-false}
+use Rattle.model.specs.Sector.{card-of}
+use Rattle.model.specs.Record.{records}
+use Rattle.operations.specs.Plan.{new-group, group-sector}
+use Rattle.model.specs.Bytes.{pick}
+use Rattle.operate.proofs.Laws.{group-steps-cut, group-steps-ran, log-steps-cut, log-steps-ran}
+use borrow.Author.Needs.{needs}
+use Rattle.operate.proofs.records_of.Statement.{statement}
+use Rattle.operate.proofs.records_of.Tie as tie
+use Rattle.operate.proofs.records_of.Reads as reads
+use Rattle.operate.proofs.records_of.Lts as lts
+
+enum-told : tie.Need-enum-told
+enum-told c = search needs
+
+enum-told-2 : tie.Need-enum-told-2
+enum-told-2 c = search needs
+
+enum-told-3 : tie.Need-enum-told-3
+enum-told-3 c = search needs
+
+enum-told-4 : tie.Need-enum-told-4
+enum-told-4 c = search needs
+
+enum-told-5 : tie.Need-enum-told-5
+enum-told-5 c = search needs
+
+returns : tie.Need-returns
+unfolding records
+returns c = rw (c .enum-told .given .1) (refl, omega arith)
+
+returns-2 : tie.Need-returns-2
+unfolding records
+returns-2 c = rw (c .enum-told2 .given .1) (refl, omega arith)
+
+returns-3 : tie.Need-returns-3
+unfolding records
+returns-3 c = rw (c .enum-told3 .given .1) (refl, omega arith)
+
+returns-4 : tie.Need-returns-4
+unfolding records
+returns-4 c = rw (c .enum-told4 .given .1) (refl, omega arith)
+
+returns-5 : tie.Need-returns-5
+unfolding records
+returns-5 c = rw (c .enum-told5 .given .1) (refl, omega arith)
+
+pub records-of-spec : {M : Type 1} → statement M
+records-of-spec =
+    tie.close
+    (tie.spec
+    enum-told
+    enum-told-2
+    enum-told-3
+    enum-told-4
+    enum-told-5
+    returns
+    returns-2
+    returns-3
+    returns-4
+    returns-5)

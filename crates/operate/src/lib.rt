@@ -1,0 +1,109 @@
+// Steps 3 to 6: the group of an operation, and what it makes to be done.
+use model::Group;
+use model::Layout;
+use model::Operation;
+use model::Outcome;
+use model::Progress;
+use model::Volume;
+ghost use mathlib.Core.Path.{_≡_};
+ghost use Prim.Native.Nat.{_+_, _≤_, _<_};
+ghost use lib.ListN.{length};
+ghost use Rattle.model.specs.Sector.{card-of};
+ghost use Rattle.model.specs.Record.{records};
+ghost use Rattle.model.specs.Promises.{Held, Ran};
+ghost use Rattle.slots.specs.Slots.{Slots};
+ghost use Rattle.operate.specs.Steps.{group-steps, log-steps};
+ghost use Rattle.operate.specs.Did.{ended-as};
+
+// How many records the group of an operation has.
+fn records_of(o: Operation) -> u32
+    ensures { λ r. ⌜ (r ≡ length (records o)) × (r ≤ 2) ⌝ }
+{
+    match o {
+        Operation::Create { entry: _ } => 1,
+        Operation::Update {
+            entry: _,
+            last: _,
+            from: _,
+            size: _,
+        } => 1,
+        Operation::Delete {
+            entry: _,
+            first: _,
+            size: _,
+        } => 1,
+        Operation::Truncate {
+            entry: _,
+            first: _,
+            from: _,
+            size: _,
+        } => 1,
+        Operation::Rename {
+            entry: _,
+            first: _,
+            size: _,
+            to: _,
+            renamed: _,
+        } => 2,
+    }
+}
+
+fn store_and_redo(w: &mut [u8], l: Layout, g: Group, limit: u32) -> Progress
+    requires { ⌜ Held l (now w) ⌝ }
+    requires { ⌜ Slots (l .entries) (g .operation) ⌝ }
+    requires { ⌜ (l .start ≤ g .sector) × (g .sector < l .total) × (g .records ≤ 16) ⌝ }
+    ensures { λ r. ⌜ Ran limit (group-steps l g (card-of (now (w .entry)))) (now (w .entry)) (now (w .exit)) (r .made) (r .whole) ⌝ }
+{
+    let p = stage::store_group(w, g, limit);
+    let m = p.made;
+    if !p.whole {
+        return Progress {
+            made: m,
+            whole: false,
+        };
+    }
+    let q = redo::redo(w, l, g, limit - m);
+    Progress {
+        made: m + q.made,
+        whole: q.whole,
+    }
+}
+
+pub fn log_steps(w: &mut [u8], v: Volume, o: Operation, limit: u32) -> Progress
+    requires { ⌜ Held (v .layout) (now w) ⌝ }
+    requires { ⌜ (v .layout .start ≤ v .log .sector) × (1 ≤ v .log .sectors) × (v .log .sector + v .log .sectors ≤ v .layout .total) ⌝ }
+    requires { ⌜ Slots (v .layout .entries) o ⌝ }
+    ensures { λ r. ⌜ Ran limit (log-steps v o (card-of (now (w .entry)))) (now (w .entry)) (now (w .exit)) (r .made) (r .whole) ⌝ }
+{
+    let l = v.layout;
+    let a = v.log;
+    let s = stage::group_sector(w, a);
+    let p = stage::clear_log(w, a, limit);
+    let m = p.made;
+    if !p.whole {
+        return Progress {
+            made: m,
+            whole: false,
+        };
+    }
+    let g = Group {
+        sector: s,
+        records: records_of(o),
+        operation: o,
+    };
+    let q = store_and_redo(w, l, g, limit - m);
+    Progress {
+        made: m + q.made,
+        whole: q.whole,
+    }
+}
+
+// How a call ends whose stores went so far.
+pub fn ended(p: Progress) -> Outcome
+    ensures { λ r. ⌜ r ≡ ended-as p ⌝ }
+{
+    if p.whole {
+        return Outcome::Done(p.made);
+    }
+    Outcome::Stopped(p.made)
+}

@@ -1,0 +1,41 @@
+use mathlib.Core.Path.{_≡_, refl, sym, ap, _∙_}
+use native.Mathlib.Omega.{arith}
+use borrow.Author.Tests.{not-true, not-false}
+use Rattle.model.specs.Sector.{card-of, window-of}
+use Rattle.model.specs.Fat.{fat1-of}
+use Rattle.model.specs.Pending.{pending}
+use Rattle.model.specs.Ground.{_>>=_}
+use Rattle.model.specs.Volume.{examine, clean}
+use Rattle.volume.specs.Examined.{mounted-of, examined-of, examine-on}
+use borrow.Author.Needs.{needs}
+use Rattle.volume.proofs.clean.Statement.{statement}
+use Rattle.volume.proofs.clean.Tie as tie
+use Rattle.volume.proofs.clean.Reads as reads
+use Rattle.volume.proofs.clean.Lts as lts
+use Rattle.volume.proofs.examine.Reads as examine-reads
+use Rattle.volume.proofs.settle.Reads as settle-reads
+
+examine-requires : tie.Need-examine-requires
+examine-requires c κs = search needs
+
+enum-known-e : tie.Need-enum-known-e
+enum-known-e c = search needs
+
+enum-known-e-2 : tie.Need-enum-known-e-2
+enum-known-e-2 c = search needs
+
+settle-requires : tie.Need-settle-requires
+settle-requires c κs = (rw (c .before .e2 .given .1) at (c .before .before .before .examine .ensures .1))
+
+returns : tie.Need-returns
+unfolding clean _>>=_
+returns c = (let e = sym (c .before .before .before .examine .ensures .0) ∙ ap examined-of (c .before .e .given .1) in rw e, tt)
+
+returns-2 : tie.Need-returns-2
+unfolding clean _>>=_
+returns-2 c = (let e = sym (c .before .before .before .before .examine .ensures .0) ∙ ap examined-of (c .before .before .e2 .given .1) in rw e (c .settle .ensures .0), c .settle .ensures .1)
+
+pub clean-spec : {M : Type 1} → statement M
+clean-spec =
+    tie.close
+    (tie.spec examine-requires enum-known-e enum-known-e-2 settle-requires returns returns-2)

@@ -1,0 +1,52 @@
+use mathlib.Core.Path.{_≡_, refl, sym, ap, _∙_}
+use native.Mathlib.Omega.{arith}
+use borrow.Author.Tests.{not-true, not-false}
+use Rattle.model.specs.Sector.{card-of, window-of}
+use Rattle.model.specs.Fat.{fat1-of}
+use Rattle.model.specs.Pending.{pending}
+use Rattle.model.specs.Ground.{_>>=_}
+use Rattle.model.specs.Volume.{examine, clean}
+use Rattle.volume.specs.Examined.{mounted-of, examined-of, examine-on}
+use Rattle.volume.proofs.Laws.{inspect-root, inspect-record, inspect-volume}
+use borrow.Author.Needs.{needs}
+use Rattle.volume.proofs.inspect.Statement.{statement}
+use Rattle.volume.proofs.inspect.Tie as tie
+use Rattle.volume.proofs.inspect.Reads as reads
+use Rattle.volume.proofs.inspect.Lts as lts
+use Rattle.journal.proofs.pending_of.Reads as pending-of-reads
+use Rattle.root.proofs.end_slot.Reads as end-slot-reads
+use Rattle.root.proofs.root_ok.Reads as root-ok-reads
+use Rattle.volume.proofs.is_broken.Reads as is-broken-reads
+
+end-slot-requires : tie.Need-end-slot-requires
+end-slot-requires c κs = search needs
+
+root-ok-requires : tie.Need-root-ok-requires
+root-ok-requires c κs = search needs
+
+returns : tie.Need-returns
+returns c = (sym (inspect-root (card-of (c .before .before .before .before .args .w .now)) (c .before .before .before .before .args .l) (c .before .before .before .before .args .a) (pending (c .before .before .before .before .args .l) (c .before .before .before .before .args .a) (card-of (c .before .before .before .before .args .w .now))) (sym (c .before .root-ok .ensures) ∙ not-true _ (c .if1 .taken))), tt)
+
+pending-of-requires : tie.Need-pending-of-requires
+pending-of-requires c κs = search needs
+
+is-broken-requires : tie.Need-is-broken-requires
+is-broken-requires c κs = search needs
+
+returns-2 : tie.Need-returns-2
+returns-2 c = (sym (inspect-record (card-of (c .before .before .before .before .before .before .before .args .w .now)) (c .before .before .before .before .before .before .before .args .l) (c .before .before .before .before .before .before .before .args .a) (pending (c .before .before .before .before .before .before .before .args .l) (c .before .before .before .before .before .before .before .args .a) (card-of (c .before .before .before .before .before .before .before .args .w .now))) (sym (c .before .before .before .before .root-ok .ensures) ∙ not-false _ (c .before .before .before .if1 .left)) (rw (← c .before .before .pending-of .ensures) (sym (c .before .is-broken .ensures) ∙ c .if2 .taken))), tt)
+
+returns-3 : tie.Need-returns-3
+returns-3 c = (rw (c .before .before .pending-of .ensures) (sym (inspect-volume (card-of (c .before .before .before .before .before .before .before .args .w .now)) (c .before .before .before .before .before .before .before .args .l) (c .before .before .before .before .before .before .before .args .a) (pending (c .before .before .before .before .before .before .before .args .l) (c .before .before .before .before .before .before .before .args .a) (card-of (c .before .before .before .before .before .before .before .args .w .now))) (sym (c .before .before .before .before .root-ok .ensures) ∙ not-false _ (c .before .before .before .if1 .left)) (rw (← c .before .before .pending-of .ensures) (sym (c .before .is-broken .ensures) ∙ c .if2 .left)))), (c .before .before .before .before .before .before .before .pre .0, c .before .before .before .before .before .before .before .pre .1))
+
+pub inspect-spec : {M : Type 1} → statement M
+inspect-spec =
+    tie.close
+    (tie.spec
+    end-slot-requires
+    root-ok-requires
+    returns
+    pending-of-requires
+    is-broken-requires
+    returns-2
+    returns-3)

@@ -1,0 +1,137 @@
+// Grounds 1 to 7 of a card, asked in order.
+use boot::Booted;
+use fat::Located;
+use model::Area;
+use model::Ground;
+use model::Layout;
+use model::Pending;
+use model::Volume;
+ghost use mathlib.Core.Path.{_≡_};
+ghost use Rattle.model.specs.Sector.{card-of, window-of};
+ghost use Rattle.model.specs.Fat.{fat1-of};
+ghost use Rattle.model.specs.Pending.{pending, is-broken, is-held};
+ghost use Rattle.model.specs.Volume.{mount, locate, inspect, examine, settled, clean};
+ghost use Rattle.model.specs.Promises.{Held};
+ghost use Rattle.fat.specs.Located.{Lies};
+ghost use Rattle.volume.specs.Examined.{mounted-of, examined-of, Mounts, Keeps, examine-on};
+
+// A layout, or the ground on which there is none.
+pub enum Mounted {
+    Unfit(Ground),
+    Fit(Layout),
+}
+
+// A volume, or the ground on which there is none.
+pub enum Examined {
+    Refused(Ground),
+    Granted(Volume),
+}
+
+// Grounds 1 to 3.
+fn mount(w: &[u8]) -> Mounted
+    ensures { λ r. ⌜ (mounted-of r ≡ mount (window-of (now (w .entry)))) × Mounts (now (w .entry)) r ⌝ }
+{
+    if w.len() < 512 {
+        return Mounted::Unfit(Ground::Short);
+    }
+    let b = boot::boot(w);
+    match b {
+        Booted::Bad => Mounted::Unfit(Ground::Boot),
+        Booted::Good(l) => {
+            if w.len() < 512 * sector::index(l.total) {
+                return Mounted::Unfit(Ground::Window);
+            }
+            Mounted::Fit(l)
+        }
+    }
+}
+
+fn is_broken(p: Pending) -> bool
+    ensures { λ r. ⌜ r ≡ is-broken p ⌝ }
+{
+    match p {
+        Pending::Nothing => false,
+        Pending::Broken => true,
+        Pending::Held(_) => false,
+    }
+}
+
+fn is_held(p: Pending) -> bool
+    ensures { λ r. ⌜ r ≡ is-held p ⌝ }
+{
+    match p {
+        Pending::Nothing => false,
+        Pending::Broken => false,
+        Pending::Held(_) => true,
+    }
+}
+
+// Grounds 5 and 6.
+fn inspect(w: &[u8], l: Layout, a: Area) -> Examined
+    requires { ⌜ Held l (now w) × Lies l a ⌝ }
+    ensures { λ r. ⌜ (examined-of r ≡ inspect (card-of (now (w .entry))) l a (pending l a (card-of (now (w .entry))))) × Keeps (now (w .entry)) r ⌝ }
+{
+    let z = root::end_slot(w, l);
+    if !root::root_ok(w, l, z) {
+        return Examined::Refused(Ground::Root);
+    }
+    let p = journal::pending_of(w, l, a, z);
+    if is_broken(p) {
+        return Examined::Refused(Ground::Record);
+    }
+    Examined::Granted(Volume {
+        layout: l,
+        log: a,
+        pending: p,
+    })
+}
+
+// Grounds 4 to 6.
+fn examine_log(w: &[u8], l: Layout) -> Examined
+    requires { ⌜ Held l (now w) ⌝ }
+    ensures { λ r. ⌜ (examined-of r ≡ examine-on (card-of (now (w .entry))) l) × Keeps (now (w .entry)) r ⌝ }
+{
+    let log = fat::locate(w, l);
+    match log {
+        Located::Nowhere => Examined::Refused(Ground::Logarea),
+        Located::At(a) => inspect(w, l, a),
+    }
+}
+
+// Grounds 1 to 6.
+pub fn examine(w: &[u8]) -> Examined
+    ensures { λ r. ⌜ (examined-of r ≡ examine (window-of (now (w .entry)))) × Keeps (now (w .entry)) r ⌝ }
+{
+    let m = mount(w);
+    match m {
+        Mounted::Unfit(g) => Examined::Refused(g),
+        Mounted::Fit(l) => examine_log(w, l),
+    }
+}
+
+// Ground 7.
+fn settle(w: &[u8], v: Volume) -> Examined
+    requires { ⌜ Held (v .layout) (now w) × Lies (v .layout) (v .log) ⌝ }
+    ensures { λ r. ⌜ (examined-of r ≡ settled (card-of (now (w .entry))) v) × Keeps (now (w .entry)) r ⌝ }
+{
+    let p = v.pending;
+    if is_held(p) {
+        return Examined::Refused(Ground::Unclean);
+    }
+    let l = v.layout;
+    if !fat::agree(w, l) {
+        return Examined::Refused(Ground::Unclean);
+    }
+    Examined::Granted(v)
+}
+
+// Grounds 1 to 7.
+pub fn clean(w: &[u8]) -> Examined
+    ensures { λ r. ⌜ (examined-of r ≡ clean (window-of (now (w .entry)))) × Keeps (now (w .entry)) r ⌝ }
+{
+    let e = examine(w);
+    match e {
+        Examined::Refused(g) => Examined::Refused(g),
+        Examined::Granted(v) => settle(w, v),
+    }
+}
