@@ -1,13 +1,13 @@
 -- Laws of copies.
 use Prim.Native.Nat.{ℕ, _+_, _-_, _<_, _≤_}
 use native.Mathlib.Omega.{arith}
-use mathlib.Core.Path.{_≡_, ap}
+use mathlib.Core.Path.{_≡_}
 use mathlib.Core.Bool.{Bool, true, false, not}
 use mathlib.Core.List.{List, [], _∷_}
-use Rattle.model.specs.Bytes.{Bytes, pick}
-use Rattle.model.specs.Sector.{Card, card-of, Store, store}
+use Rattle.model.specs.Bytes.{pick}
+use Rattle.model.specs.Sector.{Card, card-of, store}
 use Rattle.model.specs.Fat.{same}
-use Rattle.model.specs.Promises.{Ran, up-to}
+use Rattle.model.specs.Promises.{Ran}
 use Rattle.model.proofs.Cards.{Away}
 use Rattle.model.proofs.Runs.{ran-away, upto-away}
 use Rattle.mirror.specs.Copy.{copy, copies}

@@ -96,7 +96,11 @@ pub record KeepsOthers (k : Call) (w : Window) (v : Volume) : Type 0 where
       → Holds (left largest k w) n size content
   pub sound : Sound (v .layout) (finished k w)
 
--- A window of bytes stays one, under any limit, if what is appended are bytes. So these promises hold of call after call.
+abbrev pub AllKeep : Type 0
+AllKeep = (k : Call) (w : Window) (v : Volume) → Genuine w → clean w ≡ granted v → Sound (v .layout) (w .card) → KeepsOthers k w v
+
+-- A window of bytes stays one, under any limit, if what is appended is bytes. The card being clean and sound again as well, all this
+-- holds of call after call.
 abbrev pub OfBytes : Call → Type 0
 OfBytes (creates n) = Unit {0}
 OfBytes (appends n d) = (i : ℕ) → i < d .size → d .byte i < 256
@@ -107,6 +111,3 @@ OfBytes recovers = Unit {0}
 
 abbrev pub StaysGenuine : Type 0
 StaysGenuine = (k : Call) (w : Window) (v : Volume) → Genuine w → clean w ≡ granted v → OfBytes k → (limit : ℕ) → Genuine (left limit k w)
-
-abbrev pub AllKeep : Type 0
-AllKeep = (k : Call) (w : Window) (v : Volume) → Genuine w → clean w ≡ granted v → Sound (v .layout) (w .card) → KeepsOthers k w v

@@ -5,10 +5,9 @@ use mathlib.Core.Path.{_≡_, ap, _∙_}
 use mathlib.Core.List.{List}
 use lib.ListN.{getD}
 use Rattle.model.specs.Bytes.{Bytes, overlay}
-use Rattle.model.specs.Sector.{card-of, clip, Store, store}
+use Rattle.model.specs.Sector.{card-of, clip}
 use Rattle.model.specs.Root.{slot-at}
 use Rattle.model.specs.declared.Layout.{Layout}
-use Rattle.model.proofs.Cards.{store-same}
 use Rattle.model.proofs.Pieces.{loaded-at, overlay-agree}
 use Rattle.slots.specs.Slots.{with-slot}
 

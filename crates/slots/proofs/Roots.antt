@@ -1,13 +1,13 @@
 -- The root stores of an operation that edits one slot, or two; and that they are told by the root sectors alone.
-use Prim.Native.Nat.{ℕ, _+_, _*_, _/_, _%_, _<_, _≤_}
+use Prim.Native.Nat.{ℕ, _*_, _/_, _%_, _<_}
 use native.Mathlib.Omega.{arith}
 use mathlib.Core.Path.{_≡_, refl, sym, ap, _∙_}
 use mathlib.Core.Logic.{⊎-elim}
 use mathlib.Core.Bool.{Bool, true, false, _||_}
 use mathlib.Core.List.{List, [], _∷_, map}
-use lib.Dec.{eqb, ltb}
+use lib.Dec.{eqb}
 use borrow.Author.Tests.{eq-eqb, ne-eqb, lt-ltb, le-ltb}
-use Rattle.model.specs.Bytes.{Bytes, overlay, byte-of, patch, zeros}
+use Rattle.model.specs.Bytes.{Bytes, byte-of, patch, zeros}
 use Rattle.model.specs.Scan.{any, indices}
 use Rattle.model.specs.Sector.{Card, Store, store}
 use Rattle.model.specs.Root.{Directory, root-place, slot-at}

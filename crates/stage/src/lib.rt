@@ -6,7 +6,7 @@ use model::Operation;
 use model::Progress;
 ghost use mathlib.Core.Path.{_≡_};
 ghost use mathlib.Core.List.{[], _∷_};
-ghost use Prim.Native.Nat.{_+_, _*_, _≤_, _<_};
+ghost use Prim.Native.Nat.{_+_, _-_, _*_, _≤_, _<_};
 ghost use lib.ListN.{length};
 ghost use Rattle.model.specs.Bytes.{bytes-of};
 ghost use Rattle.model.specs.Sector.{card-of};
@@ -43,6 +43,14 @@ pub fn group_sector(w: &[u8], a: Area) -> u32
     a.sector
 }
 
+// The sector k places before the log's last.
+fn from_end(a: Area, k: u32) -> u32
+    requires { ⌜ (k < a .sectors) × (a .sector + a .sectors < 4294967296) ⌝ }
+    ensures { λ r. ⌜ r ≡ a .sector + (a .sectors - 1 - k) ⌝ }
+{
+    a.sector + (a.sectors - 1 - k)
+}
+
 // All log sectors as zeros, the highest first.
 fn clear_all(w: &mut [u8], a: Area, limit: u32) -> Progress
     requires { ⌜ Within a (now w) ⌝ }
@@ -52,7 +60,7 @@ fn clear_all(w: &mut [u8], a: Area, limit: u32) -> Progress
     let mut made = 0;
     let mut k = 0;
     while k < a.sectors {
-        let p = store::store_sector(w, a.sector + (a.sectors - 1 - k), &buf, limit - made);
+        let p = store::store_sector(w, from_end(a, k), &buf, limit - made);
         made += p.made;
         if !p.whole {
             return Progress { made, whole: false };

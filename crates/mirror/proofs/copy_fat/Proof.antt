@@ -1,13 +1,13 @@
 use mathlib.Core.Path.{_≡_, refl}
 use mathlib.Core.Bool.{true}
-use Prim.Native.Nat.{ℕ, _+_, _-_, _≤_}
+use Prim.Native.Nat.{_-_, _≤_}
 use native.Mathlib.Omega.{arith}
 use lib.ListN.{length}
 use borrow.Author.Tests.{not-true, not-false}
 use Rattle.model.specs.Sector.{card-of}
 use Rattle.model.specs.Promises.{Ran}
 use Rattle.model.proofs.Runs.{turns-none, turns-more, turns-cut}
-use Rattle.mirror.specs.Copy.{copy, copies}
+use Rattle.mirror.specs.Copy.{copies}
 use Rattle.mirror.proofs.Laws.{copy-turn}
 use borrow.Author.Needs.{needs}
 use Rattle.mirror.proofs.copy_fat.Statement.{statement}

@@ -1,7 +1,5 @@
-use mathlib.Core.Path.{_≡_, sym, ap, _∙_}
-use mathlib.Core.List.{List, [], _∷_}
+use mathlib.Core.Path.{sym, _∙_}
 use Rattle.model.specs.Bytes.{bytes-of}
-use Rattle.model.specs.Sector.{Store}
 use Rattle.model.proofs.Pieces.{store-loaded}
 use Rattle.model.proofs.Runs.{ran-none}
 use Rattle.mirror.specs.Copy.{copy}

@@ -1,5 +1,4 @@
-use mathlib.Core.Path.{_≡_, ap, _∙_}
-use Prim.Native.Nat.{ℕ}
+use mathlib.Core.Path.{ap, _∙_}
 use Rattle.model.specs.Bytes.{Bytes, bytes-of}
 use Rattle.model.specs.Sector.{card-of}
 use Rattle.model.specs.Record.{committed, commit}

@@ -1,5 +1,5 @@
-use mathlib.Core.Path.{_≡_, sym, fun-ext, _∙_, ap}
-use Prim.Native.Nat.{ℕ, _*_, _-_, _≤_}
+use mathlib.Core.Path.{_≡_, sym, fun-ext}
+use Prim.Native.Nat.{ℕ, _-_, _≤_}
 use native.Mathlib.Omega.{arith}
 use lib.ListN.{length, getD}
 use Rattle.model.specs.Bytes.{bytes-of}

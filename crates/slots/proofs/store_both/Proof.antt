@@ -1,5 +1,4 @@
-use mathlib.Core.Path.{_≡_}
-use Prim.Native.Nat.{ℕ, _+_, _/_}
+use Prim.Native.Nat.{_+_, _/_}
 use Rattle.model.specs.Bytes.{bytes-of}
 use Rattle.model.specs.Sector.{card-of}
 use Rattle.model.proofs.Cards.{store-same}

@@ -1,5 +1,4 @@
 use borrow.Author.Tests.{eq-eqb, ne-eqb, lt-ltb, le-ltb}
-use mathlib.Core.Path.{_≡_}
 use Rattle.slots.specs.Slots.{pair-stores}
 use borrow.Author.Needs.{needs}
 use Rattle.slots.proofs.store_pair.Statement.{statement}

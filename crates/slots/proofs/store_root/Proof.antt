@@ -1,4 +1,3 @@
-use mathlib.Core.Path.{_≡_}
 use Rattle.model.specs.Bytes.{bytes-of}
 use Rattle.model.specs.Sector.{card-of}
 use Rattle.slots.proofs.Roots.{root-create, root-update, root-delete, root-truncate, root-rename}

@@ -1,6 +1,6 @@
 use mathlib.Core.Path.{_≡_, refl}
 use mathlib.Core.Bool.{true}
-use Prim.Native.Nat.{ℕ, _+_, _-_, _≤_}
+use Prim.Native.Nat.{_-_, _≤_}
 use native.Mathlib.Omega.{arith}
 use lib.ListN.{length}
 use borrow.Author.Tests.{not-true, not-false}
@@ -13,6 +13,7 @@ use Rattle.stage.proofs.clear_all.Tie as tie
 use Rattle.stage.proofs.clear_all.Reads as reads
 use Rattle.stage.proofs.clear_all.Lts as lts
 use Rattle.store.proofs.store_sector.Reads as store-sector-reads
+use Rattle.stage.proofs.from_end.Reads as from-end-reads
 
 abbrev Inv-loop : tie.InvT-loop
 Inv-loop w₀ a limit buf made₀ k₀ w made k = (k ≤ a .sectors) × (length w ≡ length w₀) × Ran limit (up-to (clear-turn a) k) w₀ w made true
@@ -23,17 +24,11 @@ abbrev μ-loop : tie.MeasureT-loop
 loop-holds : tie.Need-loop-holds Inv-loop μ-loop
 loop-holds c = (search needs, refl, turns-none _ _ _)
 
+from-end-requires : tie.Need-from-end-requires Inv-loop μ-loop
+from-end-requires c κs = search needs
+
 sub-store-sector : tie.Need-sub-store-sector Inv-loop μ-loop
 sub-store-sector c = search needs
-
-sub-store-sector-2 : tie.Need-sub-store-sector-2 Inv-loop μ-loop
-sub-store-sector-2 c = search needs
-
-add-store-sector : tie.Need-add-store-sector Inv-loop μ-loop
-add-store-sector c = search needs
-
-sub-store-sector-3 : tie.Need-sub-store-sector-3 Inv-loop μ-loop
-sub-store-sector-3 c = search needs
 
 store-sector-requires : tie.Need-store-sector-requires Inv-loop μ-loop
 store-sector-requires c κs = search needs
@@ -46,11 +41,11 @@ same-length c = search needs
 
 returns : tie.Need-returns Inv-loop μ-loop
 returns c =
-    let a = c .before .before .before .before .before .before .before .before .before .before .before .before .before .before .args in
-    let l = c .before .before .before .before .before .before .before .before .before .before .before .before .loop in
+    let a = c .before .before .before .before .before .before .before .before .before .before .before .before .before .args in
+    let l = c .before .before .before .before .before .before .before .before .before .before .before .loop in
     rw (clear-turns (a .a))
     (turns-cut (clear-turn (a .a)) (a .limit) (l .k) (a .w .now) (l .w) _ (l .made) _ (l .inv .2) (a .a .sectors) (omega arith)
-    (zeros-ran _ _ _ _ _ _ (rw (not-true (c .before .before .before .before .before .store-sector .result .whole) (c .if2 .taken)) at (c .before .before .before .before .before .store-sector .ensures))))
+    (zeros-ran _ _ _ _ _ _ (rw (c .before .before .before .before .before .before .before .from-end .ensures, not-true (c .before .before .before .before .before .store-sector .result .whole) (c .if2 .taken)) at (c .before .before .before .before .before .store-sector .ensures))))
 
 add-k : tie.Need-add-k Inv-loop μ-loop
 add-k c = search needs
@@ -60,12 +55,12 @@ loop-less c = search needs
 
 loop-again : tie.Need-loop-again Inv-loop μ-loop
 loop-again c =
-    let a = c .before .before .before .before .before .before .before .before .before .before .before .before .before .before .args in
-    let l = c .before .before .before .before .before .before .before .before .before .before .before .before .loop in (
+    let a = c .before .before .before .before .before .before .before .before .before .before .before .before .before .args in
+    let l = c .before .before .before .before .before .before .before .before .before .before .before .loop in (
       search needs,
       search needs,
       turns-more (clear-turn (a .a)) (a .limit) (l .k) (a .w .now) (l .w) _ (l .made) _ (l .inv .2)
-          (zeros-ran _ _ _ _ _ _ (rw (not-false (c .before .before .before .before .before .store-sector .result .whole) (c .if2 .left)) at (c .before .before .before .before .before .store-sector .ensures))),
+          (zeros-ran _ _ _ _ _ _ (rw (c .before .before .before .before .before .before .before .from-end .ensures, not-false (c .before .before .before .before .before .store-sector .result .whole) (c .if2 .left)) at (c .before .before .before .before .before .store-sector .ensures))),
     )
 
 same-length-2 : tie.Need-same-length-2 Inv-loop μ-loop
@@ -81,10 +76,8 @@ clear-all-spec =
     Inv-loop
     μ-loop
     loop-holds
+    from-end-requires
     sub-store-sector
-    sub-store-sector-2
-    add-store-sector
-    sub-store-sector-3
     store-sector-requires
     add-made
     same-length

@@ -1,4 +1,4 @@
-use mathlib.Core.Path.{_≡_, ap, _∙_}
+use mathlib.Core.Path.{ap, _∙_}
 use mathlib.Core.List.{[], _∷_}
 use Rattle.model.specs.Bytes.{Bytes, bytes-of, overlay}
 use Rattle.model.specs.Record.{record-of, records, lay, encode}

@@ -1,4 +1,4 @@
-use mathlib.Core.Path.{_≡_, _∙_}
+use mathlib.Core.Path.{_∙_}
 use Rattle.model.specs.Bytes.{bytes-of}
 use Rattle.stage.proofs.Laws.{lay-first}
 use borrow.Author.Needs.{needs}

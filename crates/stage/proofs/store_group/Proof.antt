@@ -1,4 +1,4 @@
-use mathlib.Core.Path.{_≡_, ap}
+use mathlib.Core.Path.{ap}
 use Rattle.model.specs.Bytes.{Bytes}
 use Rattle.model.specs.Sector.{store}
 use Rattle.operations.specs.Plan.{group-store}

@@ -1,0 +1,4 @@
+pub mod News
+pub mod Passes
+pub mod Grown
+pub mod Extends

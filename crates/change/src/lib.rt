@@ -1,0 +1,65 @@
+// One sector of a FAT: loaded with an entry changed, and stored where it differs.
+use model::Progress;
+ghost use mathlib.Core.Path.{_≡_};
+ghost use Prim.Native.Nat.{ℕ, _+_, _*_, _%_, _≤_, _<_};
+ghost use lib.ListN.{length, getD};
+ghost use Rattle.model.specs.Bytes.{bytes-of, patch};
+ghost use Rattle.model.specs.Sector.{card-of};
+ghost use Rattle.model.specs.Fat.{fat-at};
+ghost use Rattle.model.specs.Promises.{Ran};
+ghost use Rattle.change.specs.Change.{lead, renewal};
+
+// Puts v into entry k, in the buffer that holds its sector.
+pub fn put_entry(buf: &mut [u8], k: u32, v: u32)
+    requires { ⌜ (length (now buf) ≡ 512) × (v < 65536) ⌝ }
+    ensures { λ _. ⌜ ((j : ℕ) → getD (now (buf .exit)) j 0 ≡ patch 2 v (2 * (k % 256)) (bytes-of (now (buf .entry))) j) ⌝ }
+{
+    let at = 2 * sector::index(k % 256);
+    buf[at] = (v % 256) as u8;
+    buf[at + 1] = (v / 256) as u8;
+}
+
+// Sector s of a FAT in which cluster k leads to v.
+pub fn load_leading(w: &[u8], fat: u32, s: u32, k: u32, v: u32) -> [u8; 512]
+    requires { ⌜ (512 * (fat + s) + 512 ≤ length (now w)) × (fat + s < 4294967296) × (v < 65536) ⌝ }
+    ensures { λ r. ⌜ ((j : ℕ) → j < 512 → getD r j 0 ≡ lead k v (fat-at (card-of (now (w .entry))) fat) s j) ⌝ }
+{
+    let mut buf = store::load(w, fat + s);
+    if k == 0 {
+        return buf;
+    }
+    if k / 256 != s {
+        return buf;
+    }
+    put_entry(&mut buf, k, v);
+    buf
+}
+
+// Stores a buffer as a sector, where they differ.
+pub fn store_changed(w: &mut [u8], s: u32, buf: &[u8; 512], limit: u32) -> Progress
+    requires { ⌜ 512 * s + 512 ≤ length (now w) ⌝ }
+    ensures { λ r. ⌜ Ran limit (renewal s (bytes-of (now (buf .entry))) (card-of (now (w .entry)) s)) (now (w .entry)) (now (w .exit)) (r .made) (r .whole) ⌝ }
+{
+    if !store::alters(buf, w, s) {
+        return Progress {
+            made: 0,
+            whole: true,
+        };
+    }
+    store::store_sector(w, s, buf, limit)
+}
+
+// Stores one sector as another, where they differ.
+pub fn copy_changed(w: &mut [u8], from: u32, to: u32, limit: u32) -> Progress
+    requires { ⌜ (512 * from + 512 ≤ length (now w)) × (512 * to + 512 ≤ length (now w)) ⌝ }
+    ensures { λ r. ⌜ Ran limit (renewal to (card-of (now (w .entry)) from) (card-of (now (w .entry)) to)) (now (w .entry)) (now (w .exit)) (r .made) (r .whole) ⌝ }
+{
+    if !store::differs(w, from, to) {
+        return Progress {
+            made: 0,
+            whole: true,
+        };
+    }
+    let buf = store::load(w, from);
+    store::store_sector(w, to, &buf, limit)
+}

@@ -1,0 +1,4 @@
+pub mod Clusters
+pub mod Bytes
+pub mod Turns
+pub mod Apart

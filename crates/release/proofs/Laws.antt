@@ -1,0 +1,166 @@
+-- Laws of freed clusters: the marks that a walk along a chain makes, and what they make of a FAT.
+use Prim.Native.Nat.{ℕ, zero, suc, _+_, _-_, _*_, _/_, _%_, _<_, _≤_}
+use native.Mathlib.Omega.{arith}
+use mathlib.Core.Path.{_≡_, refl, sym, ap, _∙_}
+use mathlib.Core.Logic.{⊎-elim}
+use mathlib.Core.Bool.{Bool, true, false, _||_}
+use mathlib.Core.List.{List, [], _∷_}
+use lib.ListN.{length, getD, set}
+use lib.Seq.{getD-set-same, getD-set-other}
+use lib.Dec.{eqb}
+use borrow.Author.Tests.{ne-eqb, eq-eqb}
+use Rattle.model.specs.Bytes.{Bytes, pick}
+use Rattle.model.specs.Scan.{any}
+use Rattle.model.specs.Sector.{Card, card-of}
+use Rattle.model.specs.Fat.{Fat, entry, fat1-of, fat2-of, set-entry, end-value, link, release}
+use Rattle.model.specs.Chain.{chain}
+use Rattle.model.specs.Promises.{Ran, up-to, Shape}
+use Rattle.model.specs.declared.Layout.{Layout}
+use Rattle.model.proofs.Tests.{same?}
+use Rattle.model.proofs.All.{All}
+use Rattle.model.proofs.Chains.{chain-same}
+use Rattle.model.proofs.Entries.{release-byte, release-local}
+use Rattle.change.specs.Change.{lead, renewal, sectors-of, own-fat}
+use Rattle.change.proofs.Laws.{own-sector, own-entry, lead-away, lead-local, renewal-same, renewals, next-kept, fat-kept}
+use Rattle.release.specs.Release.{cut, cleared, among, Inside, Marked}
+
+-- ---- marks
+
+among-none : (l : Layout) (ks : List ℕ) (x : ℕ) → Inside l ks → l .clusters + 2 ≤ x → among ks x ≡ false
+unfolding any
+among-none l [] x h le = refl
+among-none l (k ∷ ks) x h le = rw (ne-eqb x k (λ e. let less : k < l .clusters + 2 = h .0 in omega arith)) (among-none l ks x (h .1) le)
+
+-- No cluster lies so high.
+pub marked-none : (l : Layout) (ks : List ℕ) (from : ℕ) (marks : List ℕ) → Inside l ks → l .clusters + 2 ≤ from → ((i : ℕ) → i < 16384 → getD marks i 0 ≡ 0) → Marked ks from marks
+marked-none l ks from marks h le none i less = rw (among-none l ks (from + i) h (omega arith)) (none i less)
+
+-- One more mark.
+pub mark-set : (marks : List ℕ) (from k at i : ℕ) → at ≡ k - from → from ≤ k → k - from < length marks → getD (set marks at 1) i 0 ≡ pick (eqb (from + i) k) 1 (getD marks i 0)
+mark-set marks from k at i e lo hi =
+    let less : at < length marks = omega arith in
+    ⊎-elim
+    (λ q. let z : i ≡ at = omega arith in rw (eq-eqb (from + i) k q, z) (getD-set-same marks at 1 0 less))
+    (λ ne. rw (ne-eqb (from + i) k ne) (getD-set-other marks at i 1 0 (λ q. ne (omega arith))))
+    (same? (from + i) k)
+
+-- The marks of a walk so far, with the n clusters from k on yet to come, are those of all.
+abbrev pub Marking : (ℕ → ℕ) → ℕ → ℕ → ℕ → List ℕ → ℕ → ℕ → Type 0
+Marking e from first m marks k n = (i : ℕ) → i < 16384 → pick (among (chain e n k) (from + i)) 1 (getD marks i 0) ≡ pick (among (chain e m first) (from + i)) 1 0
+
+module _ (e : ℕ → ℕ) (from first m : ℕ) where
+  pub marking-none : (marks : List ℕ) → ((i : ℕ) → i < 16384 → getD marks i 0 ≡ 0) → Marking e from first m marks first m
+  marking-none marks none i less = rw (none i less)
+
+  pub marking-done : (marks : List ℕ) (k n : ℕ) → n ≡ 0 → Marking e from first m marks k n → Marked (chain e m first) from marks
+  unfolding chain any
+  marking-done marks k n z so i less = rw z at (so i less)
+
+  pub marking-more : (marks : List ℕ) (k n : ℕ) → 0 < n → Marking e from first m marks k n → (out : List ℕ)
+      → ((i : ℕ) → i < 16384 → getD out i 0 ≡ pick (eqb (from + i) k) 1 (getD marks i 0)) → Marking e from first m out (e k) (n - 1)
+  unfolding chain any
+  marking-more marks k zero pos so out put i less = absurd (omega arith)
+  marking-more marks k (suc n) pos so out put i less =
+      let f : suc n - 1 ≡ n = omega arith in
+      rw (f, put i less) (go (eqb (from + i) k) (among (chain e n (e k)) (from + i)) ∙ so i less)
+    where
+      go : (a b : Bool) → pick b 1 (pick a 1 (getD marks i 0)) ≡ pick (a || b) 1 (getD marks i 0)
+      go true true = refl
+      go true false = refl
+      go false b = refl
+
+module _ (l : Layout) (e : ℕ → ℕ) where
+  pub inside-first : (k n : ℕ) → 0 < n → Inside l (chain e n k) → k < l .clusters + 2
+  unfolding chain
+  inside-first k zero pos h = absurd (omega arith)
+  inside-first k (suc n) pos h = h .0
+
+  pub inside-rest : (k n : ℕ) → 0 < n → Inside l (chain e n k) → Inside l (chain e (n - 1) (e k))
+  unfolding chain
+  inside-rest k zero pos h = absurd (omega arith)
+  inside-rest k (suc n) pos h = let f : suc n - 1 ≡ n = omega arith in rw f (h .1)
+
+-- ---- sectors by their marks
+
+-- By the marks of freed clusters, the FAT in which these are freed.
+pub cleared-is : (ks marks : List ℕ) (f : Fat) (s : ℕ) → Marked ks (16384 * (s / 64)) marks → (j : ℕ) → j < 512 → cleared marks f s j ≡ release ks f s j
+unfolding cleared
+cleared-is ks marks f s h j less =
+    let e : 16384 * (s / 64) + (256 * (s % 64) + j / 2) ≡ 256 * s + j / 2 = omega arith in
+    rw (h (256 * (s % 64) + j / 2) (omega arith), e) (go (among ks (256 * s + j / 2)) ∙ sym (release-byte ks f s j less))
+  where
+    go : (b : Bool) → pick (eqb (pick b 1 0) 0) (f s j) 0 ≡ pick b 0 (f s j)
+    go true = refl
+    go false = refl
+
+-- A sector with neither `kept` nor a mark stays as it is.
+pub unchanged : (marks : List ℕ) (t : Fat) (s kept : ℕ) → (s ≡ kept / 256 → ⊥) → ((i : ℕ) → i < 256 → getD marks (256 * (s % 64) + i) 0 ≡ 0)
+    → (j : ℕ) → j < 512 → cleared marks (lead kept end-value t) s j ≡ t s j
+unfolding cleared
+unchanged marks t s kept ne none j less = rw (none (j / 2) (omega arith)) (ap (λ (b : Bytes). b j) (lead-away kept end-value t s ne))
+
+-- A buffer that holds sector s of f, cleared by the marks.
+pub cleared-of : (marks buf out : List ℕ) (f : Fat) (s at : ℕ) → at ≡ 256 * (s % 64) → ((j : ℕ) → j < 512 → getD buf j 0 ≡ f s j)
+    → ((j : ℕ) → j < 512 → getD out j 0 ≡ pick (eqb (getD marks (at + j / 2) 0) 0) (getD buf j 0) 0) → (j : ℕ) → j < 512 → getD out j 0 ≡ cleared marks f s j
+unfolding cleared
+cleared-of marks buf out f s at e held put j less =
+    put j less ∙ ap (λ (z : ℕ). pick (eqb (getD marks (z + j / 2) 0) 0) (getD buf j 0) 0) e
+    ∙ ap (λ (z : ℕ). pick (eqb (getD marks (256 * (s % 64) + j / 2) 0) 0) z 0) (held j less)
+
+-- ---- a pass over the sectors
+
+-- The FAT in which a chain's clusters are freed, and `kept` ends.
+abbrev pub freed : Fat → ℕ → ℕ → ℕ → Fat
+freed t kept first m = release (chain (entry t) m first) (lead kept end-value t)
+
+-- Marks serve all of their 64 sectors.
+pub next-marks : (ks marks : List ℕ) (s : ℕ) → Marked ks (16384 * (s / 64)) marks → ((s + 1) % 64 ≡ 0 → ⊥) → Marked ks (16384 * ((s + 1) / 64)) marks
+next-marks ks marks s h ne = let e : 16384 * ((s + 1) / 64) ≡ 16384 * (s / 64) = omega arith in rw e h
+
+module _ (l : Layout) (sh : Shape l) (kept first m limit : ℕ) (e x : List ℕ) (s made : ℕ)
+    (so : Ran limit (up-to (renewals l (freed (own-fat l e) kept first m) (fat2-of l (card-of e))) s) e x made true) where
+  -- FAT1 is as at the start.
+  pub fat-same : own-fat l x ≡ own-fat l e
+  fat-same = fat-kept l sh (freed (own-fat l e) kept first m) limit s e x made so
+
+  -- A sector's store, as the turn finds the card, is that of the whole.
+  pub turn-same : (marks : List ℕ) → Marked (chain (entry (own-fat l x)) m first) (16384 * (s / 64)) marks
+      → renewal (l .fat2 + s) (cleared marks (lead kept end-value (own-fat l x)) s) (card-of x (l .fat2 + s)) ≡ renewals l (freed (own-fat l e) kept first m) (fat2-of l (card-of e)) s
+  turn-same marks h =
+      renewal-same (l .fat2 + s) (cleared marks (lead kept end-value (own-fat l x)) s) (freed (own-fat l x) kept first m s) (card-of x (l .fat2 + s))
+      (cleared-is (chain (entry (own-fat l x)) m first) marks (lead kept end-value (own-fat l x)) s h)
+      ∙ ap (λ (t : Fat). renewal (l .fat2 + s) (freed t kept first m s) (card-of x (l .fat2 + s))) fat-same
+      ∙ ap (λ (b : Bytes). renewal (l .fat2 + s) (freed (own-fat l e) kept first m s) b) (next-kept l sh (freed (own-fat l e) kept first m) limit s e x made so s (omega arith))
+
+-- ---- FAT1 as it is on the card
+
+module _ (l : Layout) (c : Card) (sh : Shape l) where
+  own-all : (ks : List ℕ) → Inside l ks → All (λ k. entry (sectors-of l c) k ≡ entry (fat1-of l c) k) ks
+  own-all [] h = tt
+  own-all (k ∷ ks) h = (own-entry l c k (let less : k < l .clusters + 2 = h .0 in omega (arith, sh .enough)), own-all ks (h .1))
+
+  pub own-chain : (m first : ℕ) → Inside l (chain (entry (fat1-of l c)) m first) → chain (entry (sectors-of l c)) m first ≡ chain (entry (fat1-of l c)) m first
+  own-chain m first h = chain-same (entry (fat1-of l c)) (entry (sectors-of l c)) m first (own-all (chain (entry (fat1-of l c)) m first) h)
+
+ended : (kept : ℕ) (f : Fat) → link (pick (eqb kept 0) [] (kept ∷ [])) f ≡ lead kept end-value f
+unfolding lead link
+ended kept f = go (eqb kept 0)
+  where
+    go : (b : Bool) → link (pick b [] (kept ∷ [])) f ≡ pick b f (set-entry kept end-value f)
+    go true = refl
+    go false = refl
+
+module _ (l : Layout) (c : Card) where
+  pub cut-none : (kept first s j : ℕ) → s < l .fatsize → cut (fat1-of l c) kept first 0 s j ≡ freed (sectors-of l c) 0 0 0 s j
+  unfolding cut release lead chain
+  cut-none kept first s j h = ap (λ (b : Bytes). b j) (sym (own-sector l c s h))
+
+  pub cut-some : Shape l → (kept first m s j : ℕ) → 0 < m → Inside l (chain (entry (fat1-of l c)) m first) → s < l .fatsize
+      → cut (fat1-of l c) kept first m s j ≡ freed (sectors-of l c) kept first m s j
+  unfolding cut
+  cut-some sh kept first m s j pos h less =
+      let t = fat1-of l c in
+      rw (ne-eqb m 0 (λ q. omega arith), own-chain l c sh m first h)
+      (ap (λ (f : Fat). release (chain (entry t) m first) f s j) (ended kept t)
+      ∙ release-local (chain (entry t) m first) (lead kept end-value t) (lead kept end-value (sectors-of l c)) s j
+      (lead-local kept end-value t (sectors-of l c) s j (ap (λ (b : Bytes). b j) (sym (own-sector l c s less)))))

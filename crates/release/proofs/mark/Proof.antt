@@ -1,0 +1,32 @@
+use Prim.Native.Nat.{_+_}
+use native.Mathlib.Omega.{arith}
+use borrow.Author.Tests.{ne-eqb}
+use Rattle.release.proofs.Laws.{mark-set}
+use borrow.Author.Needs.{needs}
+use Rattle.release.proofs.mark.Statement.{statement}
+use Rattle.release.proofs.mark.Tie as tie
+use Rattle.release.proofs.mark.Reads as reads
+use Rattle.release.proofs.mark.Lts as lts
+use Rattle.sector.proofs.index.Reads as index-reads
+
+returns : tie.Need-returns
+returns c = λ i h. rw (ne-eqb (c .before .before .args .from + i) (c .before .before .args .k) (λ e. omega arith))
+
+returns-2 : tie.Need-returns-2
+returns-2 c = λ i h. rw (ne-eqb (c .before .before .before .args .from + i) (c .before .before .before .args .k) (λ e. omega arith))
+
+index-requires : tie.Need-index-requires
+index-requires c κs = search needs
+
+slice-write-marks : tie.Need-slice-write-marks
+slice-write-marks c = search needs
+
+same-length : tie.Need-same-length
+same-length c = search needs
+
+returns-3 : tie.Need-returns-3
+returns-3 c = λ i h. mark-set (c .before .before .before .before .args .marks .now) (c .before .before .before .before .args .from) (c .before .before .before .before .args .k) (c .index .result) i (c .index .ensures) (omega arith) (omega arith)
+
+pub mark-spec : {M : Type 1} → statement M
+mark-spec =
+    tie.close (tie.spec returns returns-2 index-requires slice-write-marks same-length returns-3)
