@@ -7,10 +7,10 @@ use Rattle.model.specs.Ground.{refused, granted}
 use Rattle.model.specs.Volume.{clean}
 use Rattle.model.specs.declared.Outcome.the-variants.{Done, Stopped}
 use Rattle.model.specs.declared.Ground.the-variants as Ground
-use Rattle.operations.specs.Calls.{truncates, plan}
+use Rattle.operations.specs.Calls.{appends, truncates, plan}
 use Rattle.operations.specs.Outcome.{made, left, largest}
-use Rattle.operations.specs.CardK.{k, route, trace, trace-on, file}
-use Rattle.operations.specs.Worked.{Worked, volume-k, calls, rows, k3, m4, tail-of, cut-at}
+use Rattle.operations.specs.CardK.{k, span, route, trace, trace-on, file}
+use Rattle.operations.specs.Worked.{Worked, volume-k, calls, rows, k3, m4, k4, renamed-size, tail-of, cut-at}
 use Rattle.operations.proofs.Compute.{compute}
 use Rattle.operations.proofs.Flat.{flat, trace-flat}
 
@@ -22,13 +22,22 @@ zeros-row : (d : Bytes) → tail-of (made largest (plan (m4 d) k3)) 2 275 ≡ d 
 unfolding compute
 zeros-row d = refl
 
-cut-4 : (d : Bytes) → cut-at 4 d ≡ record { cut = Stopped 4; stored = 17 ∷ []; recovered = Done 1; file-then = file 0 [] }
+cut-4 : (d : Bytes) → cut-at 4 (m4 d) k3 ≡ record { cut = Stopped 4; stored = 17 ∷ []; recovered = Done 1; file-then = file 0 [] }
 unfolding compute
 cut-4 d = refl
 
-cut-5 : (d : Bytes) → cut-at 5 d ≡ record { cut = Stopped 5; stored = 1 ∷ 33 ∷ 66 ∷ []; recovered = Done 3; file-then = file 1300 (10 ∷ 11 ∷ 12 ∷ []) }
+cut-5 : (d : Bytes) → cut-at 5 (m4 d) k3 ≡ record { cut = Stopped 5; stored = 1 ∷ 33 ∷ 66 ∷ []; recovered = Done 3; file-then = file 1300 (10 ∷ 11 ∷ 12 ∷ []) }
 unfolding compute
 cut-5 d = refl
+
+cut-7 : (d e : Bytes) → cut-at 2 (appends route (span 100 e)) (k4 d)
+    ≡ record { cut = Stopped 2; stored = 33 ∷ 67 ∷ []; recovered = Done 2; file-then = file 1400 (10 ∷ 11 ∷ 12 ∷ []) }
+unfolding compute
+cut-7 d e = refl
+
+cut-rename : (d : Bytes) → renamed-size d ≡ 1300
+unfolding compute
+cut-rename d = refl
 
 longer-row : (d : Bytes) → plan (truncates route 1301) (left largest (m4 d) k3) ≡ refused Ground.Length
 unfolding compute
@@ -43,6 +52,8 @@ worked d e = record {
   m4-zeros = zeros-row d;
   m5 = cut-4 d;
   m6 = cut-5 d;
+  m7-cut = cut-7 d e;
+  rename-cut = cut-rename d;
   largest-card = (refl, refl);
   too-large = (refl, refl);
   longer = longer-row d;

@@ -7,6 +7,7 @@ use Rattle.model.specs.Bytes.{Bytes, zeros}
 use Rattle.model.specs.Scan.{range}
 use Rattle.model.specs.Sector.{Window, Store, store}
 use Rattle.model.specs.Boot.{layout}
+use Rattle.model.specs.Root.{slot-at, file-size}
 use Rattle.model.specs.Ground.{Answer, refused, granted}
 use Rattle.model.specs.Volume.{mount, clean}
 use Rattle.model.specs.Text.{ascii}
@@ -16,7 +17,7 @@ use Rattle.model.specs.declared.Outcome.{Outcome}
 use Rattle.model.specs.declared.Outcome.the-variants.{Done, Stopped}
 use Rattle.model.specs.declared.Pending.the-variants as Pending
 use Rattle.model.specs.declared.Ground.the-variants as Ground
-use Rattle.operations.specs.Calls.{Call, creates, appends, truncates, deletes, recovers, plan}
+use Rattle.operations.specs.Calls.{Call, creates, appends, truncates, deletes, renames, recovers, plan}
 use Rattle.operations.specs.Outcome.{outcome, made, left, largest}
 use Rattle.operations.specs.CardK.{k, window-k, boot-sector, span, route, letter, trace, Row, row, Seen, file, absent, seen}
 
@@ -69,22 +70,31 @@ m4 d = appends route (span 1300 d)
 abbrev pub tail-of : List Store → ℕ → ℕ → List ℕ
 tail-of ss i at = map (getD ss i (store 0 zeros) .bytes) (range at (512 - at))
 
--- M4 cut by a limit and recovered: how the cut call ends, the sectors that the recovery stores and how it ends, ROUTE.CUT then.
+-- A call cut by a limit and recovered: how the cut call ends, the sectors that the recovery stores and how it ends, ROUTE.CUT then.
 pub record CutRow : Type 0 where
   pub cut : Outcome
   pub stored : List ℕ
   pub recovered : Outcome
   pub file-then : Seen
 
-abbrev pub cut-at : ℕ → Bytes → CutRow
-cut-at limit d =
-    let w = left limit (m4 d) k3 in
+abbrev pub cut-at : ℕ → Call → Window → CutRow
+cut-at limit call before =
+    let w = left limit call before in
     record {
-      cut = outcome limit (plan (m4 d) k3);
+      cut = outcome limit (plan call before);
       stored = map (λ s. s .sector) (made largest (plan recovers w));
       recovered = outcome largest (plan recovers w);
       file-then = seen (left largest recovers w .card);
     }
+
+-- The window after M4, and the size in root slot 1 once a rename of ROUTE.CUT on it is cut after its root store and recovered.
+abbrev pub k4 : Bytes → Window
+k4 d = left largest (m4 d) k3
+
+abbrev pub renamed-size : Bytes → ℕ
+renamed-size d =
+    let w = left largest recovers (left 2 (renames route (letter 66)) (k4 d)) in
+    file-size (slot-at (volume-k .layout) (w .card) 1)
 
 -- A window that begins with a boot sector with 1 sector per cluster, 256 sectors per FAT and this many clusters.
 abbrev pub large : ℕ → Window
@@ -101,8 +111,13 @@ pub record Worked (d e : Bytes) : Type 0 where
   -- "sector 75 ends in 236 zeros": the third store of M4, from its last new byte on
   pub m4-zeros : tail-of (made largest (plan (m4 d) k3)) 2 275 ≡ d 1299 ∷ replicate 236 0
   -- "M5: limit 4 in M4, recovered: size 0. M6: limit 5: size 1,300."
-  pub m5 : cut-at 4 d ≡ record { cut = Stopped 4; stored = 17 ∷ []; recovered = Done 1; file-then = file 0 [] }
-  pub m6 : cut-at 5 d ≡ record { cut = Stopped 5; stored = 1 ∷ 33 ∷ 66 ∷ []; recovered = Done 3; file-then = file 1300 (10 ∷ 11 ∷ 12 ∷ []) }
+  pub m5 : cut-at 4 (m4 d) k3 ≡ record { cut = Stopped 4; stored = 17 ∷ []; recovered = Done 1; file-then = file 0 [] }
+  pub m6 : cut-at 5 (m4 d) k3 ≡ record { cut = Stopped 5; stored = 1 ∷ 33 ∷ 66 ∷ []; recovered = Done 3; file-then = file 1300 (10 ∷ 11 ∷ 12 ∷ []) }
+  -- M7 cut after its group's store, where the FATs agree: recovery stores the root, and the first cluster stays
+  pub m7-cut : cut-at 2 (appends route (span 100 e)) (k4 d)
+      ≡ record { cut = Stopped 2; stored = 33 ∷ 67 ∷ []; recovered = Done 2; file-then = file 1400 (10 ∷ 11 ∷ 12 ∷ []) }
+  -- A rename may be redone after its root store: the new slot has the old one's size
+  pub rename-cut : renamed-size d ≡ 1300
   -- "65,524 clusters accepted, 65,525 BOOT; truncate to size + 1, LENGTH."
   pub largest-card : (mount (large 65524) ≡ granted (layout (large 65524 .card 0))) × (layout (large 65524 .card 0) .clusters ≡ 65524)
   pub too-large : (mount (large 65525) ≡ refused Ground.Boot) × (layout (large 65525 .card 0) .clusters ≡ 65525)
