@@ -9,7 +9,8 @@ ghost use Rattle.model.specs.Sector.{window-of};
 ghost use Rattle.model.specs.Ground.{ground-number};
 ghost use Rattle.operations.specs.Outcome.{outcome-number};
 ghost use Rattle.operations.specs.Reading.{read, list};
-ghost use Rattle.operations.specs.Promises.{Answered};
+ghost use Rattle.operations.specs.Calls.{create, rename, recover};
+ghost use Rattle.operations.specs.Promises.{Called, Answered};
 
 fn ground_number(g: Ground) -> u32
     ensures { λ r. ⌜ (r ≡ ground-number g) × (r < 16) ⌝ }
@@ -42,6 +43,30 @@ fn number_of(r: Outcome) -> u64
         Outcome::Done(n) => sector::wider(n),
         Outcome::Stopped(n) => 1095216660480 + sector::wider(n),
     }
+}
+
+// A new file of no bytes.
+#[no_mangle]
+pub extern "C" fn lfat_create(card: &mut [u8], name: &[u8], limit: u32) -> u64
+    ensures { λ r. ⌜ Called limit (create (window-of (now (card .entry))) (view (now (name .entry)))) (now (card .entry)) (now (card .exit)) r ⌝ }
+{
+    number_of(directory::create(card, name, limit))
+}
+
+// The file gets another name.
+#[no_mangle]
+pub extern "C" fn lfat_rename(card: &mut [u8], old: &[u8], new: &[u8], limit: u32) -> u64
+    ensures { λ r. ⌜ Called limit (rename (window-of (now (card .entry))) (view (now (old .entry))) (view (now (new .entry)))) (now (card .entry)) (now (card .exit)) r ⌝ }
+{
+    number_of(directory::rename(card, old, new, limit))
+}
+
+// Finishes or drops what a cut has left, so that the card is clean again.
+#[no_mangle]
+pub extern "C" fn lfat_recover(card: &mut [u8], limit: u32) -> u64
+    ensures { λ r. ⌜ Called limit (recover (window-of (now (card .entry)))) (now (card .entry)) (now (card .exit)) r ⌝ }
+{
+    number_of(recovery::recover(card, limit))
 }
 
 // Copies the entries of the root directory into the buffer, 32 bytes each, as many as fit; counts how many there are.

@@ -9,13 +9,19 @@ ghost use Rattle.model.specs.Bytes.{view};
 ghost use Rattle.model.specs.Sector.{card-of};
 ghost use Rattle.model.specs.Root.{name-ok};
 ghost use Rattle.model.specs.Promises.{Held};
-ghost use Rattle.operations.specs.Calls.{slot-of, file-in, whole, file-of, taken, root-full};
-ghost use Rattle.lookup.specs.Found.{found-of, Seated, Proper, Lives, Opens};
+ghost use Rattle.operations.specs.Calls.{slot-of, file-in, whole, file-of, taken};
+ghost use Rattle.lookup.specs.Found.{found-of, Seated, Proper, Lives, Opens, vacancy-of, new-slot, Below};
 
 // A file, or the ground on which there is none.
 pub enum Found {
     Missing(Ground),
     At(File),
+}
+
+// A free slot, or the ground on which there is none.
+pub enum Vacancy {
+    Denied(Ground),
+    Slot(u32),
 }
 
 // The slot that a name means; as many as there are slots where none has it.
@@ -70,18 +76,25 @@ pub fn file_of(w: &[u8], v: Volume, name: &[u8]) -> Found
 }
 
 // EXISTS.
-pub fn is_taken(w: &[u8], v: Volume, name: &[u8]) -> bool
+fn is_taken(w: &[u8], v: Volume, name: &[u8]) -> bool
     requires { ⌜ Held (v .layout) (now w) × (name-ok (view (now name)) ≡ true) ⌝ }
     ensures { λ r. ⌜ r ≡ taken v (card-of (now (w .entry))) (view (now (name .entry))) ⌝ }
 {
     slot_of(w, v, name) < v.layout.entries
 }
 
-// ROOTFULL.
-pub fn is_full(w: &[u8], v: Volume) -> bool
-    requires { ⌜ Held (v .layout) (now w) ⌝ }
-    ensures { λ r. ⌜ r ≡ root-full v (card-of (now (w .entry))) ⌝ }
+// EXISTS and ROOTFULL: the slot for a new name.
+pub fn new_slot(w: &[u8], v: Volume, name: &[u8]) -> Vacancy
+    requires { ⌜ Held (v .layout) (now w) × (name-ok (view (now name)) ≡ true) ⌝ }
+    ensures { λ r. ⌜ (vacancy-of r ≡ new-slot v (card-of (now (w .entry))) (view (now (name .entry)))) × Below (v .layout .entries) r ⌝ }
 {
+    if is_taken(w, v, name) {
+        return Vacancy::Denied(Ground::Exists);
+    }
     let l = v.layout;
-    l.entries <= root::free_slot(w, l)
+    let s = root::free_slot(w, l);
+    if s < l.entries {
+        return Vacancy::Slot(s);
+    }
+    Vacancy::Denied(Ground::Rootfull)
 }

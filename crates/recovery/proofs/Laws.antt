@@ -1,0 +1,141 @@
+-- A pending group that RECORD accepts can be redone: its slots are the root's, its sector is the log's.
+use Prim.Native.Nat.{ℕ, _+_, _*_, _/_, _%_, _≤_, _<_}
+use native.Mathlib.Omega.{arith}
+use mathlib.Core.Path.{_≡_, refl, sym, ap, _∙_, subst}
+use mathlib.Core.Logic.{_⊎_, inl, inr}
+use mathlib.Core.Bool.{Bool, true, false, _&&_, _||_}
+use mathlib.Core.List.{List, []}
+use lib.Dec.{eqb, ltb, leb}
+use lib.ListN.{length}
+use borrow.Author.Tests.{ltb-true, eqb-false, eq-eqb}
+use Rattle.model.specs.Bytes.{Bytes, pick}
+use Rattle.model.specs.Scan.{between}
+use Rattle.model.specs.Sector.{Card, Window, card-of}
+use Rattle.model.specs.Root.{first-bytes, end-slot, entry-at}
+use Rattle.model.specs.Log.{Log, log-of}
+use Rattle.model.specs.Record.{decode, group-size, record-at, r-slot, r-number}
+use Rattle.model.specs.Pending.{pending-in, pending, first-pending, accepted, group-in, group-ok, record-ok, pair-ok, slot-ok}
+use Rattle.model.specs.Ground.{refused, granted, _>>=_}
+use Rattle.model.specs.Volume.{examine}
+use Rattle.model.specs.declared.Area.{Area}
+use Rattle.model.specs.declared.Group.{Group}
+use Rattle.model.specs.declared.Ground.{Ground}
+use Rattle.model.specs.declared.Operation.{Operation}
+use Rattle.model.specs.declared.Pending.{Pending}
+use Rattle.model.specs.declared.Volume.{Volume}
+use Rattle.model.specs.declared.Operation.the-variants.{Create, Update, Delete, Truncate, Rename}
+use Rattle.model.specs.declared.Pending.the-variants as Pending
+use Rattle.model.proofs.Tests.{told, every-at, and-left, by-pick, between-true, clash}
+use Rattle.model.proofs.Volumes.{volume-of, examined}
+use Rattle.operations.specs.Plan.{recover-stores}
+use Rattle.operations.specs.Calls.{recover}
+use Rattle.fat.specs.Located.{Lies}
+use Rattle.slots.specs.Slots.{Slots}
+use Rattle.recovery.specs.Found.{Found}
+
+-- ---- RECORD
+
+group-of : (entries z n : ℕ) (g : Log) (j : ℕ) → accepted entries z n g j ≡ true → group-ok entries z (g (j / 16)) ≡ true
+unfolding accepted
+group-of entries z n g j h = every-at _ h 1
+
+-- The sector of a pending group, which RECORD has accepted.
+pub held-in : (entries z : ℕ) (a : Area) (g : Log) (x : Group) → pending-in entries z a g ≡ Pending.Held x
+    → (i : ℕ) × (i < a .sectors) × (group-ok entries z (g i) ≡ true) × (x ≡ group-in (a .sector + i) (g i))
+unfolding pending-in
+held-in entries z a g x h = go (told (ltb j (16 * a .sectors)))
+  where
+    j : ℕ
+    j = first-pending (a .sectors) g
+
+    here : (t : Bool) → accepted entries z (a .sectors) g j ≡ t → pick t (Pending.Held (group-in (a .sector + j / 16) (g (j / 16)))) Pending.Broken ≡ Pending.Held x
+        → (accepted entries z (a .sectors) g j ≡ true) × (x ≡ group-in (a .sector + j / 16) (g (j / 16)))
+    here true q e = let r : group-in (a .sector + j / 16) (g (j / 16)) ≡ x = cc in (q, sym r)
+    here false q e = let z : _≡_ {A = ℕ} 0 1 = cc in absurd (omega arith)
+
+    go : (ltb j (16 * a .sectors) ≡ true) ⊎ (ltb j (16 * a .sectors) ≡ false)
+        → (i : ℕ) × (i < a .sectors) × (group-ok entries z (g i) ≡ true) × (x ≡ group-in (a .sector + i) (g i))
+    go (inl e) =
+        let less : j < 16 * a .sectors = ltb-true j (16 * a .sectors) e in
+        let k = here (accepted entries z (a .sectors) g j) refl (rw e at h) in
+        (j / 16, omega arith, group-of entries z (a .sectors) g j (k .0), k .1)
+    go (inr e) = let r : Pending.Nothing ≡ Pending.Held x = rw e at h in let z : _≡_ {A = ℕ} 0 1 = cc in absurd (omega arith)
+
+-- The slots of an accepted group are below the root entries.
+slot-below : (n z s : ℕ) → slot-ok n z s ≡ true → s < n
+unfolding slot-ok
+slot-below n z s h = ltb-true s n (and-left (ltb s n) (leb s z) h)
+
+first-slot : (n z : ℕ) (b : Bytes) → group-ok n z b ≡ true → r-slot b < n
+unfolding group-ok record-ok
+first-slot n z b h = slot-below n z (r-slot b) (every-at _ (every-at _ h 0) 5)
+
+second-slot : (n z : ℕ) (b : Bytes) → group-ok n z b ≡ true → eqb (r-number b) 5 ≡ true → r-slot (record-at b 1) < n
+unfolding group-ok pair-ok group-size
+second-slot n z b h five = slot-below n z (r-slot (record-at b 1)) (every-at _ (rw five at (every-at _ h 1)) 2)
+
+a-number : (n z : ℕ) (b : Bytes) → group-ok n z b ≡ true → between 1 5 (r-number b) ≡ true
+unfolding group-ok record-ok
+a-number n z b h = every-at _ (every-at _ h 0) 0
+
+above : (n k : ℕ) → k ≤ n → eqb n k ≡ false → k + 1 ≤ n
+above n k h e = let ne = eqb-false n k e in omega arith
+
+pub group-slots : (n z : ℕ) (b : Bytes) → group-ok n z b ≡ true → Slots n (decode b)
+unfolding decode entry-at
+group-slots n z b h =
+    let s : r-slot b < n = first-slot n z b h in
+    by-pick (λ (o : Operation). Slots n o) (eqb (r-number b) 1) _ _ (λ _. s) (λ n1.
+    by-pick (λ (o : Operation). Slots n o) (eqb (r-number b) 2) _ _ (λ _. s) (λ n2.
+    by-pick (λ (o : Operation). Slots n o) (eqb (r-number b) 3) _ _ (λ _. s) (λ n3.
+    by-pick (λ (o : Operation). Slots n o) (eqb (r-number b) 4) _ _ (λ _. s) (λ n4.
+    (s, second-slot n z b h (five n1 n2 n3 n4))))))
+  where
+    five : eqb (r-number b) 1 ≡ false → eqb (r-number b) 2 ≡ false → eqb (r-number b) 3 ≡ false → eqb (r-number b) 4 ≡ false → eqb (r-number b) 5 ≡ true
+    five n1 n2 n3 n4 =
+        let r = between-true 1 5 (r-number b) (a-number n z b h) in
+        let two : 2 ≤ r-number b = above (r-number b) 1 (r .0) n1 in
+        let three : 3 ≤ r-number b = above (r-number b) 2 two n2 in
+        let four : 4 ≤ r-number b = above (r-number b) 3 three n3 in
+        let last : 5 ≤ r-number b = above (r-number b) 4 four n4 in
+        let high : r-number b ≤ 5 = r .1 in
+        eq-eqb (r-number b) 5 (omega arith)
+
+-- It has one record or two.
+group-few : (b : Bytes) → group-size b ≤ 16
+unfolding group-size
+group-few b = by-pick (λ (m : ℕ). m ≤ 16) (eqb (r-number b) 5) 2 1 (λ _. omega arith) (λ _. omega arith)
+
+-- ---- recovery
+
+-- What redoing a pending group asks for.
+pub record Redoable (v : Volume) (g : Group) : Type 0 where
+  pub slots : Slots (v .layout .entries) (g .operation)
+  pub low : v .layout .start ≤ g .sector
+  pub high : g .sector < v .layout .total
+  pub few : g .records ≤ 16
+
+pub redoable : (v : Volume) (xs : List ℕ) → Found v xs → (g : Group) → v .pending ≡ Pending.Held g → Redoable v g
+unfolding pending group-in
+redoable v xs h g held =
+    let c : Card = card-of xs in
+    let e = examined (length xs) c v (h .passes) .1 in
+    let p : pending (v .layout) (v .log) c ≡ Pending.Held g = subst (λ (u : Volume). u .pending ≡ Pending.Held g → pending (u .layout) (u .log) c ≡ Pending.Held g) (sym e) (λ q. q) held in
+    let i = held-in (v .layout .entries) (end-slot (v .layout .entries) (first-bytes (v .layout) c)) (v .log) (log-of (v .log) c) g p in
+    let b : Bytes = log-of (v .log) c (i .0) in
+    let at : g .sector ≡ v .log .sector + i .0 = ap (λ (x : Group). x .sector) (i .3) in
+    record {
+      slots = subst (λ (x : Group). Slots (v .layout .entries) (x .operation)) (sym (i .3)) (group-slots (v .layout .entries) (end-slot (v .layout .entries) (first-bytes (v .layout) c)) b (i .2));
+      low = omega (arith, h .lies .above);
+      high = omega (arith, h .lies .inside, i .1);
+      few = subst (λ (x : Group). x .records ≤ 16) (sym (i .3)) (group-few b);
+    }
+
+module _ (w : Window) where
+  pub recover-refused : (g : Ground) → examine w ≡ refused g → recover w ≡ refused g
+  unfolding recover _>>=_
+  recover-refused g e = rw e
+
+  pub recover-granted : (v : Volume) → examine w ≡ granted v → recover w ≡ granted (recover-stores (v .layout) (w .card) (v .pending))
+  unfolding recover _>>=_
+  recover-granted v e = rw e

@@ -1,0 +1,35 @@
+-- What a clean card is like: its FATs agree, and its log is the run that FAT1 marks.
+use mathlib.Core.Path.{_≡_, refl, sym, _∙_, subst}
+use mathlib.Core.Bool.{true}
+use mathlib.Core.List.{List, []}
+use Prim.Native.Nat.{ℕ, _+_, _*_}
+use lib.ListN.{length, getD}
+use Rattle.model.specs.Sector.{card-of}
+use Rattle.model.specs.Fat.{fat1-of, fat2-of, fats-agree, write-fat}
+use Rattle.model.specs.Log.{run, run-ok, area}
+use Rattle.model.specs.declared.Volume.{Volume}
+use Rattle.model.specs.declared.Pending.the-variants as Pending
+use Rattle.model.proofs.Cards.{clip-clip}
+use Rattle.model.proofs.Fats.{agree-at, write-none}
+use Rattle.model.proofs.Volumes.{volume-of, cleaned, fit-run}
+use Rattle.volume.specs.Ready.{Ready}
+
+module _ (v : Volume) (xs : List ℕ) (h : Ready v xs) where
+  is-volume : volume-of (card-of xs) Pending.Nothing ≡ v
+  is-volume = sym (cleaned (length xs) (card-of xs) v (h .passes) .1)
+
+  pub ready-agree : fats-agree (v .layout) (card-of xs) ≡ true
+  ready-agree = subst (λ (u : Volume). fats-agree (u .layout) (card-of xs) ≡ true) is-volume (cleaned (length xs) (card-of xs) v (h .passes) .0 .agree)
+
+  -- FAT2 needs no store to be as FAT1 is.
+  pub ready-none : write-fat (v .layout) (v .layout .fat2) (fat1-of (v .layout) (card-of xs)) (fat2-of (v .layout) (card-of xs)) ≡ []
+  ready-none = write-none (v .layout) (v .layout .fat2) (fat1-of (v .layout) (card-of xs)) (fat2-of (v .layout) (card-of xs)) (λ s less.
+      sym (clip-clip (λ j. getD xs (512 * (v .layout .fat1 + s) + j) 0)) ∙ agree-at (v .layout) (card-of xs) ready-agree s less
+      ∙ clip-clip (λ j. getD xs (512 * (v .layout .fat2 + s) + j) 0))
+
+  pub ready-run : run-ok (v .layout) (fat1-of (v .layout) (card-of xs)) (run (v .layout) (fat1-of (v .layout) (card-of xs))) ≡ true
+  ready-run = subst (λ (u : Volume). run-ok (u .layout) (fat1-of (u .layout) (card-of xs)) (run (u .layout) (fat1-of (u .layout) (card-of xs))) ≡ true)
+      is-volume (fit-run (length xs) (card-of xs) (cleaned (length xs) (card-of xs) v (h .passes) .0 .fit))
+
+  pub ready-log : v .log ≡ area (v .layout) (run (v .layout) (fat1-of (v .layout) (card-of xs)))
+  ready-log = subst (λ (u : Volume). u .log ≡ area (u .layout) (run (u .layout) (fat1-of (u .layout) (card-of xs)))) is-volume refl
