@@ -1,26 +1,24 @@
 -- Laws of the stores that renew FAT2, sector by sector, and of what they leave alone.
 use Prim.Native.Nat.{ℕ, zero, suc, _+_, _*_, _/_, _%_, _<_, _≤_}
-use native.Mathlib.Nat.{zero-add}
 use native.Mathlib.Omega.{arith}
-use native.Mathlib.Numerals.{add-one}
 use mathlib.Core.Path.{_≡_, refl, sym, ap, _∙_, fun-ext}
 use mathlib.Core.Logic.{⊎-elim}
 use mathlib.Core.Bool.{Bool, true, false, not}
-use mathlib.Core.List.{List, [], _∷_, _++_, map, map-append}
+use mathlib.Core.List.{List, [], _∷_}
 use lib.ListN.{length, getD, set, length-set}
 use lib.Dec.{eqb}
 use borrow.Author.Tests.{lt-ltb, le-ltb, ne-eqb}
 use Rattle.model.specs.Bytes.{Bytes, bytes-of, byte-of, overlay, patch, pick}
-use Rattle.model.specs.Scan.{indices-from}
 use Rattle.model.specs.Sector.{Card, Store, store, card-of, clip}
-use Rattle.model.specs.Fat.{Fat, entry, fat1-of, fat2-of, same, differing, write-fat, set-entry}
+use Rattle.model.specs.Fat.{Fat, entry, fat1-of, fat2-of, same, write-fat, set-entry}
 use Rattle.model.specs.Promises.{Ran, up-to, Shape}
 use Rattle.model.specs.declared.Layout.{Layout}
 use Rattle.model.proofs.Tests.{less?, by-pick}
-use Rattle.model.proofs.Scan.{all-same, indices-none, indices-step}
+use Rattle.model.proofs.Scan.{all-same}
 use Rattle.model.proofs.Overlays.{overlay-none, overlay-more}
 use Rattle.model.proofs.Cards.{store-same, clip-at, Away}
 use Rattle.model.proofs.Runs.{upto-away, ran-away}
+use Rattle.model.proofs.Copies.{write-fat-turns}
 use Rattle.model.proofs.Fats.{entry-same}
 use Rattle.model.proofs.Entries.{set-here, set-local, set-away}
 use Rattle.change.specs.Change.{lead, renewal, sectors-of, own-fat}
@@ -30,19 +28,11 @@ use Rattle.change.specs.Change.{lead, renewal, sectors-of, own-fat}
 -- No store where it has the bytes; one where it has not.
 pub renewal-none : (at : ℕ) (new old : Bytes) → not (same new old) ≡ false → renewal at new old ≡ []
 unfolding renewal
-renewal-none at new old h = go (same new old) h
-  where
-    go : (b : Bool) → not b ≡ false → pick b [] (store at new ∷ []) ≡ []
-    go true e = refl
-    go false e = let z : _≡_ {A = ℕ} 0 1 = cc in absurd (omega arith)
+renewal-none at new old h = rw h
 
 pub renewal-one : (at : ℕ) (new old : Bytes) → not (same new old) ≡ true → renewal at new old ≡ store at new ∷ []
 unfolding renewal
-renewal-one at new old h = go (same new old) h
-  where
-    go : (b : Bool) → not b ≡ true → pick b [] (store at new ∷ []) ≡ store at new ∷ []
-    go true e = let z : _≡_ {A = ℕ} 0 1 = cc in absurd (omega arith)
-    go false e = refl
+renewal-one at new old h = rw h
 
 -- It depends on the 512 bytes alone.
 pub renewal-same : (at : ℕ) (a b old : Bytes) → ((j : ℕ) → j < 512 → a j ≡ b j) → renewal at a old ≡ renewal at b old
@@ -52,7 +42,7 @@ renewal-same at a b old h =
 
 pub renewal-away : (at : ℕ) (new old : Bytes) (s : ℕ) → (s ≡ at → ⊥) → Away (renewal at new old) s
 unfolding renewal
-renewal-away at new old s ne = by-pick (λ ss. Away ss s) (same new old) [] (store at new ∷ []) (λ _. tt) (λ _. (ne, tt))
+renewal-away at new old s ne = by-pick (λ ss. Away ss s) (not (same new old)) (store at new ∷ []) [] (λ _. (ne, tt)) (λ _. tt)
 
 -- ---- a changed entry
 
@@ -113,33 +103,9 @@ module _ (l : Layout) (c : Card) where
 abbrev pub renewals : Layout → Fat → Fat → ℕ → List Store
 renewals l new old s = renewal (l .fat2 + s) (new s) (old s)
 
-indices-next : (p : ℕ → Bool) (n : ℕ) → indices-from p 0 (suc n) ≡ indices-from p 0 n ++ pick (p n) (n ∷ []) []
-indices-next p n =
-    ap (indices-from p 0) (sym (add-one n)) ∙ indices-step p 0 n ∙ ap (λ (z : ℕ). indices-from p 0 n ++ pick (p z) (z ∷ []) []) (zero-add n)
-
-picked : (f : ℕ → Store) (b : Bool) (n : ℕ) → pick b [] (f n ∷ []) ≡ map f (pick (not b) (n ∷ []) [])
-picked f true n = refl
-picked f false n = refl
-
-module _ (l : Layout) (new old : Fat) where
-  abbrev differ : ℕ → Bool
-  differ s = not (same (new s) (old s))
-
-  abbrev stored : ℕ → Store
-  stored s = store (l .fat2 + s) (new s)
-
-  turns-to : (n : ℕ) → up-to (renewals l new old) n ≡ map stored (indices-from differ 0 n)
-  unfolding up-to renewal
-  turns-to zero = rw (indices-none differ 0)
-  turns-to (suc n) =
-      ap (λ (x : List Store). x ++ renewals l new old n) (turns-to n)
-      ∙ ap (λ (x : List Store). map stored (indices-from differ 0 n) ++ x) (picked stored (same (new n) (old n)) n)
-      ∙ sym (map-append stored (indices-from differ 0 n) (pick (differ n) (n ∷ []) []))
-      ∙ ap (map stored) (sym (indices-next differ n))
-
-  pub write-turns : up-to (renewals l new old) (l .fatsize) ≡ write-fat l (l .fat2) new old
-  unfolding write-fat differing
-  write-turns = turns-to (l .fatsize)
+pub write-turns : (l : Layout) (new old : Fat) → up-to (renewals l new old) (l .fatsize) ≡ write-fat l (l .fat2) new old
+unfolding renewal
+write-turns l new old = sym (write-fat-turns l (l .fat2) new old)
 
 upto-same : (st ts : ℕ → List Store) (n : ℕ) → ((k : ℕ) → k < n → st k ≡ ts k) → up-to st n ≡ up-to ts n
 unfolding up-to

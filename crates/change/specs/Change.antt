@@ -1,5 +1,6 @@
 -- One sector of a FAT: with an entry changed, and stored where it differs.
 use Prim.Native.Nat.{ℕ}
+use mathlib.Core.Bool.{not}
 use mathlib.Core.List.{List, [], _∷_}
 use lib.Dec.{eqb, ltb}
 use Rattle.model.specs.Bytes.{Bytes, pick, zeros}
@@ -13,7 +14,7 @@ lead k v f = pick (eqb k 0) f (set-entry k v f)
 
 -- The store of a sector that is to become `new`, where it differs from `old`.
 unfoldable pub renewal : ℕ → Bytes → Bytes → List Store
-renewal at new old = pick (same new old) [] (store at new ∷ [])
+renewal at new old = pick (not (same new old)) (store at new ∷ []) []
 
 -- The sectors of FAT1, and none past its end: it stays the same while FAT2 is stored.
 unfoldable pub sectors-of : Layout → Card → Fat

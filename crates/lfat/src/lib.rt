@@ -9,7 +9,7 @@ ghost use Rattle.model.specs.Sector.{window-of};
 ghost use Rattle.model.specs.Ground.{ground-number};
 ghost use Rattle.operations.specs.Outcome.{outcome-number};
 ghost use Rattle.operations.specs.Reading.{read, list};
-ghost use Rattle.operations.specs.Calls.{create, rename, recover};
+ghost use Rattle.operations.specs.Calls.{create, append, truncate, delete, rename, recover};
 ghost use Rattle.operations.specs.Promises.{Called, Answered};
 
 fn ground_number(g: Ground) -> u32
@@ -51,6 +51,30 @@ pub extern "C" fn lfat_create(card: &mut [u8], name: &[u8], limit: u32) -> u64
     ensures { λ r. ⌜ Called limit (create (window-of (now (card .entry))) (view (now (name .entry)))) (now (card .entry)) (now (card .exit)) r ⌝ }
 {
     number_of(directory::create(card, name, limit))
+}
+
+// Bytes at a file's end.
+#[no_mangle]
+pub extern "C" fn lfat_append(card: &mut [u8], name: &[u8], bytes: &[u8], limit: u32) -> u64
+    ensures { λ r. ⌜ Called limit (append (window-of (now (card .entry))) (view (now (name .entry))) (view (now (bytes .entry)))) (now (card .entry)) (now (card .exit)) r ⌝ }
+{
+    number_of(appending::append(card, name, bytes, limit))
+}
+
+// The file's first `size` bytes are kept.
+#[no_mangle]
+pub extern "C" fn lfat_truncate(card: &mut [u8], name: &[u8], size: u32, limit: u32) -> u64
+    ensures { λ r. ⌜ Called limit (truncate (window-of (now (card .entry))) (view (now (name .entry))) size) (now (card .entry)) (now (card .exit)) r ⌝ }
+{
+    number_of(truncation::truncate(card, name, size, limit))
+}
+
+// The file goes, and its clusters are free.
+#[no_mangle]
+pub extern "C" fn lfat_delete(card: &mut [u8], name: &[u8], limit: u32) -> u64
+    ensures { λ r. ⌜ Called limit (delete (window-of (now (card .entry))) (view (now (name .entry)))) (now (card .entry)) (now (card .exit)) r ⌝ }
+{
+    number_of(truncation::delete(card, name, limit))
 }
 
 // The file gets another name.

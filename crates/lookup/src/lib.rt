@@ -10,7 +10,7 @@ ghost use Rattle.model.specs.Sector.{card-of};
 ghost use Rattle.model.specs.Root.{name-ok};
 ghost use Rattle.model.specs.Promises.{Held};
 ghost use Rattle.operations.specs.Calls.{slot-of, file-in, whole, file-of, taken};
-ghost use Rattle.lookup.specs.Found.{found-of, Seated, Proper, Lives, Opens, vacancy-of, new-slot, Below};
+ghost use Rattle.lookup.specs.Found.{found-of, Seated, Lives, Opens, vacancy-of, new-slot, Below};
 
 // A file, or the ground on which there is none.
 pub enum Found {

@@ -6,22 +6,7 @@ ghost use lib.ListN.{length};
 ghost use Rattle.model.specs.Sector.{card-of};
 ghost use Rattle.model.specs.Fat.{fat1-of, fat2-of, write-fat};
 ghost use Rattle.model.specs.Promises.{Held, Ran};
-ghost use Rattle.mirror.specs.Copy.{copy, copies};
-
-// A sector onto another, where they differ.
-pub fn copy_one(w: &mut [u8], from: u32, to: u32, limit: u32) -> Progress
-    requires { ⌜ (512 * from + 512 ≤ length (now w)) × (512 * to + 512 ≤ length (now w)) ⌝ }
-    ensures { λ r. ⌜ Ran limit (copy (card-of (now (w .entry))) from to) (now (w .entry)) (now (w .exit)) (r .made) (r .whole) ⌝ }
-{
-    if store::differs(w, from, to) {
-        let buf = store::load(w, from);
-        return store::store_sector(w, to, &buf, limit);
-    }
-    Progress {
-        made: 0,
-        whole: true,
-    }
-}
+ghost use Rattle.mirror.specs.Copy.{copies};
 
 // n sectors onto n others, rising. The two ranges have no sector in common.
 pub fn copy_fat(w: &mut [u8], from: u32, to: u32, n: u32, limit: u32) -> Progress
@@ -32,7 +17,7 @@ pub fn copy_fat(w: &mut [u8], from: u32, to: u32, n: u32, limit: u32) -> Progres
     let mut made = 0;
     let mut k = 0;
     while k < n {
-        let p = copy_one(w, from + k, to + k, limit - made);
+        let p = change::copy_changed(w, from + k, to + k, limit - made);
         made += p.made;
         if !p.whole {
             return Progress { made, whole: false };

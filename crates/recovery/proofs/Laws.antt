@@ -1,10 +1,10 @@
 -- A pending group that RECORD accepts can be redone: its slots are the root's, its sector is the log's.
-use Prim.Native.Nat.{ℕ, _+_, _*_, _/_, _%_, _≤_, _<_}
+use Prim.Native.Nat.{ℕ, _+_, _*_, _/_, _≤_, _<_}
 use native.Mathlib.Omega.{arith}
-use mathlib.Core.Path.{_≡_, refl, sym, ap, _∙_, subst}
+use mathlib.Core.Path.{_≡_, refl, sym, ap, subst}
 use mathlib.Core.Logic.{_⊎_, inl, inr}
-use mathlib.Core.Bool.{Bool, true, false, _&&_, _||_}
-use mathlib.Core.List.{List, []}
+use mathlib.Core.Bool.{Bool, true, false}
+use mathlib.Core.List.{List}
 use lib.Dec.{eqb, ltb, leb}
 use lib.ListN.{length}
 use borrow.Author.Tests.{ltb-true, eqb-false, eq-eqb}
@@ -23,13 +23,11 @@ use Rattle.model.specs.declared.Ground.{Ground}
 use Rattle.model.specs.declared.Operation.{Operation}
 use Rattle.model.specs.declared.Pending.{Pending}
 use Rattle.model.specs.declared.Volume.{Volume}
-use Rattle.model.specs.declared.Operation.the-variants.{Create, Update, Delete, Truncate, Rename}
 use Rattle.model.specs.declared.Pending.the-variants as Pending
-use Rattle.model.proofs.Tests.{told, every-at, and-left, by-pick, between-true, clash}
-use Rattle.model.proofs.Volumes.{volume-of, examined}
+use Rattle.model.proofs.Tests.{told, every-at, and-left, by-pick, between-true}
+use Rattle.model.proofs.Volumes.{examined}
 use Rattle.operations.specs.Plan.{recover-stores}
 use Rattle.operations.specs.Calls.{recover}
-use Rattle.fat.specs.Located.{Lies}
 use Rattle.slots.specs.Slots.{Slots}
 use Rattle.recovery.specs.Found.{Found}
 

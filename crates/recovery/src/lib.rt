@@ -3,7 +3,6 @@ use model::Outcome;
 use model::Pending;
 use model::Volume;
 use volume::Examined;
-ghost use mathlib.Core.Path.{_≡_};
 ghost use Rattle.model.specs.Sector.{card-of, window-of};
 ghost use Rattle.model.specs.Ground.{granted};
 ghost use Rattle.operations.specs.Plan.{recover-stores};

@@ -14,7 +14,7 @@ use Rattle.mirror.proofs.copy_fat.Statement.{statement}
 use Rattle.mirror.proofs.copy_fat.Tie as tie
 use Rattle.mirror.proofs.copy_fat.Reads as reads
 use Rattle.mirror.proofs.copy_fat.Lts as lts
-use Rattle.mirror.proofs.copy_one.Reads as copy-one-reads
+use Rattle.change.proofs.copy_changed.Reads as copy-changed-reads
 
 abbrev Inv-loop : tie.InvT-loop
 Inv-loop w₀ from to n limit made₀ k₀ w made k = (k ≤ n) × (length w ≡ length w₀) × Ran limit (copies (card-of w₀) from to k) w₀ w made true
@@ -25,17 +25,17 @@ abbrev μ-loop : tie.MeasureT-loop
 loop-holds : tie.Need-loop-holds Inv-loop μ-loop
 loop-holds c = (search needs, refl, turns-none _ _ _)
 
-add-copy-one : tie.Need-add-copy-one Inv-loop μ-loop
-add-copy-one c = search needs
+add-copy-changed : tie.Need-add-copy-changed Inv-loop μ-loop
+add-copy-changed c = search needs
 
-add-copy-one-2 : tie.Need-add-copy-one-2 Inv-loop μ-loop
-add-copy-one-2 c = search needs
+add-copy-changed-2 : tie.Need-add-copy-changed-2 Inv-loop μ-loop
+add-copy-changed-2 c = search needs
 
-sub-copy-one : tie.Need-sub-copy-one Inv-loop μ-loop
-sub-copy-one c = search needs
+sub-copy-changed : tie.Need-sub-copy-changed Inv-loop μ-loop
+sub-copy-changed c = search needs
 
-copy-one-requires : tie.Need-copy-one-requires Inv-loop μ-loop
-copy-one-requires c κs = search needs
+copy-changed-requires : tie.Need-copy-changed-requires Inv-loop μ-loop
+copy-changed-requires c κs = search needs
 
 add-made : tie.Need-add-made Inv-loop μ-loop
 add-made c = search needs
@@ -49,7 +49,7 @@ returns c =
     let l = c .before .before .before .before .before .before .before .before .loop in
     let t = copy-turn (a .from) (a .to) (a .n) (l .k) (a .limit) (l .made) (a .w .now) (l .w) (omega arith) (omega arith) (l .inv .2) in
     turns-cut _ (a .limit) (l .k) (a .w .now) (l .w) _ (l .made) _ (l .inv .2) (a .n) (omega arith)
-    (rw (t, not-true (c .before .before .before .before .before .copy-one .result .whole) (c .if1 .taken)) at (c .before .before .before .before .before .copy-one .ensures))
+    (rw (t, not-true (c .before .before .before .before .before .copy-changed .result .whole) (c .if1 .taken)) at (c .before .before .before .before .before .copy-changed .ensures))
 
 add-k : tie.Need-add-k Inv-loop μ-loop
 add-k c = search needs
@@ -65,7 +65,7 @@ loop-again c =
       search needs,
       search needs,
       turns-more _ (a .limit) (l .k) (a .w .now) (l .w) _ (l .made) _ (l .inv .2)
-          (rw (t, not-false (c .before .before .before .before .before .copy-one .result .whole) (c .if1 .left)) at (c .before .before .before .before .before .copy-one .ensures)),
+          (rw (t, not-false (c .before .before .before .before .before .copy-changed .result .whole) (c .if1 .left)) at (c .before .before .before .before .before .copy-changed .ensures)),
     )
 
 same-length-2 : tie.Need-same-length-2 Inv-loop μ-loop
@@ -81,10 +81,10 @@ copy-fat-spec =
     Inv-loop
     μ-loop
     loop-holds
-    add-copy-one
-    add-copy-one-2
-    sub-copy-one
-    copy-one-requires
+    add-copy-changed
+    add-copy-changed-2
+    sub-copy-changed
+    copy-changed-requires
     add-made
     same-length
     returns

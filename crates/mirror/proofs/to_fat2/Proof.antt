@@ -1,7 +1,7 @@
 use Rattle.model.specs.Sector.{card-of}
 use Rattle.model.specs.Fat.{fat1-of, fat2-of}
 use Rattle.model.proofs.Copies.{write-fat-turns}
-use Rattle.mirror.specs.Copy.{copy}
+use Rattle.change.specs.Change.{renewal}
 use borrow.Author.Needs.{needs}
 use Rattle.mirror.proofs.to_fat2.Statement.{statement}
 use Rattle.mirror.proofs.to_fat2.Tie as tie
@@ -16,7 +16,7 @@ same-length : tie.Need-same-length
 same-length c = search needs
 
 returns : tie.Need-returns
-unfolding copy
+unfolding renewal
 returns c =
     let a = c .before .before .before .before .before .args in
     rw (write-fat-turns (a .l) (a .l .fat2) (fat1-of (a .l) (card-of (a .w .now))) (fat2-of (a .l) (card-of (a .w .now)))) (c .before .before .copy-fat .ensures)

@@ -1,0 +1,23 @@
+use native.Mathlib.Omega.{arith}
+use Rattle.model.specs.Sector.{card-of}
+use Rattle.appending.proofs.Laws.{first-is-free}
+use borrow.Author.Needs.{needs}
+use Rattle.appending.proofs.first_new.Statement.{statement}
+use Rattle.appending.proofs.first_new.Tie as tie
+use Rattle.appending.proofs.first_new.Reads as reads
+use Rattle.appending.proofs.first_new.Lts as lts
+use Rattle.chain.proofs.next_free.Reads as next-free-reads
+
+returns : tie.Need-returns
+returns c = search needs
+
+next-free-requires : tie.Need-next-free-requires
+next-free-requires c κs = search needs
+
+returns-2 : tie.Need-returns-2
+returns-2 c =
+    let a = c .before .before .before .args in
+    first-is-free (a .l) (card-of (a .w .now)) (a .n) (c .next-free .result) (omega arith) (c .before .before .before .pre .1) (c .next-free .ensures .0)
+
+pub first-new-spec : {M : Type 1} → statement M
+first-new-spec = tie.close (tie.spec returns next-free-requires returns-2)
