@@ -42,7 +42,7 @@ use Rattle.extent.proofs.Apart.{append-inside, append-off-log}
 use Rattle.operate.specs.Steps.{log-steps}
 use Rattle.operate.proofs.Laws.{operate-is}
 use Rattle.appending.specs.Append.{append-to, append-on, chain-stores, first-of}
-use Rattle.appending.proofs.Same.{free-kept, grown-kept}
+use Rattle.allocate.proofs.Kept.{free-kept, grown-kept}
 
 -- ---- grounds
 

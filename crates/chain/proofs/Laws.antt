@@ -1,6 +1,5 @@
--- Tests of FAT values by their class, and the clusters that a size needs.
-use Prim.Native.Nat.{ℕ, _+_, _-_, _*_, _/_, _≤_, _<_}
-use native.Mathlib.Nat.{add-div-right, div-le-self, div-eq-of-lt}
+-- Tests of FAT values by their class.
+use Prim.Native.Nat.{ℕ, _+_, _≤_}
 use native.Mathlib.Omega.{arith}
 use mathlib.Core.Path.{_≡_, refl, sym, ap, _∙_}
 use mathlib.Core.Logic.{⊎-elim}
@@ -12,7 +11,6 @@ use denote.Enum.Declared.{tagOf}
 use types.Run.{OneOf}
 use Rattle.model.specs.Bytes.{pick}
 use Rattle.model.specs.Fat.{class, is-reserved, in-range, is-end}
-use Rattle.model.specs.Chain.{cluster-bytes, needed}
 use Rattle.model.specs.declared.Layout.{Layout}
 use Rattle.model.specs.declared.Class.{Class}
 use Rattle.model.specs.declared.Class.the-variants.{Free, Next, Reserved, Bad, End, Other}
@@ -94,22 +92,3 @@ end-closes l v few = ⊎-elim yes no (told (is-end v))
 
     no : is-end v ≡ false → is-end v ≡ closes (class l v)
     no e = rw e (sym (go (eqb v 0) (in-range l v) (is-reserved v) (eqb v 0xFFF7)))
-
--- The clusters that some bytes need, without a sum that could be too large.
-module _ (l : Layout) (low : 1 ≤ l .factor) where
-  pub needed-none : needed l 0 ≡ 0
-  unfolding needed cluster-bytes
-  needed-none =
-      let s : 0 + (512 * l .factor - 1) ≡ 512 * l .factor - 1 = omega arith in
-      let less : 512 * l .factor - 1 < 512 * l .factor = omega arith in
-      ap (λ m. m / (512 * l .factor)) s ∙ div-eq-of-lt less
-
-  pub needed-some : (size : ℕ) → 1 ≤ size → needed l size ≡ (size - 1) / (512 * l .factor) + 1
-  unfolding needed cluster-bytes
-  needed-some size h =
-      let s : size + (512 * l .factor - 1) ≡ size - 1 + 512 * l .factor = omega arith in
-      ap (λ m. m / (512 * l .factor)) s ∙ add-div-right (size - 1) {k = 512 * l .factor} (omega arith)
-
-  -- It is no more than the bytes.
-  pub needed-le : (size : ℕ) → 1 ≤ size → (size - 1) / (512 * l .factor) + 1 ≤ size
-  needed-le size h = let d = div-le-self (size - 1) (512 * l .factor) in omega arith

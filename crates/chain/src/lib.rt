@@ -2,14 +2,13 @@
 use model::Class;
 use model::Layout;
 ghost use mathlib.Core.Path.{_≡_};
-ghost use mathlib.Core.Bool.{true};
-ghost use Prim.Native.Nat.{ℕ, _+_, _-_, _*_, _≤_, _<_};
-ghost use lib.ListN.{length, getD};
+ghost use Prim.Native.Nat.{_+_, _-_, _≤_};
+ghost use lib.ListN.{length};
 ghost use Rattle.model.specs.Scan.{first-from};
 ghost use Rattle.model.specs.Sector.{card-of};
 ghost use Rattle.model.specs.Fat.{fat1-of, entry, in-range, is-end, free-clusters};
-ghost use Rattle.model.specs.Chain.{needed, chain, ends-after, keeps-chain};
-ghost use Rattle.model.specs.Promises.{Held};
+ghost use Rattle.model.specs.Chain.{needed, ends-after, keeps-chain};
+ghost use Rattle.model.specs.Promises.{Fits, Held};
 ghost use Rattle.fat.specs.Located.{holds};
 
 // A cluster of the card.
@@ -37,18 +36,18 @@ pub fn is_end(l: Layout, v: u32) -> bool
 }
 
 // The clusters that a size needs.
-pub fn clusters_for(l: Layout, size: u64) -> u64
-    requires { ⌜ (1 ≤ l .factor) × (l .factor ≤ 64) ⌝ }
-    ensures { λ r. ⌜ (r ≡ needed l size) × (r ≤ size) ⌝ }
+pub fn clusters_for(l: Layout, size: u32) -> u32
+    requires { ⌜ Fits l ⌝ }
+    ensures { λ r. ⌜ r ≡ needed l size ⌝ }
 {
     if size == 0 {
         return 0;
     }
-    (size - 1) / (512 * sector::wider(l.factor)) + 1
+    (size - 1) / (512 * l.factor) + 1
 }
 
 // The n clusters from the first on are within range, and the last holds an end value.
-fn ends(w: &[u8], l: Layout, first: u32, n: u64) -> bool
+fn ends(w: &[u8], l: Layout, first: u32, n: u32) -> bool
     requires { ⌜ Held l (now w) ⌝ }
     ensures { λ r. ⌜ r ≡ ends-after l (entry (fat1-of l (card-of (now (w .entry))))) n first ⌝ }
 {
@@ -80,25 +79,11 @@ pub fn keeps(w: &[u8], l: Layout, first: u32, size: u32) -> bool
     if size == 0 {
         return first == 0;
     }
-    let n = clusters_for(l, sector::wider(size));
-    if sector::wider(l.clusters) < n {
+    let n = clusters_for(l, size);
+    if l.clusters < n {
         return false;
     }
     ends(w, l, first, n)
-}
-
-// Cluster q of a chain of n.
-pub fn cluster_at(w: &[u8], l: Layout, first: u32, n: u64, q: u64) -> u32
-    requires { ⌜ Held l (now w) × (q < n) × (ends-after l (entry (fat1-of l (card-of (now w)))) n first ≡ true) ⌝ }
-    ensures { λ r. ⌜ (r ≡ getD (chain (entry (fat1-of l (card-of (now (w .entry))))) n first) q 0) × (2 ≤ r) × (r ≤ l .clusters + 1) ⌝ }
-{
-    let mut k = first;
-    let mut left = q;
-    while 0 < left {
-        k = fat::entry_at(w, l.fat1, k);
-        left -= 1;
-    }
-    k
 }
 
 // How many clusters are free.

@@ -27,7 +27,7 @@ pub fn added_clusters(l: Layout, f: File, n: usize) -> usize
     ensures { λ r. ⌜ r ≡ added l f n ⌝ }
 {
     let bytes = 512 * sector::index(l.factor);
-    let spare = sector::index(file::clusters_for(l, f.size)) * bytes - sector::index(f.size);
+    let spare = sector::index(chain::clusters_for(l, f.size)) * bytes - sector::index(f.size);
     if n <= spare {
         return 0;
     }
@@ -112,7 +112,7 @@ pub fn append_data(w: &mut [u8], l: Layout, f: File, last: u32, new: &[u8], limi
     let end = sectors_for(sector::index(f.size) + new.len());
     let mut p = Cursor {
         cluster: last,
-        passed: file::clusters_for(l, f.size),
+        passed: chain::clusters_for(l, f.size),
         from: 2,
     };
     let mut q = f.size / 512;

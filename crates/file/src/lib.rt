@@ -7,7 +7,7 @@ ghost use lib.ListN.{length, getD};
 ghost use Rattle.model.specs.Bytes.{bytes-of, overlay, part};
 ghost use Rattle.model.specs.Sector.{card-of};
 ghost use Rattle.model.specs.Fat.{fat1-of, entry};
-ghost use Rattle.model.specs.Chain.{needed, cluster-sector};
+ghost use Rattle.model.specs.Chain.{cluster-sector};
 ghost use Rattle.model.specs.Promises.{Fits, Held};
 ghost use Rattle.operations.specs.Plan.{clusters-of, last-cluster};
 ghost use Rattle.operations.specs.Reading.{reading};
@@ -35,17 +35,6 @@ pub fn copy(out: &mut [u8], at: usize, src: &[u8], from: usize, n: usize)
     }
 }
 
-// The clusters that a size needs.
-pub fn clusters_for(l: Layout, size: u32) -> u32
-    requires { ⌜ Fits l ⌝ }
-    ensures { λ r. ⌜ r ≡ needed l size ⌝ }
-{
-    if size == 0 {
-        return 0;
-    }
-    (size - 1) / (512 * l.factor) + 1
-}
-
 // The cluster n links after k. Every entry that a link can name lies in the window.
 pub fn follow(w: &[u8], l: Layout, k: u32, n: u32) -> u32
     requires { ⌜ Held l (now w) × (k < 65536) ⌝ }
@@ -68,7 +57,7 @@ pub fn last_cluster(w: &[u8], l: Layout, f: File) -> u32
     if f.size == 0 {
         return 0;
     }
-    follow(w, l, f.first, clusters_for(l, f.size) - 1)
+    follow(w, l, f.first, chain::clusters_for(l, f.size) - 1)
 }
 
 // The sector of a file's 512 bytes number q, in cluster k.

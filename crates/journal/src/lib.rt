@@ -1,4 +1,4 @@
-// The log: the scan for pending records, the group that they make, and the next unused sector.
+// The log: the scan for pending records, and the group that they make.
 use model::Area;
 use model::Layout;
 use model::Pending;
@@ -9,7 +9,6 @@ ghost use Rattle.model.specs.Sector.{card-of};
 ghost use Rattle.model.specs.Scan.{first-from};
 ghost use Rattle.model.specs.Promises.{Held};
 ghost use Rattle.model.specs.Root.{end-slot, first-bytes};
-ghost use Rattle.model.specs.Log.{log-of, unused};
 ghost use Rattle.model.specs.Pending.{pending-at, first-pending, alone, pending-in, pending};
 ghost use Rattle.journal.specs.Place.{Lent, place-of, judged};
 
@@ -117,20 +116,4 @@ pub fn pending_of(w: &[u8], l: Layout, a: Area, z: u32) -> Pending
     let from = 512 * sector::index(a.sector);
     let end = from + 512 * sector::index(a.sectors);
     pending_in(&w[from..end], l.entries, z, a)
-}
-
-// The lowest sector of the log whose first byte is 0, counted from its first; the number of sectors where there is none.
-pub fn unused_of(w: &[u8], a: Area) -> u32
-    requires { ⌜ (512 * (a .sector + a .sectors) ≤ length (now w)) × (a .sector + a .sectors < 4294967296) ⌝ }
-    ensures { λ r. ⌜ (r ≡ unused (a .sectors) (log-of a (card-of (now (w .entry))))) × (r ≤ a .sectors) ⌝ }
-{
-    let n = a.sectors;
-    let mut s = 0;
-    while s < n {
-        if sector::byte(w, a.sector + s, 0) == 0 {
-            return s;
-        }
-        s += 1;
-    }
-    n
 }

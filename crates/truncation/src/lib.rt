@@ -66,7 +66,7 @@ fn delete_file(w: &mut [u8], v: Volume, f: File, limit: u32) -> Progress
     let c = Cut {
         kept: 0,
         from: f.first,
-        freed: file::clusters_for(l, f.size),
+        freed: chain::clusters_for(l, f.size),
     };
     let entry = f.entry;
     let o = Operation::Delete {
@@ -104,8 +104,8 @@ fn cut_at(w: &[u8], l: Layout, f: File, size: u32) -> Cut
     requires { ⌜ Held l (now w) × files.Proper l (card-of (now w)) f × (size ≤ f .size) ⌝ }
     ensures { λ r. ⌜ Parts l (fat1-of l (card-of (now (w .entry)))) f size r ⌝ }
 {
-    let m = file::clusters_for(l, f.size);
-    let n = file::clusters_for(l, size);
+    let m = chain::clusters_for(l, f.size);
+    let n = chain::clusters_for(l, size);
     if n == m {
         return Cut {
             kept: 0,

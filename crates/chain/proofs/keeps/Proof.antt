@@ -1,4 +1,4 @@
-use mathlib.Core.Path.{sym, ap, _∙_}
+use mathlib.Core.Path.{sym}
 use Prim.Native.Nat.{_<_}
 use native.Mathlib.Omega.{arith}
 use borrow.Author.Tests.{eq-eqb, ne-eqb}
@@ -14,22 +14,16 @@ returns : tie.Need-returns
 unfolding keeps-chain
 returns c = rw (eq-eqb _ _ (c .if1 .taken))
 
-wider-requires : tie.Need-wider-requires
-wider-requires c κs = search needs
-
 clusters-for-requires : tie.Need-clusters-for-requires
 clusters-for-requires c κs = search needs
-
-wider-requires-2 : tie.Need-wider-requires-2
-wider-requires-2 c κs = search needs
 
 returns-2 : tie.Need-returns-2
 unfolding keeps-chain
 returns-2 c =
-    let a = c .before .before .before .before .before .before .args in
-    let n = c .before .before .clusters-for .ensures .0 ∙ ap (needed (a .l)) (c .before .before .before .wider .ensures) in
+    let a = c .before .before .before .before .before .args in
+    let n = c .before .before .clusters-for .ensures in
     let more : a .l .clusters < needed (a .l) (a .size) = omega (arith, n) in
-    rw (ne-eqb _ _ (c .before .before .before .before .if1 .left)) (sym (ends-many (a .l) (omega arith) (entry (fat1-of (a .l) (card-of (a .w .now)))) (needed (a .l) (a .size)) (a .first) more))
+    rw (ne-eqb _ _ (c .before .before .before .if1 .left)) (sym (ends-many (a .l) (omega arith) (entry (fat1-of (a .l) (card-of (a .w .now)))) (needed (a .l) (a .size)) (a .first) more))
 
 ends-requires : tie.Need-ends-requires
 ends-requires c κs = search needs
@@ -37,18 +31,14 @@ ends-requires c κs = search needs
 returns-3 : tie.Need-returns-3
 unfolding keeps-chain
 returns-3 c =
-    let a = c .before .before .before .before .before .before .before .args in
-    let n = c .before .before .before .clusters-for .ensures .0 ∙ ap (needed (a .l)) (c .before .before .before .before .wider .ensures) in
-    rw (ne-eqb _ _ (c .before .before .before .before .before .if1 .left), ← n) (c .ends .ensures)
+    rw (ne-eqb _ _ (c .before .before .before .before .if1 .left), ← c .before .before .before .clusters-for .ensures) (c .ends .ensures)
 
 pub keeps-spec : {M : Type 1} → statement M
 keeps-spec =
     tie.close
     (tie.spec
     returns
-    wider-requires
     clusters-for-requires
-    wider-requires-2
     returns-2
     ends-requires
     returns-3)

@@ -8,7 +8,7 @@ use Rattle.extent.proofs.added_clusters.Statement.{statement}
 use Rattle.extent.proofs.added_clusters.Tie as tie
 use Rattle.extent.proofs.added_clusters.Reads as reads
 use Rattle.extent.proofs.added_clusters.Lts as lts
-use Rattle.file.proofs.clusters_for.Reads as clusters-for-reads
+use Rattle.chain.proofs.clusters_for.Reads as clusters-for-reads
 use Rattle.sector.proofs.index.Reads as index-reads
 
 index-requires : tie.Need-index-requires

@@ -13,7 +13,7 @@ use Rattle.extent.proofs.append_data.Lts as lts
 use Rattle.extent.proofs.advance.Reads as advance-reads
 use Rattle.extent.proofs.append_sector.Reads as append-sector-reads
 use Rattle.extent.proofs.sectors_for.Reads as sectors-for-reads
-use Rattle.file.proofs.clusters_for.Reads as clusters-for-reads
+use Rattle.chain.proofs.clusters_for.Reads as clusters-for-reads
 use Rattle.file.proofs.sector_in.Reads as sector-in-reads
 use Rattle.sector.proofs.index.Reads as index-reads
 

@@ -12,7 +12,7 @@ use Rattle.file.proofs.last_cluster.Statement.{statement}
 use Rattle.file.proofs.last_cluster.Tie as tie
 use Rattle.file.proofs.last_cluster.Reads as reads
 use Rattle.file.proofs.last_cluster.Lts as lts
-use Rattle.file.proofs.clusters_for.Reads as clusters-for-reads
+use Rattle.chain.proofs.clusters_for.Reads as clusters-for-reads
 use Rattle.file.proofs.follow.Reads as follow-reads
 
 returns : tie.Need-returns

@@ -12,7 +12,7 @@ use Rattle.truncation.proofs.cut_at.Tie as tie
 use Rattle.truncation.proofs.cut_at.Reads as reads
 use Rattle.truncation.proofs.cut_at.Lts as lts
 use Rattle.fat.proofs.entry_at.Reads as entry-at-reads
-use Rattle.file.proofs.clusters_for.Reads as clusters-for-reads
+use Rattle.chain.proofs.clusters_for.Reads as clusters-for-reads
 use Rattle.file.proofs.follow.Reads as follow-reads
 
 clusters-for-requires : tie.Need-clusters-for-requires

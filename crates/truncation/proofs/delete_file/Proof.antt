@@ -6,7 +6,7 @@ use Rattle.truncation.proofs.delete_file.Statement.{statement}
 use Rattle.truncation.proofs.delete_file.Tie as tie
 use Rattle.truncation.proofs.delete_file.Reads as reads
 use Rattle.truncation.proofs.delete_file.Lts as lts
-use Rattle.file.proofs.clusters_for.Reads as clusters-for-reads
+use Rattle.chain.proofs.clusters_for.Reads as clusters-for-reads
 use Rattle.truncation.proofs.shorten.Reads as shorten-reads
 
 clusters-for-requires : tie.Need-clusters-for-requires
