@@ -26,23 +26,27 @@ const GROUNDS: [(Refusal, &str, &str); 15] = [
     (
         Refusal::Short,
         "SHORT",
-        "the window has fewer than 512 bytes",
+        "there are fewer than 512 bytes, less than a boot sector",
     ),
-    (Refusal::Boot, "BOOT", "the boot sector breaks a rule"),
+    (
+        Refusal::Boot,
+        "BOOT",
+        "the boot sector is not that of a FAT16 card that is covered",
+    ),
     (
         Refusal::Window,
         "WINDOW",
-        "the window has fewer bytes than the card",
+        "there are fewer bytes than the card has",
     ),
     (
         Refusal::Logarea,
         "LOGAREA",
-        "FAT1 has no log, more than one, or one that is too long",
+        "FAT1 has no log, more than one, or one of over 128 sectors",
     ),
     (
         Refusal::Root,
         "ROOT",
-        "a root slot after a free one is in use",
+        "a root slot after the first unused one is in use",
     ),
     (
         Refusal::Record,
@@ -52,12 +56,12 @@ const GROUNDS: [(Refusal, &str, &str); 15] = [
     (
         Refusal::Unclean,
         "UNCLEAN",
-        "a group is pending or the FATs differ; recover the card first",
+        "a log record is pending or the FATs differ",
     ),
     (
         Refusal::Name,
         "NAME",
-        "the name is not 8 and 3 bytes of a short name",
+        "the name breaks the rule for names of 8 and 3 characters",
     ),
     (Refusal::Absent, "ABSENT", "no file has the name"),
     (
@@ -65,14 +69,22 @@ const GROUNDS: [(Refusal, &str, &str); 15] = [
         "DIRECTORY",
         "the name is that of a directory",
     ),
-    (Refusal::Exists, "EXISTS", "the new name is taken"),
+    (Refusal::Exists, "EXISTS", "the name is taken"),
     (
         Refusal::Rootfull,
         "ROOTFULL",
         "the root directory has no free slot",
     ),
-    (Refusal::Chain, "CHAIN", "the file breaks the chain rule"),
-    (Refusal::Length, "LENGTH", "the file is shorter than that"),
+    (
+        Refusal::Chain,
+        "CHAIN",
+        "the file's clusters do not fit its size",
+    ),
+    (
+        Refusal::Length,
+        "LENGTH",
+        "the file is shorter than the size asked for",
+    ),
     (
         Refusal::Nospace,
         "NOSPACE",

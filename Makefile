@@ -1,0 +1,44 @@
+# Shortcuts. The gate is .ci/run; rt proves and builds the library, cargo and gcc what stands around it.
+
+LIBRARY := target/staticlib/liblfat.a
+LFAT := target/host/release/lfat
+LOADER := target/loader
+CARD := target/run/card.img
+PROVED := crates.txt $(shell find crates -name '*.rt' -o -name '*.antt')
+
+export PATH := $(PATH):$(HOME)/.cargo/bin
+
+.PHONY: help lfat run loader test clean
+
+help:
+	@echo 'make run     make a card, save a path, pull the plug at every store, recover, print the table'
+	@echo 'make lfat    build the command line, $(LFAT)'
+	@echo 'make loader  build examples/loader.c, $(LOADER)'
+	@echo 'make test    the gate, .ci/run: proves everything from nothing (half an hour or more)'
+	@echo 'make clean   remove what cargo, gcc and make run have made; proofs and library stay'
+
+# rt proves only what has changed; from nothing it takes a while.
+$(LIBRARY): $(PROVED)
+	rt staticlib lfat
+	touch $@
+
+lfat: $(LIBRARY)
+	cargo build --release --offline --manifest-path host/Cargo.toml --package lfat --target-dir target/host
+
+run: lfat
+	rm -rf $(dir $(CARD))
+	mkdir -p $(dir $(CARD))
+	$(LFAT) blank $(CARD)
+	$(LFAT) put $(CARD) ROUTE.CUT examples/route.cut
+	$(LFAT) ls $(CARD)
+	$(LFAT) rack $(CARD) put PANEL.CUT examples/route.cut --svg $(dir $(CARD))cuts.svg
+	@echo 'The cuts as a picture: $(dir $(CARD))cuts.svg'
+
+loader: $(LIBRARY)
+	gcc -std=c99 -Wall -Wextra -Wpedantic -Werror -O2 -I include examples/loader.c $(LIBRARY) -o $(LOADER)
+
+test:
+	.ci/run
+
+clean:
+	rm -rf target/host target/run $(LOADER)

@@ -1,0 +1,158 @@
+//! Cards to measure on.
+
+use reference::CardSpec;
+
+pub const NAME: &[u8; 11] = b"ROUTE   CUT";
+/// Sectors of the log.
+pub const LOG_SECTORS: usize = 64;
+const ROOT_ENTRIES: usize = 512;
+
+/// How large a card is.
+#[derive(Clone, Copy)]
+pub struct Shape {
+    pub clusters: u32,
+    pub sectors_per_cluster: u8,
+}
+
+/// Where files and free clusters lie.
+#[derive(Clone, Copy, PartialEq)]
+pub enum Layout {
+    /// In consecutive clusters.
+    OnePiece,
+    /// Spread over the whole card; files in mixed order.
+    Scattered,
+}
+
+pub struct Card {
+    shape: Shape,
+    pub bytes: Vec<u8>,
+}
+
+impl Card {
+    pub fn empty(shape: Shape) -> Card {
+        let log_clusters = LOG_SECTORS as u16 / u16::from(shape.sectors_per_cluster);
+        let spec = CardSpec {
+            sectors_per_cluster: shape.sectors_per_cluster,
+            sectors_per_fat: shape.fat_sectors() as u16,
+            total_sectors: shape.data() as u32
+                + shape.clusters * u32::from(shape.sectors_per_cluster),
+            root_entries: ROOT_ENTRIES as u16,
+            log_clusters,
+            use_32bit_total: true,
+            ..CardSpec::K
+        };
+        Card {
+            bytes: spec.build(),
+            shape,
+        }
+    }
+
+    /// A card with one file.
+    pub fn with_file(shape: Shape, layout: Layout, size: usize) -> Card {
+        let mut card = Card::empty(shape);
+        let chain = match layout {
+            Layout::OnePiece => {
+                let first = card.first_free();
+                (first..first + shape.clusters_of(size)).collect()
+            }
+            Layout::Scattered => mixed(card.spread(shape.clusters_of(size))),
+        };
+        card.put_file(&chain, size);
+        card
+    }
+
+    /// A card with an empty file and room for so many bytes.
+    pub fn with_room(shape: Shape, layout: Layout, size: usize) -> Card {
+        let mut card = Card::with_file(shape, layout, 0);
+        if layout == Layout::Scattered {
+            let free = card.spread(shape.clusters_of(size));
+            for cluster in card.first_free()..shape.clusters as usize + 2 {
+                card.set(cluster, 0xFFF7);
+            }
+            for cluster in free {
+                card.set(cluster, 0);
+            }
+        }
+        card
+    }
+
+    /// A card whose root directory is full of empty files.
+    pub fn with_full_root(shape: Shape) -> Card {
+        let mut card = Card::empty(shape);
+        for slot in 0..ROOT_ENTRIES {
+            let name = format!("F{slot:07}CUT");
+            let at = shape.root() * 512 + slot * 32;
+            card.bytes[at..at + 11].copy_from_slice(name.as_bytes());
+        }
+        card
+    }
+
+    fn put_file(&mut self, chain: &[usize], size: usize) {
+        let cluster_bytes = 512 * usize::from(self.shape.sectors_per_cluster);
+        for (index, &cluster) in chain.iter().enumerate() {
+            let next = chain.get(index + 1).map_or(0xFFFF, |&next| next as u16);
+            self.set(cluster, next);
+            let at = 512 * self.shape.data() + (cluster - 2) * cluster_bytes;
+            self.bytes[at..at + cluster_bytes].fill(cluster as u8);
+        }
+        let first = chain.first().map_or(0, |&first| first as u16);
+        let slot = &mut self.bytes[self.shape.root() * 512..][..32];
+        slot[..11].copy_from_slice(NAME);
+        slot[26..28].copy_from_slice(&first.to_le_bytes());
+        slot[28..].copy_from_slice(&(size as u32).to_le_bytes());
+    }
+
+    fn set(&mut self, cluster: usize, value: u16) {
+        let fat_bytes = 512 * self.shape.fat_sectors();
+        for fat in [512, 512 + fat_bytes] {
+            self.bytes[fat + 2 * cluster..][..2].copy_from_slice(&value.to_le_bytes());
+        }
+    }
+
+    /// The lowest cluster after the log.
+    fn first_free(&self) -> usize {
+        2 + LOG_SECTORS / usize::from(self.shape.sectors_per_cluster)
+    }
+
+    /// So many clusters, evenly over the card.
+    fn spread(&self, count: usize) -> Vec<usize> {
+        let first = self.first_free();
+        let room = self.shape.clusters as usize + 2 - first;
+        (0..count)
+            .map(|index| first + index * room / count)
+            .collect()
+    }
+
+    pub fn fats(&self) -> (&[u8], &[u8]) {
+        let bytes = 512 * self.shape.fat_sectors();
+        self.bytes[512..512 + 2 * bytes].split_at(bytes)
+    }
+}
+
+impl Shape {
+    pub fn fat_sectors(self) -> usize {
+        (self.clusters as usize + 2).div_ceil(256)
+    }
+
+    fn root(self) -> usize {
+        1 + 2 * self.fat_sectors()
+    }
+
+    /// The first sector of the data, where the log is too.
+    pub fn data(self) -> usize {
+        self.root() + ROOT_ENTRIES / 16
+    }
+
+    fn clusters_of(self, size: usize) -> usize {
+        size.div_ceil(512 * usize::from(self.sectors_per_cluster))
+    }
+}
+
+/// The same clusters in another order. Their number is a power of two, so an odd step meets each once.
+fn mixed(clusters: Vec<usize>) -> Vec<usize> {
+    let count = clusters.len();
+    assert!(count == 0 || count.is_power_of_two());
+    (0..count)
+        .map(|index| clusters[index * 7_919 % count])
+        .collect()
+}

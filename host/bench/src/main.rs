@@ -1,0 +1,26 @@
+//! Prints docs/BENCH.md: each call of the library against the independent Rust implementation, on the same input.
+//!
+//! `cargo run --release --offline -p bench > ../docs/BENCH.md` in `host`, after `rt staticlib lfat`.
+
+mod cards;
+mod cost;
+mod machine;
+mod speed;
+mod timing;
+
+// A call on either implementation, as the tests have it.
+#[allow(dead_code)]
+#[path = "../../lfat-card/tests/library/support/call.rs"]
+mod call;
+
+fn main() {
+    println!("# Speed and write cost\n");
+    println!(
+        "Printed by `cargo run --release --offline -p bench` in `host`, after `rt staticlib lfat`. The library is compared with the\n\
+         plain Rust implementation `host/reference`: same machine, same card, both built for release, runs by turns. Before each run\n\
+         of a writing call the card is put back; that is not timed.\n"
+    );
+    println!("{}\n", machine::description());
+    speed::print();
+    cost::print();
+}

@@ -1,0 +1,183 @@
+//! The tables of times.
+
+use crate::call::Call;
+use crate::cards::{Card, Layout, Shape, LOG_SECTORS, NAME};
+use crate::timing::{compare, time, Times};
+use reference::{plan, run, Operation};
+use std::hint::black_box;
+
+const SHAPES: [Shape; 4] = [
+    Shape {
+        clusters: 4_085,
+        sectors_per_cluster: 1,
+    },
+    Shape {
+        clusters: 4_085,
+        sectors_per_cluster: 64,
+    },
+    Shape {
+        clusters: 65_524,
+        sectors_per_cluster: 1,
+    },
+    Shape {
+        clusters: 65_524,
+        sectors_per_cluster: 64,
+    },
+];
+const SIZES: [(usize, &str); 3] = [(4_096, "4 KiB"), (65_536, "64 KiB"), (1_048_576, "1 MiB")];
+const LAYOUTS: [(Layout, &str); 2] = [
+    (Layout::OnePiece, "one piece"),
+    (Layout::Scattered, "scattered"),
+];
+
+/// Makes the card for a call, and the call.
+type Setup = Box<dyn Fn(Shape) -> (Card, Call)>;
+
+pub fn print() {
+    println!("## Each call\n");
+    println!(
+        "A cell is library / plain = ratio of medians, in microseconds. Columns are clusters × sectors per cluster. *One piece*: the\n\
+         file, or the room for it, lies in consecutive clusters; *scattered*: spread over the whole card, files in mixed order.\n"
+    );
+    println!("| call | 4,085 × 1 | 4,085 × 64 | 65,524 × 1 | 65,524 × 64 |");
+    println!("|---|---|---|---|---|");
+    let mut ratios = Vec::new();
+    for (what, setup) in rows() {
+        print!("| {what} |");
+        for shape in SHAPES {
+            let (mut card, call) = setup(shape);
+            let times = compare(&mut card.bytes, &call);
+            print!(" {} |", cell(&times));
+            ratios.push(times.ratio());
+        }
+        println!();
+    }
+    ratios.sort_by(f64::total_cmp);
+    println!(
+        "\nRatios: median {:.2}, lowest {:.2}, highest {:.2}.\n",
+        ratios[ratios.len() / 2],
+        ratios[0],
+        ratios[ratios.len() - 1]
+    );
+    clean_check();
+}
+
+fn cell(times: &Times) -> String {
+    format!(
+        "{:.1} / {:.1} = {:.2}",
+        times.library,
+        times.plain,
+        times.ratio()
+    )
+}
+
+fn rows() -> Vec<(String, Setup)> {
+    let mut rows: Vec<(String, Setup)> = Vec::new();
+    let mut row = |what: String, setup: Setup| rows.push((what, setup));
+    let name = || NAME.to_vec();
+    row(
+        "list, empty root".into(),
+        Box::new(|shape| (Card::empty(shape), Call::List(0))),
+    );
+    row(
+        "list, 512 entries".into(),
+        Box::new(|shape| (Card::with_full_root(shape), Call::List(512 * 32))),
+    );
+    row(
+        "create".into(),
+        Box::new(move |shape| (Card::empty(shape), Call::Create(name()))),
+    );
+    row(
+        "rename".into(),
+        Box::new(move |shape| {
+            let card = Card::with_file(shape, Layout::OnePiece, 4_096);
+            (card, Call::Rename(name(), b"PANEL   CUT".to_vec()))
+        }),
+    );
+    row(
+        "recover, nothing to do".into(),
+        Box::new(|shape| (Card::empty(shape), Call::Recover)),
+    );
+    for (size, size_text) in SIZES {
+        for (layout, layout_text) in LAYOUTS {
+            let text = |call: &str| format!("{call} {size_text}, {layout_text}");
+            let data = vec![7; size];
+            row(
+                text("append"),
+                Box::new(move |shape| {
+                    let card = Card::with_room(shape, layout, size);
+                    (card, Call::Append(name(), data.clone()))
+                }),
+            );
+            row(
+                text("read"),
+                Box::new(move |shape| {
+                    let card = Card::with_file(shape, layout, size);
+                    (card, Call::Read(name(), 0, size))
+                }),
+            );
+            row(
+                text("truncate to 1 byte,"),
+                Box::new(move |shape| {
+                    let card = Card::with_file(shape, layout, size);
+                    (card, Call::Truncate(name(), 1))
+                }),
+            );
+            row(
+                text("delete"),
+                Box::new(move |shape| {
+                    let card = Card::with_file(shape, layout, size);
+                    (card, Call::Delete(name()))
+                }),
+            );
+            row(
+                text("recover an append of"),
+                Box::new(move |shape| (cut_append(shape, layout, size), Call::Recover)),
+            );
+        }
+    }
+    rows
+}
+
+/// A card on which an append was cut after the store of its group.
+fn cut_append(shape: Shape, layout: Layout, size: usize) -> Card {
+    let mut card = Card::with_room(shape, layout, size);
+    let data = vec![7; size];
+    let append = Operation::Append {
+        name: NAME,
+        data: &data,
+    };
+    let log = shape.data()..shape.data() + LOG_SECTORS;
+    let stores = plan(&card.bytes, &append).expect("accepted");
+    let group = stores.iter().position(|store| log.contains(&store.sector));
+    run(&mut card.bytes, &append, group.expect("a group") as u32 + 1);
+    card
+}
+
+fn clean_check() {
+    println!("## The clean check\n");
+    println!(
+        "List on an empty root directory asks every ground of the card; its time is set against one memcmp of the two FATs, the least\n\
+         that any check could do. In microseconds.\n"
+    );
+    println!("| clusters | bytes of a FAT | library | memcmp | ratio |");
+    println!("|---|---|---|---|---|");
+    for clusters in [4_085, 16_384, 65_524] {
+        let shape = Shape {
+            clusters,
+            sectors_per_cluster: 1,
+        };
+        let card = Card::empty(shape);
+        let library = time(|| {
+            black_box(lfat_card::calls::list(black_box(&card.bytes), &mut []));
+        });
+        let memcmp = time(|| {
+            let (fat1, fat2) = black_box(card.fats());
+            black_box(fat1 == fat2);
+        });
+        let bytes = 512 * shape.fat_sectors();
+        let ratio = library / memcmp;
+        println!("| {clusters} | {bytes} | {library:.1} | {memcmp:.1} | {ratio:.1} |");
+    }
+    println!();
+}

@@ -1,0 +1,39 @@
+//! Entries of the root directory.
+
+use crate::name;
+
+/// The bytes of an entry.
+pub const ENTRY_BYTES: usize = 32;
+
+const DIRECTORY: u8 = 0x10;
+
+/// One file or directory, with its bytes as on the card.
+#[derive(Clone, Copy, Debug, PartialEq, Eq)]
+pub struct Entry(pub [u8; ENTRY_BYTES]);
+
+impl Entry {
+    /// The name as text. It need not keep the name rule: other systems write other names.
+    pub fn name(&self) -> String {
+        name::printed(self.name_bytes())
+    }
+
+    pub fn name_bytes(&self) -> &[u8] {
+        &self.0[..11]
+    }
+
+    pub fn attributes(&self) -> u8 {
+        self.0[11]
+    }
+
+    pub fn is_directory(&self) -> bool {
+        self.attributes() & DIRECTORY != 0
+    }
+
+    pub fn first_cluster(&self) -> u16 {
+        u16::from_le_bytes([self.0[26], self.0[27]])
+    }
+
+    pub fn size(&self) -> u32 {
+        u32::from_le_bytes([self.0[28], self.0[29], self.0[30], self.0[31]])
+    }
+}

@@ -1,0 +1,199 @@
+//! Debian's dosfstools and mtools on the same cards as the library: either reads what the other has written, byte for byte, and
+//! fsck.fat finds nothing. The packages dosfstools and mtools must be there. `support::image` has how the cards are made.
+//! `LFAT_CASES=N` makes N times as many steps.
+
+use crate::support::image::Image;
+use crate::support::random::Random;
+use crate::support::{cases, ALL};
+use lfat_card::calls::{self, Answer};
+use lfat_card::Refusal;
+use std::collections::BTreeMap;
+
+/// Names and bytes that the card should hold.
+type Files = BTreeMap<[u8; 11], Vec<u8>>;
+
+const NAMES: [&[u8; 11]; 8] = [
+    b"ROUTE   CUT",
+    b"PANEL_1 CUT",
+    b"A          ",
+    b"HULL#7  P  ",
+    b"!$%&()-@1  ",
+    b"^_`{}~  999",
+    b"STEM-PLYCUT",
+    b"0       1  ",
+];
+
+/// The name as people write it.
+fn dotted(name: &[u8; 11]) -> String {
+    let (base, extension) = name.split_at(8);
+    let text = |part: &[u8]| String::from_utf8_lossy(part).trim_end().to_string();
+    match text(extension).as_str() {
+        "" => text(base),
+        extension => format!("{}.{extension}", text(base)),
+    }
+}
+
+/// Both the library and mtools find exactly these files, byte for byte.
+fn assert_holds(image: &Image, files: &Files) {
+    let names: Vec<String> = files.keys().map(dotted).collect();
+    let mut sorted = names.clone();
+    sorted.sort();
+    assert_eq!(image.listed(), sorted);
+    let count = calls::list(&image.card, &mut []);
+    assert_eq!(count, Answer::Done(files.len() as u32));
+    for ((name, bytes), dotted) in files.iter().zip(names) {
+        let mut buffer = vec![0xA5; bytes.len() + 600];
+        let answer = calls::read(&image.card, name, 0, &mut buffer);
+        assert_eq!(answer, Answer::Done(bytes.len() as u32), "{dotted}");
+        assert!(buffer[..bytes.len()] == bytes[..], "{dotted}");
+        let typed = image.tool("mtype", &[&format!("::/{dotted}")]);
+        assert!(typed == *bytes, "mtype {dotted}");
+    }
+    image.check();
+}
+
+fn library_step(image: &mut Image, files: &mut Files, random: &mut Random) {
+    let (name, new) = (*random.pick(&NAMES), *random.pick(&NAMES));
+    let length = random.pick(&[0, 1, 511, 512, 513, 3_000, 20_000]);
+    let data = random.bytes(length);
+    let card = &mut image.card;
+    let size = files.get(&name).map_or(0, |bytes| bytes.len());
+    let smaller = random.below(size + 1);
+    let done = |answer| assert!(matches!(answer, Answer::Done(_)), "{answer:?}");
+    match (files.contains_key(&name), random.below(6)) {
+        (false, _) => {
+            done(calls::create(card, &name, ALL));
+            done(calls::append(card, &name, &data, ALL));
+            files.insert(name, data);
+        }
+        (true, 0..=2) => {
+            done(calls::append(card, &name, &data, ALL));
+            files.get_mut(&name).expect("there").extend(data);
+        }
+        (true, 3) => {
+            done(calls::truncate(card, &name, smaller as u32, ALL));
+            files.get_mut(&name).expect("there").truncate(smaller);
+        }
+        (true, 4) if !files.contains_key(&new) => {
+            done(calls::rename(card, &name, &new, ALL));
+            let bytes = files.remove(&name).expect("there");
+            files.insert(new, bytes);
+        }
+        (true, _) => {
+            done(calls::delete(card, &name, ALL));
+            files.remove(&name);
+        }
+    }
+    image.save();
+}
+
+fn tools_step(image: &mut Image, files: &mut Files, random: &mut Random) {
+    let name = *random.pick(&NAMES);
+    let path = format!("::/{}", dotted(&name));
+    if files.contains_key(&name) && random.one_in(3) {
+        image.tool("mdel", &[&path]);
+        files.remove(&name);
+    } else {
+        let length = random.pick(&[0, 1, 512, 5_000, 40_000]);
+        let data = random.bytes(length);
+        let source = image.file.with_extension("source");
+        std::fs::write(&source, &data).expect("the source");
+        image.tool(
+            "mcopy",
+            &["-o", source.to_str().expect("plain path"), &path],
+        );
+        std::fs::remove_file(source).expect("the source");
+        files.insert(name, data);
+    }
+    image.load();
+}
+
+/// Sectors per cluster, KiB and root entries of the cards: small, larger clusters, and nearly the most clusters.
+const SHAPES: [(usize, usize, usize); 4] = [
+    (1, 2_200, 512),
+    (4, 10_240, 112),
+    (16, 35_000, 512),
+    (1, 33_000, 512),
+];
+
+#[test]
+fn files_of_the_library() {
+    for (shape, (per_cluster, kib, entries)) in SHAPES.into_iter().enumerate() {
+        let mut random = Random::new(60_000 + shape as u64);
+        let mut image = Image::format("library.img", per_cluster, kib, entries);
+        let mut files = Files::new();
+        for _ in 0..cases(30) {
+            library_step(&mut image, &mut files, &mut random);
+        }
+        assert_holds(&image, &files);
+    }
+}
+
+#[test]
+fn files_of_mtools() {
+    for (shape, (per_cluster, kib, entries)) in SHAPES.into_iter().enumerate() {
+        let mut random = Random::new(61_000 + shape as u64);
+        let mut image = Image::format("mtools.img", per_cluster, kib, entries);
+        let mut files = Files::new();
+        for _ in 0..cases(20) {
+            tools_step(&mut image, &mut files, &mut random);
+        }
+        assert_holds(&image, &files);
+    }
+}
+
+/// Both by turns on one card.
+#[test]
+fn files_of_both() {
+    for seed in 0..cases(2) {
+        let mut random = Random::new(62_000 + seed);
+        let mut image = Image::format("both.img", 1, 2_200, 512);
+        let mut files = Files::new();
+        for _ in 0..40 {
+            library_step(&mut image, &mut files, &mut random);
+            tools_step(&mut image, &mut files, &mut random);
+        }
+        assert_holds(&image, &files);
+    }
+}
+
+/// A label, a directory and a long name, as other systems leave them.
+#[test]
+fn entries_of_other_systems() {
+    let mut image = Image::format("entries.img", 4, 10_240, 512);
+    let source = image.file.with_extension("source");
+    let path = source.to_str().expect("plain path");
+    let mut data = vec![5; 3_000];
+    std::fs::write(&source, &data).expect("the source");
+    image.tool("mmd", &["::/FOLDER"]);
+    image.tool("mcopy", &[path, "::/FOLDER/INSIDE.CUT"]);
+    image.tool("mcopy", &[path, "::/sheer panel, port.cut"]);
+    std::fs::remove_file(&source).expect("the source");
+    image.load();
+
+    let mut entries = [0; 96];
+    assert_eq!(calls::list(&image.card, &mut entries), Answer::Done(2));
+    assert_eq!(entries[..11], *b"FOLDER     ");
+    assert_eq!(entries[11], 0x10);
+    let alias = &entries[32..43];
+    assert_eq!(alias, b"SHEERP~1CUT");
+    let mut buffer = vec![0; 9_000];
+    let answer = calls::read(&image.card, alias, 0, &mut buffer);
+    assert_eq!(answer, Answer::Done(3_000));
+    assert!(buffer[..3_000] == data);
+    for (name, refusal) in [
+        (b"FOLDER     ", Refusal::Directory),
+        (b"WORKSHOP   ", Refusal::Absent),
+        (b"INSIDE  CUT", Refusal::Absent),
+    ] {
+        let answer = calls::delete(&mut image.card, name, ALL);
+        assert_eq!(answer, Answer::Refused(refusal));
+    }
+
+    let answer = calls::append(&mut image.card, alias, &[6; 5_000], ALL);
+    assert!(matches!(answer, Answer::Done(_)), "{answer:?}");
+    data.extend([6; 5_000]);
+    image.save();
+    assert!(image.tool("mtype", &["::/sheer panel, port.cut"]) == data);
+    image.check();
+}

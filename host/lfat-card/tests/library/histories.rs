@@ -1,0 +1,144 @@
+//! Random histories on small fragmented cards, with cuts and recoveries in between.
+//! `LFAT_CASES=N` runs N times as many.
+
+use crate::support::call::Call;
+use crate::support::cards::Card;
+use crate::support::coverage::{assert_seen, Seen};
+use crate::support::fixtures::furnished_card;
+use crate::support::random::Random;
+use crate::support::steps::{random_call, random_name, random_offset};
+use crate::support::twin::Twin;
+use crate::support::{cases, ALL, PANEL, ROUTE};
+use reference::{Answer, CardSpec, Ground};
+
+/// Things that a history can come across besides its answers.
+#[derive(Default)]
+struct Met {
+    clearing: bool,
+    fragments: bool,
+    falling_chain: bool,
+}
+
+impl Met {
+    fn look(&mut self, card: &Card) {
+        let unused = |sector: usize| card.bytes[sector * 512] == 0;
+        self.clearing |= !card.log().any(unused);
+        for slot in 0..usize::from(card.spec.root_entries) {
+            if [0, 0xE5].contains(&card.slot(slot)[0]) || card.slot(slot)[11] & 0x18 != 0 {
+                continue;
+            }
+            let chain = reference::file_chain(&card.bytes, slot).unwrap_or_default();
+            self.fragments |= chain.windows(2).any(|pair| pair[1] > pair[0] + 1);
+            self.falling_chain |= chain.windows(2).any(|pair| pair[1] < pair[0]);
+        }
+    }
+}
+
+/// Reads something, and recovers with every limit.
+fn read_and_recover(twin: &mut Twin, random: &mut Random) {
+    twin.call(&Call::List(random.below(200)), ALL);
+    let room = random.below(3_000);
+    let call = Call::Read(random_name(random), random_offset(random), room);
+    twin.call(&call, ALL);
+    twin.all_limits(&Call::Recover, |_| ());
+}
+
+fn history(seed: u64, met: &mut Met) -> Seen {
+    let mut random = Random::new(seed);
+    let mut twin = Twin::new(furnished_card(&mut random));
+    if random.one_in(3) {
+        let more = random.below(1_200);
+        let bytes = random.bytes(more);
+        twin.edit(|card| card.bytes.extend(bytes));
+    }
+    for _ in 0..50 {
+        let call = random_call(&mut random, &twin.card);
+        met.look(&twin.card);
+        if call.operation().is_some() && random.one_in(12) && twin.stores(&call) < 80 {
+            twin.all_limits(&call, |twin| {
+                twin.call(&Call::Recover, ALL);
+            });
+        }
+        if random.one_in(10) {
+            twin.call(&call, random.below(9) as u32);
+            let next = random_call(&mut random, &twin.card);
+            twin.call(&next, ALL);
+            read_and_recover(&mut twin, &mut random);
+            twin.done(&Call::Recover);
+        } else {
+            twin.call(&call, ALL);
+        }
+    }
+    twin.seen
+}
+
+#[test]
+fn random_histories() {
+    let mut seen = Seen::new();
+    let mut met = Met::default();
+    for seed in 0..cases(150) {
+        seen.extend(history(seed, &mut met));
+    }
+    assert_seen(&seen, |code| code == 0 || code >= 7);
+    assert!(met.clearing && met.fragments && met.falling_chain);
+}
+
+/// A card with the given number of free clusters, from the last ones down, every second one.
+fn card_with_free(clusters: u16) -> Card {
+    let mut card = Card::new(CardSpec {
+        sectors_per_cluster: 2,
+        total_sectors: 65 + 2 * 4_090,
+        ..CardSpec::K
+    });
+    card.fill();
+    let last = card.clusters() as u16 + 1;
+    for place in 0..clusters {
+        card.set_fats(last - 2 * place, 0);
+    }
+    card
+}
+
+#[test]
+fn last_free_clusters() {
+    for free in 0..4u16 {
+        for start in [0usize, 1, 1_023, 1_024] {
+            let mut twin = Twin::new(card_with_free(free + start.div_ceil(1_024) as u16));
+            twin.done(&Call::Create(ROUTE.to_vec()));
+            twin.done(&Call::Append(ROUTE.to_vec(), vec![1; start]));
+            let room = usize::from(free) * 1_024 + start.next_multiple_of(1_024) - start;
+            let append = |length| Call::Append(ROUTE.to_vec(), vec![2; length]);
+            let too_much = twin.call(&append(room + 1), ALL);
+            assert_eq!(too_much, Answer::Refused(Ground::Nospace));
+            twin.all_limits(&append(room), |_| ());
+            twin.done(&append(room));
+            let full = twin.call(&append(1), ALL);
+            assert_eq!(full, Answer::Refused(Ground::Nospace));
+            twin.done(&append(0));
+            twin.done(&Call::Truncate(ROUTE.to_vec(), 0));
+        }
+    }
+}
+
+/// Create and rename take the last slot, whether it is deleted or at the end.
+#[test]
+fn last_root_slot() {
+    for first_byte in [0, 0xE5] {
+        for new in [Call::Create(PANEL.to_vec()), rename()] {
+            let mut card = Card::k();
+            card.put_slot(0, ROUTE, 0x21, 0, 0);
+            card.fill_root(1);
+            card.slot_mut(511)[0] = first_byte;
+            let mut twin = Twin::new(card);
+            twin.all_limits(&new, |twin| twin.done(&Call::Recover));
+            twin.done(&new);
+            let create = Call::Create(b"ONE_MORE   ".to_vec());
+            let answer = twin.call(&create, ALL);
+            let full = matches!(new, Call::Create(_));
+            assert_eq!(answer == Answer::Refused(Ground::Rootfull), full);
+        }
+    }
+}
+
+fn rename() -> Call {
+    Call::Rename(ROUTE.to_vec(), PANEL.to_vec())
+}

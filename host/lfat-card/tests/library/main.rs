@@ -1,0 +1,20 @@
+//! The library's eight calls: against the independent implementation, against Debian's FAT tools, and through power cuts.
+//!
+//! All random numbers have fixed seeds. `LFAT_CASES=10 cargo test --release -p lfat-card --test library` runs ten times as many
+//! random cases. `fat_tools` needs the packages dosfstools and mtools.
+
+mod support;
+
+mod areas;
+mod boot;
+mod damage;
+mod fat_tools;
+mod grounds;
+mod histories;
+mod names;
+mod power_cuts;
+mod raw;
+mod records;
+mod sizes;
+mod wide;
+mod worked_card;

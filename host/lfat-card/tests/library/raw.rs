@@ -1,0 +1,138 @@
+//! The numbers that cross the C interface: code * 2^32 + count, where a refusal has the count 0. The safe functions do not show
+//! that count.
+
+use crate::support::{ALL, PANEL, ROUTE};
+use reference::card_k;
+
+/// A pointer and a length make a slice.
+type Bytes = *const u8;
+
+extern "C" {
+    fn lfat_create(
+        card: *mut u8,
+        length: usize,
+        name: Bytes,
+        name_length: usize,
+        limit: u32,
+    ) -> u64;
+    fn lfat_append(
+        card: *mut u8,
+        length: usize,
+        name: Bytes,
+        name_length: usize,
+        data: Bytes,
+        data_length: usize,
+        limit: u32,
+    ) -> u64;
+    fn lfat_truncate(
+        card: *mut u8,
+        length: usize,
+        name: Bytes,
+        name_length: usize,
+        size: u32,
+        limit: u32,
+    ) -> u64;
+    fn lfat_delete(
+        card: *mut u8,
+        length: usize,
+        name: Bytes,
+        name_length: usize,
+        limit: u32,
+    ) -> u64;
+    fn lfat_rename(
+        card: *mut u8,
+        length: usize,
+        old: Bytes,
+        old_length: usize,
+        new: Bytes,
+        new_length: usize,
+        limit: u32,
+    ) -> u64;
+    fn lfat_recover(card: *mut u8, length: usize, limit: u32) -> u64;
+    fn lfat_read(
+        card: Bytes,
+        length: usize,
+        name: Bytes,
+        name_length: usize,
+        offset: u32,
+        buffer: *mut u8,
+        buffer_length: usize,
+    ) -> u64;
+    fn lfat_list(card: Bytes, length: usize, buffer: *mut u8, buffer_length: usize) -> u64;
+}
+
+/// What all eight calls answer, in the header's order.
+fn answers(card: &mut [u8], name: &[u8], limit: u32) -> [u64; 8] {
+    let (at, length) = (card.as_mut_ptr(), card.len());
+    let (name, name_length) = (name.as_ptr(), name.len());
+    let data = [7u8; 600];
+    let mut buffer = [0u8; 600];
+    let out = buffer.as_mut_ptr();
+    // Each slice is valid for its length, and none overlaps another.
+    unsafe {
+        [
+            lfat_create(at, length, name, name_length, limit),
+            lfat_append(at, length, name, name_length, data.as_ptr(), 600, limit),
+            lfat_truncate(at, length, name, name_length, 5, limit),
+            lfat_delete(at, length, name, name_length, limit),
+            lfat_rename(at, length, name, name_length, PANEL.as_ptr(), 11, limit),
+            lfat_recover(at, length, limit),
+            lfat_read(at, length, name, name_length, 0, out, 600),
+            lfat_list(at, length, out, 600),
+        ]
+    }
+}
+
+const STOPPED: u64 = 255 << 32;
+
+fn ground(number: u64) -> u64 {
+    number << 32
+}
+
+#[test]
+fn refusals_have_no_count() {
+    for limit in [0, 3, ALL] {
+        let mut card = card_k();
+        assert_eq!(answers(&mut card[..511], ROUTE, limit), [ground(1); 8]);
+        assert_eq!(answers(&mut card[..512], ROUTE, limit), [ground(3); 8]);
+        card[511] = 0;
+        assert_eq!(answers(&mut card, ROUTE, limit), [ground(2); 8]);
+        card[511] = 0xAA;
+        card[512 + 2 * 100..][..2].copy_from_slice(&[0xF6, 0xFF]);
+        assert_eq!(answers(&mut card, ROUTE, limit), [ground(4); 8]);
+        let mut card = card_k();
+        card[33 * 512 + 32] = 0xE5;
+        assert_eq!(answers(&mut card, ROUTE, limit), [ground(5); 8]);
+        let mut card = card_k();
+        card[65 * 512] = b'A';
+        assert_eq!(answers(&mut card, ROUTE, limit), [ground(6); 8]);
+    }
+    let (unclean, name) = (ground(7), ground(8));
+    let mut card = card_k();
+    card[16 * 512] = 1;
+    let mut expected = [unclean; 8];
+    expected[5] = STOPPED;
+    assert_eq!(answers(&mut card, ROUTE, 0), expected);
+    let expected = [name, name, name, name, name, 0, name, 0];
+    assert_eq!(answers(&mut card_k(), b"ROUTE.CUT", 0), expected);
+}
+
+#[test]
+fn counts_of_finished_and_stopped_calls() {
+    let mut card = card_k();
+    // Create, append, truncate, delete and rename, one after the other; the last finds nothing.
+    let finished = [3, 7, 5, 5, ground(9), 0, ground(9), 0];
+    assert_eq!(answers(&mut card, ROUTE, ALL), finished);
+    let mut card = card_k();
+    let stopped = [
+        STOPPED,
+        ground(9),
+        ground(9),
+        ground(9),
+        ground(9),
+        0,
+        ground(9),
+        0,
+    ];
+    assert_eq!(answers(&mut card, ROUTE, 0), stopped);
+}

@@ -1,0 +1,209 @@
+//! Pending groups made by hand: what RECORD accepts, and the recovery of it with every limit.
+//! `LFAT_CASES=N` makes N times as many random groups.
+
+use crate::support::call::Call;
+use crate::support::cards::Card;
+use crate::support::random::Random;
+use crate::support::twin::Twin;
+use crate::support::{cases, ALL, OTHER, PANEL, ROUTE};
+use reference::{Answer, Ground};
+
+const RENAME: u8 = 5;
+/// Live slots of the card; the next one is the lowest beginning 0.
+const LIVE: u16 = 40;
+
+/// Card K with files, and with FATs that differ.
+fn card() -> Card {
+    let mut card = Card::k();
+    card.fill_root(0);
+    card.put_slot(3, ROUTE, 0x27, 20, 1_300);
+    card.put_chain(&[20, 300, 21], 0xFFF8);
+    for slot in usize::from(LIVE)..512 {
+        card.slot_mut(slot).fill(0);
+    }
+    for (cluster, value) in [(22, 23), (23, 0xFFFF), (300, 0xFFFF), (4_000, 7)] {
+        let at = card.fat2() * 512 + cluster * 2;
+        card.bytes[at..at + 2].copy_from_slice(&u16::to_le_bytes(value));
+    }
+    card
+}
+
+/// The sector of a group as the calls write it.
+fn group(operation: u8) -> [u8; 512] {
+    let mut sector = [0; 512];
+    sector[..11].copy_from_slice(ROUTE);
+    sector[11] = 0x20;
+    sector[13] = operation;
+    sector[18] = 3;
+    sector[22] = 22;
+    sector[26] = 21;
+    sector[28..30].copy_from_slice(&1_500u16.to_le_bytes());
+    if operation == RENAME {
+        sector.copy_within(..32, 32);
+        sector[32..43].copy_from_slice(PANEL);
+        sector[45] = 0;
+        sector[50..52].copy_from_slice(&LIVE.to_le_bytes());
+    }
+    sector
+}
+
+/// Puts the sector into the log, recovers with every limit, and gives what the whole recovery answers.
+fn recovered(card: Card, place: usize, sector: &[u8; 512]) -> Answer {
+    let mut twin = Twin::new(card);
+    twin.edit(|card| card.log_sector_mut(place).copy_from_slice(sector));
+    twin.call(&Call::List(96), ALL);
+    twin.all_limits(&Call::Recover, |_| ());
+    let answer = twin.call(&Call::Recover, ALL);
+    if matches!(answer, Answer::Done(_)) {
+        assert_eq!(twin.call(&Call::Recover, ALL), Answer::Done(0));
+        twin.call(&Call::List(2_000), ALL);
+    }
+    answer
+}
+
+/// Whether each changed byte of the group leaves it acceptable.
+fn expect(operation: u8, changes: &[(usize, u8)], accepted: bool) {
+    let mut sector = group(operation);
+    for &(at, byte) in changes {
+        sector[at] = byte;
+    }
+    let answer = recovered(card(), usize::from(operation), &sector);
+    let is_accepted = matches!(answer, Answer::Done(_));
+    assert_eq!(is_accepted, accepted, "{operation} {changes:?}: {answer:?}");
+    assert!(accepted || answer == Answer::Refused(Ground::Record));
+}
+
+#[test]
+fn fields_of_record_0() {
+    for operation in 1..=5 {
+        // A rename's record 1 has to be alike.
+        let both = |at: usize, byte| match operation {
+            RENAME => vec![(at, byte), (at + 32, byte)],
+            _ => vec![(at, byte)],
+        };
+        expect(operation, &[], true);
+        for not_judged in [
+            (11, 0xFF),
+            (11, 0x10),
+            (22, 0),
+            (23, 0xFF),
+            (26, 0),
+            (31, 9),
+        ] {
+            expect(operation, &both(not_judged.0, not_judged.1), true);
+        }
+        for judged in [12, 14, 15, 16, 17, 20, 21, 24, 25] {
+            expect(operation, &both(judged, 1), false);
+        }
+        expect(operation, &[(0, 1), (5, 0), (10, 0xE5)], true);
+        expect(operation, &[(18, LIVE as u8 + 1)], false);
+        expect(operation, &[(18, 0), (19, 2)], false);
+        expect(operation, &[(13, 6)], false);
+        expect(operation, &[(13, 0)], false);
+        let end = if operation == RENAME { 64 } else { 32 };
+        for after in [end, end + 31, 480, 511] {
+            expect(operation, &[(after, 1)], false);
+            expect(operation, &[(after, 0xE5)], false);
+        }
+        if operation != RENAME {
+            expect(operation, &[(18, LIVE as u8)], true);
+            expect(operation, &[(13, RENAME)], false);
+        }
+    }
+}
+
+#[test]
+fn fields_of_record_1() {
+    for byte in 0..=255 {
+        expect(RENAME, &[(45, byte)], true);
+    }
+    for judged in (11..13).chain(14..18).chain(20..32) {
+        expect(RENAME, &[(32 + judged, 0x41)], false);
+    }
+    for (first_byte, accepted) in [(0, false), (0xE5, false), (1, true), (0xFF, true)] {
+        expect(RENAME, &[(32, first_byte)], accepted);
+    }
+    let slots = [(0, true), (3, false), (15, true), (16, true), (39, true)];
+    for (slot, accepted) in slots.into_iter().chain([(41, false), (255, false)]) {
+        expect(RENAME, &[(50, slot)], accepted);
+    }
+    expect(RENAME, &[(51, 2), (50, 0)], false);
+    // Both slots at the end, or the old one there.
+    expect(RENAME, &[(18, LIVE as u8)], false);
+    expect(RENAME, &[(18, LIVE as u8), (50, 5)], true);
+}
+
+#[test]
+fn groups_elsewhere() {
+    for operation in 1..=5u8 {
+        let plain = group(operation);
+        for place in 0..8 {
+            let answer = recovered(card(), place, &plain);
+            assert!(matches!(answer, Answer::Done(_)));
+            // A second group, and pending records that are none.
+            for (at, second) in [(0, plain[0]), (32, b'A'), (480, b'A')] {
+                let mut twice = card();
+                twice.log_sector_mut((place + 3) % 8)[at] = second;
+                let answer = recovered(twice, place, &plain);
+                assert_eq!(answer, Answer::Refused(Ground::Record));
+            }
+            let mut old = card();
+            old.log_sector_mut((place + 1) % 8).fill(0xE5);
+            let answer = recovered(old, place, &plain);
+            assert!(matches!(answer, Answer::Done(_)));
+        }
+        let mut shifted = [0; 512];
+        shifted[32..].copy_from_slice(&plain[..480]);
+        assert_eq!(
+            recovered(card(), 0, &shifted),
+            Answer::Refused(Ground::Record)
+        );
+    }
+}
+
+/// With no slot beginning 0, the root entries alone bound a record's slots.
+#[test]
+fn slots_of_a_full_root() {
+    for (slot, accepted) in [(511u16, true), (512, false), (u16::MAX, false)] {
+        for operation in 1..=5 {
+            let mut full = card();
+            full.fill_root(usize::from(LIVE));
+            let mut sector = group(operation);
+            let at = if operation == RENAME { 50 } else { 18 };
+            sector[at..at + 2].copy_from_slice(&slot.to_le_bytes());
+            let answer = recovered(full, 2, &sector);
+            assert_eq!(matches!(answer, Answer::Done(_)), accepted);
+        }
+    }
+}
+
+#[test]
+fn random_groups() {
+    let mut random = Random::new(20_000);
+    let mut accepted = 0;
+    for _ in 0..cases(300) {
+        let mut sector = group(1 + random.below(5) as u8);
+        for at in [11, 26, 27, 28, 29, 30, 31] {
+            sector[at] = random.byte();
+            sector[at + 32] = if sector[13] == RENAME { sector[at] } else { 0 };
+        }
+        let slots = usize::from(LIVE) + 3;
+        sector[18] = random.below(slots) as u8;
+        if sector[13] == RENAME {
+            sector[45] = random.byte();
+            sector[50] = random.below(slots) as u8;
+        }
+        for _ in 0..random.below(4) {
+            let end = random.pick(&[64, 64, 64, 512]);
+            let at = random.below(end);
+            sector[at] = random.pick(&[0, 1, 3, 0x20, 0xE5, sector[18] ^ 1]);
+        }
+        let mut card = card();
+        card.put_slot(9, OTHER, random.byte(), 60, random.byte().into());
+        let place = random.below(8);
+        if let Answer::Done(_) = recovered(card, place, &sector) {
+            accepted += 1;
+        }
+    }
+    assert!(accepted > 50, "{accepted}");
+}

@@ -1,0 +1,96 @@
+//! A call with what it is given, for either implementation.
+
+use lfat_card::calls;
+use reference::{Answer, Operation};
+use std::fmt;
+
+/// One of the eight calls.
+#[derive(Clone)]
+pub enum Call {
+    Create(Vec<u8>),
+    Append(Vec<u8>, Vec<u8>),
+    Truncate(Vec<u8>, u32),
+    Delete(Vec<u8>),
+    Rename(Vec<u8>, Vec<u8>),
+    Recover,
+    /// Name, offset and the buffer's length.
+    Read(Vec<u8>, u32, usize),
+    /// The buffer's length.
+    List(usize),
+}
+
+impl Call {
+    pub fn word(&self) -> &'static str {
+        match self {
+            Call::Create(..) => "create",
+            Call::Append(..) => "append",
+            Call::Truncate(..) => "truncate",
+            Call::Delete(..) => "delete",
+            Call::Rename(..) => "rename",
+            Call::Recover => "recover",
+            Call::Read(..) => "read",
+            Call::List(..) => "list",
+        }
+    }
+
+    /// The length of the buffer that the call fills.
+    pub fn room(&self) -> usize {
+        match *self {
+            Call::Read(_, _, room) | Call::List(room) => room,
+            _ => 0,
+        }
+    }
+
+    /// The reference's name for a call that stores.
+    pub fn operation(&self) -> Option<Operation<'_>> {
+        match self {
+            Call::Create(name) => Some(Operation::Create { name }),
+            Call::Append(name, data) => Some(Operation::Append { name, data }),
+            Call::Truncate(name, size) => Some(Operation::Truncate { name, size: *size }),
+            Call::Delete(name) => Some(Operation::Delete { name }),
+            Call::Rename(old, new) => Some(Operation::Rename { old, new }),
+            Call::Recover => Some(Operation::Recover),
+            Call::Read(..) | Call::List(..) => None,
+        }
+    }
+
+    pub fn on_library(&self, card: &mut [u8], limit: u32, buffer: &mut [u8]) -> calls::Answer {
+        match self {
+            Call::Create(name) => calls::create(card, name, limit),
+            Call::Append(name, data) => calls::append(card, name, data, limit),
+            Call::Truncate(name, size) => calls::truncate(card, name, *size, limit),
+            Call::Delete(name) => calls::delete(card, name, limit),
+            Call::Rename(old, new) => calls::rename(card, old, new, limit),
+            Call::Recover => calls::recover(card, limit),
+            Call::Read(name, offset, _) => calls::read(card, name, *offset, buffer),
+            Call::List(_) => calls::list(card, buffer),
+        }
+    }
+
+    pub fn on_reference(&self, card: &mut [u8], limit: u32, buffer: &mut [u8]) -> Answer {
+        match (self, self.operation()) {
+            (_, Some(operation)) => reference::run(card, &operation, limit),
+            (Call::Read(name, offset, _), _) => reference::read(card, name, *offset, buffer),
+            _ => reference::list(card, buffer),
+        }
+    }
+}
+
+/// The arguments without the data.
+impl fmt::Debug for Call {
+    fn fmt(&self, f: &mut fmt::Formatter<'_>) -> fmt::Result {
+        let shown = |name: &[u8]| name.escape_ascii().to_string();
+        write!(f, "{}", self.word())?;
+        match self {
+            Call::Create(name) | Call::Delete(name) => write!(f, " '{}'", shown(name)),
+            Call::Append(name, data) => write!(f, " '{}' {} bytes", shown(name), data.len()),
+            Call::Truncate(name, size) => write!(f, " '{}' to {size}", shown(name)),
+            Call::Rename(old, new) => write!(f, " '{}' '{}'", shown(old), shown(new)),
+            Call::Recover => Ok(()),
+            Call::Read(name, offset, room) => {
+                write!(f, " '{}' from {offset}, room {room}", shown(name))
+            }
+            Call::List(room) => write!(f, ", room {room}"),
+        }
+    }
+}

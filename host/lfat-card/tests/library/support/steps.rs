@@ -1,0 +1,98 @@
+//! Random calls on few names, so that refusals come up often too.
+
+use super::call::Call;
+use super::cards::Card;
+use super::fixtures::{BROKEN, FOLDER};
+use super::random::Random;
+use super::{Name, OTHER, PANEL, ROUTE};
+
+const NAMES: [&Name; 8] = [
+    ROUTE,
+    PANEL,
+    OTHER,
+    b"KEEL    CUT",
+    b"!#$%&'()-@^",
+    b"_`{}~  1   ",
+    b"0       9  ",
+    b"SHEER_L CUT",
+];
+
+const BAD_NAMES: [&[u8]; 9] = [
+    b"",
+    b"ROUTE.CUT",
+    b"ROUTE   CU",
+    b"ROUTE   CUT ",
+    b"route   cut",
+    b" ROUTE  CUT",
+    b"RO UTE  CUT",
+    b"ROUTE   C T",
+    b"\xE5OUTE   CUT",
+];
+
+pub fn random_name(random: &mut Random) -> Vec<u8> {
+    match random.below(30) {
+        0 => random.pick(&BAD_NAMES).to_vec(),
+        1 => FOLDER.to_vec(),
+        2 => BROKEN.to_vec(),
+        _ => random.pick(&NAMES).to_vec(),
+    }
+}
+
+/// A length that often meets a sector's or a cluster's edge; now and then one that fills the card.
+pub fn random_length(random: &mut Random, cluster_bytes: usize) -> usize {
+    match random.below(16) {
+        0 => cluster_bytes * random.below(300),
+        1 | 2 => random.pick(&[0, 1, 2, 511, 512, 513]),
+        3 | 4 => 512 * random.below(4),
+        5 | 6 => cluster_bytes * random.below(5),
+        7 | 8 => (cluster_bytes * random.below(4)).saturating_sub(1),
+        9 | 10 => cluster_bytes * random.below(4) + 1,
+        11 | 12 => random.below(600),
+        _ => random.below(5 * cluster_bytes),
+    }
+}
+
+/// The name of a file or directory among the first slots, or any name.
+fn present_name(random: &mut Random, card: &Card) -> Vec<u8> {
+    let present: Vec<&[u8]> = (0..16)
+        .map(|slot| card.slot(slot))
+        .filter(|slot| ![0, 0xE5].contains(&slot[0]) && slot[11] & 0x08 == 0)
+        .map(|slot| &slot[..11])
+        .collect();
+    if present.is_empty() || random.one_in(4) {
+        return random_name(random);
+    }
+    random.pick(&present).to_vec()
+}
+
+/// A call of any kind; recovery is rare.
+pub fn random_call(random: &mut Random, card: &Card) -> Call {
+    let cluster_bytes = usize::from(card.spec.sectors_per_cluster) * 512;
+    let name = present_name(random, card);
+    let length = random_length(random, cluster_bytes);
+    match random.below(24) {
+        0..=4 => Call::Create(random_name(random)),
+        5..=9 => Call::Append(name, random.bytes(length)),
+        10..=12 => Call::Truncate(name, length as u32),
+        13 | 14 => Call::Delete(name),
+        15..=17 => Call::Rename(name, random_name(random)),
+        18 => Call::Recover,
+        19..=21 => Call::Read(name, random_offset(random), length),
+        _ => Call::List(random_room(random)),
+    }
+}
+
+pub fn random_offset(random: &mut Random) -> u32 {
+    match random.below(4) {
+        0 => 0,
+        1 => random.pick(&[1, 511, 512, 513, 1 << 16, 1 << 31, u32::MAX]),
+        _ => random.below(6_000) as u32,
+    }
+}
+
+fn random_room(random: &mut Random) -> usize {
+    match random.below(3) {
+        0 => random.pick(&[0, 1, 31, 32, 33, 63, 64]),
+        _ => random.below(600),
+    }
+}

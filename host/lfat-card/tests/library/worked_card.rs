@@ -1,0 +1,94 @@
+//! Card K worked through: the rows M3 to M10 and the sectors that each stores, as the requirements have them.
+
+use crate::support::{ALL, ROUTE};
+use lfat_card::calls::{self, Answer};
+
+const NAME: &[u8] = ROUTE;
+
+/// The sectors that a call changes store by store, found by running it with one limit after the other.
+fn stored(card: &mut Vec<u8>, call: impl Fn(&mut [u8], u32) -> Answer) -> Vec<usize> {
+    let mut sectors = Vec::new();
+    let mut before = card.clone();
+    for limit in 1.. {
+        let mut cut = card.clone();
+        let answer = call(&mut cut, limit);
+        let mut pairs = before.chunks(512).zip(cut.chunks(512));
+        sectors.extend(pairs.position(|(old, new)| old != new));
+        before = cut;
+        if answer == Answer::Done(limit) {
+            *card = before;
+            return sectors;
+        }
+        assert_eq!(answer, Answer::Stopped(limit));
+    }
+    unreachable!("a list of stores ends")
+}
+
+fn slot(card: &[u8]) -> (u16, u32) {
+    let slot = &card[33 * 512..][..32];
+    let size = u32::from_le_bytes(slot[28..].try_into().expect("four bytes"));
+    (u16::from_le_bytes([slot[26], slot[27]]), size)
+}
+
+fn entry(card: &[u8], cluster: usize) -> u16 {
+    u16::from_le_bytes([card[512 + 2 * cluster], card[513 + 2 * cluster]])
+}
+
+fn path(length: usize) -> Vec<u8> {
+    (0..length).map(|at| at as u8 | 1).collect()
+}
+
+#[test]
+fn rows_of_the_worked_card() {
+    let mut card = reference::card_k();
+    let append = |length: usize| {
+        move |card: &mut [u8], limit| calls::append(card, NAME, &path(length), limit)
+    };
+
+    let m3 = stored(&mut card, |card, limit| calls::create(card, NAME, limit));
+    assert_eq!(m3, [65, 33, 65]);
+
+    for (limit, size) in [(4, 0), (5, 1_300)] {
+        let mut cut = card.clone();
+        assert_eq!(append(1_300)(&mut cut, limit), Answer::Stopped(limit));
+        assert!(matches!(calls::recover(&mut cut, ALL), Answer::Done(_)));
+        assert_eq!(slot(&cut).1, size, "M5, M6");
+    }
+
+    let m4 = stored(&mut card, append(1_300));
+    assert_eq!(m4, [73, 74, 75, 17, 66, 1, 33, 66]);
+    assert_eq!(slot(&card), (10, 1_300));
+    assert_eq!([10, 11, 12].map(|c| entry(&card, c)), [11, 12, 0xFFFF]);
+    assert_eq!(card[76 * 512 - 236..76 * 512], [0; 236]);
+    assert_ne!(card[76 * 512 - 237], 0);
+    let mut buffer = vec![0xA5; 1_400];
+    assert_eq!(
+        calls::read(&card, NAME, 0, &mut buffer),
+        Answer::Done(1_300)
+    );
+    assert_eq!(buffer[..1_300], path(1_300));
+    assert_eq!(buffer[1_300..], [0xA5; 100]);
+
+    assert_eq!(stored(&mut card, append(100)), [75, 67, 33, 67], "M7");
+    assert_eq!(card[67 * 512 + 22..][..4], [0; 4], "DIR_Cluster");
+
+    let m8 = stored(&mut card, |card, limit| {
+        calls::truncate(card, NAME, 512, limit)
+    });
+    assert_eq!(m8, [17, 68, 1, 33, 68]);
+    assert_eq!(card[68 * 512 + 22..][..4], [11, 0, 0, 0], "DIR_Cluster");
+
+    let m9 = stored(&mut card, |card, limit| calls::delete(card, NAME, limit));
+    assert_eq!(m9, [17, 69, 1, 33, 69]);
+
+    for group in 70..73 {
+        let create = |card: &mut [u8], limit| calls::create(card, &name(group), limit);
+        assert_eq!(stored(&mut card, create), [group, 33, group]);
+    }
+    let m10 = stored(&mut card, |card, limit| calls::create(card, NAME, limit));
+    assert_eq!(m10, [72, 71, 70, 69, 68, 67, 66, 65, 65, 33, 65]);
+}
+
+fn name(number: usize) -> Vec<u8> {
+    format!("PANEL{number} CUT").into_bytes()
+}

@@ -1,0 +1,129 @@
+//! The commands, end to end.
+
+use crate::support::cli::Folder;
+use crate::support::points;
+
+/// A folder with an empty card and a path of 1,300 bytes.
+fn start(name: &str) -> Folder {
+    let folder = Folder::new(name);
+    folder.lfat("blank card").done();
+    folder.write("path", &points(1_300));
+    folder
+}
+
+#[test]
+fn a_card_in_use() {
+    let folder = start("life");
+    assert_eq!(folder.lfat("ls card").done().text(), "");
+    folder.lfat("put card ROUTE.CUT path").done();
+    folder.lfat_from("put card PANEL.CUT -", "path").done();
+    let listed = folder.lfat("ls card").done().text();
+    assert_eq!(listed, "      1300  ROUTE.CUT\n      1300  PANEL.CUT\n");
+    assert_eq!(
+        folder.lfat("get card ROUTE.CUT").done().bytes(),
+        points(1_300)
+    );
+    folder.lfat("get card PANEL.CUT -o copy").done();
+    assert_eq!(folder.read("copy"), points(1_300));
+
+    folder.lfat("append card ROUTE.CUT path").done();
+    folder.lfat_from("append card ROUTE.CUT -", "path").done();
+    let long = [points(1_300), points(1_300), points(1_300)].concat();
+    assert_eq!(folder.lfat("get card ROUTE.CUT").done().bytes(), long);
+    folder.lfat("truncate card ROUTE.CUT 2000").done();
+    assert_eq!(
+        folder.lfat("get card ROUTE.CUT").done().bytes(),
+        &long[..2_000]
+    );
+    folder.lfat("mv card ROUTE.CUT KEEL").done();
+    folder.lfat("rm card PANEL.CUT").done();
+    assert_eq!(folder.lfat("ls card").done().text(), "      2000  KEEL\n");
+    assert_eq!(
+        folder.lfat("recover card").done().text(),
+        "nothing to recover\n"
+    );
+}
+
+#[test]
+fn info_shows_the_card() {
+    let folder = start("info");
+    folder.lfat("put card ROUTE.CUT path").done();
+    let text = folder.lfat("info card").done().text();
+    for line in [
+        "sectors              4150 of 512 bytes",
+        "sectors per cluster  1",
+        "clusters             4085, 4074 free (2085888 bytes)",
+        "FAT1                 sectors 1 to 16",
+        "FAT2                 sectors 17 to 32",
+        "root directory       sectors 33 to 64, 512 slots, 1 in use",
+        "data                 sectors 65 to 4149",
+        "log                  sectors 65 to 72, clusters 2 to 9, 2 of 8 sectors used",
+        "state                clean",
+    ] {
+        assert!(text.lines().any(|other| other == line), "{line}\n{text}");
+    }
+}
+
+/// A save that is cut, with every limit: refused until it is recovered, then old or new.
+#[test]
+fn cut_and_recovered() {
+    let folder = start("cut");
+    folder.lfat("put card ROUTE.CUT path").done();
+    let before = folder.read("card");
+    for limit in 0..9 {
+        folder.write("card", &before);
+        let words = format!("STOPPED after {limit} stores");
+        folder
+            .lfat(&format!("append card ROUTE.CUT path --limit {limit}"))
+            .failed(1, &words);
+        // Data alone does not make a card unclean.
+        if limit > 4 {
+            folder.lfat("ls card").failed(1, "UNCLEAN");
+            let info = folder.lfat("info card").failed(1, "lfat recover");
+            assert!(info.text().contains("state                UNCLEAN"));
+        }
+        if limit > 5 {
+            folder
+                .lfat("recover card --limit 1")
+                .failed(1, "STOPPED after 1 stores");
+        }
+        folder.lfat("recover card").done();
+        let size = if limit < 6 { 1_300 } else { 2_600 };
+        assert_eq!(
+            folder.lfat("ls card").done().text(),
+            format!("{size:>10}  ROUTE.CUT\n")
+        );
+    }
+    folder.write("card", &before);
+    folder.lfat("append card ROUTE.CUT path --limit=9").done();
+}
+
+#[test]
+fn help_everywhere() {
+    let folder = Folder::new("help");
+    let overview = folder.lfat("--help").done().text();
+    assert_eq!(folder.lfat("help").done().text(), overview);
+    let commands = [
+        "blank", "ls", "get", "put", "append", "truncate", "rm", "mv", "recover", "log", "info",
+        "rack",
+    ];
+    for command in commands {
+        assert!(overview.contains(&format!("\n  {command} ")), "{command}");
+        let help = folder.lfat(&format!("{command} --help")).done().text();
+        assert!(
+            help.starts_with(&format!("usage: lfat {command} IMAGE")),
+            "{help}"
+        );
+    }
+}
+
+/// After `--` a name may begin with a dash.
+#[test]
+fn name_with_a_dash() {
+    let folder = start("dash");
+    folder
+        .lfat("put card -A path")
+        .failed(2, "unknown option -A");
+    folder.lfat("put card -- -A path").done();
+    assert_eq!(folder.lfat("get card -- -A").done().bytes(), points(1_300));
+}

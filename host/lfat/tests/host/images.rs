@@ -1,0 +1,142 @@
+//! Images on disk: what a command reads and writes is what the library does on the whole card in memory.
+
+use crate::support::cli::Folder;
+use crate::support::random::Random;
+use crate::support::{points, spec};
+use lfat::blank::Blank;
+use lfat_card::{Answer, Card, Name};
+use std::fs::{self, OpenOptions};
+
+/// A history through the command line and through the wrapper on a copy in memory: the same answers and bytes.
+#[test]
+fn same_as_in_memory() {
+    let folder = Folder::new("images");
+    let mut random = Random(0x510E_527F_ADE6_82D1);
+    for sectors_per_cluster in [1, 8] {
+        let mut window = spec(sectors_per_cluster).build();
+        // Bytes after the card's last sector are kept.
+        let past = random.bytes(700);
+        folder.write("card", &[&window[..], &past].concat());
+        let data = points(9_000);
+        for step in 0..40 {
+            let name = ["A.CUT", "B.CUT", "C"][random.below(3)];
+            let parsed = Name::parse(name).expect("a name");
+            let length = random.below(data.len());
+            folder.write("data", &data[..length]);
+            let mut card = Card::new(&mut window);
+            let (line, answer) = match random.below(7) {
+                0 | 1 => {
+                    let created = card.create(parsed).map(drop);
+                    let both = created.and_then(|()| card.append(parsed, &data[..length]));
+                    (format!("put card {name} data"), both)
+                }
+                2 | 3 => (
+                    format!("append card {name} data"),
+                    card.append(parsed, &data[..length]),
+                ),
+                4 => {
+                    let size = length as u32 / 2;
+                    (
+                        format!("truncate card {name} {size}"),
+                        card.truncate(parsed, size),
+                    )
+                }
+                5 => (format!("rm card {name}"), card.delete(parsed)),
+                _ => {
+                    let new = Name::parse("D.NEW").expect("a name");
+                    (format!("mv card {name} D.NEW"), card.rename(parsed, new))
+                }
+            };
+            let run = folder.lfat(&line);
+            match answer {
+                Ok(_) => drop(run.done()),
+                Err(refusal) => drop(run.failed(1, refusal.name())),
+            }
+            assert!(
+                folder.read("card") == [&window[..], &past].concat(),
+                "{step}: {line}"
+            );
+        }
+    }
+}
+
+/// A card of 2 GB: only what is needed is read and written.
+#[test]
+fn largest_card() {
+    let folder = Folder::new("largest");
+    folder
+        .lfat("blank card --clusters 65524 --cluster-sectors 64")
+        .done();
+    let path = folder.path().join("card");
+    assert_eq!(
+        fs::metadata(&path).expect("the card").len(),
+        4_194_081 * 512
+    );
+    let data = points(100_000);
+    folder.write("data", &data);
+    folder.lfat("put card ROUTE.CUT data").done();
+    folder.lfat("append card ROUTE.CUT data").done();
+    let both = [&data[..], &data].concat();
+    assert_eq!(folder.lfat("get card ROUTE.CUT").done().bytes(), both);
+    folder.lfat("info card").done();
+}
+
+/// Empty cards of many layouts are clean; what can be no card is not made.
+#[test]
+fn blank_cards() {
+    for (clusters, sectors_per_cluster, root_entries, log_sectors) in [
+        (4_085, 1, 512, 8),
+        (65_524, 1, 16, 128),
+        (5_000, 64, 512, 128),
+        (4_085, 2, 4_096, 2),
+    ] {
+        let blank = Blank {
+            clusters,
+            sectors_per_cluster,
+            root_entries,
+            log_sectors,
+        };
+        let (mut window, total) = blank.front().expect("a card");
+        window.resize(total * 512, 0);
+        assert_eq!(lfat_card::calls::list(&window, &mut []), Answer::Done(0));
+        let log = lfat::volume::Volume::open(&window).and_then(|volume| volume.log());
+        assert_eq!(log.map(|log| log.len()), Some(log_sectors));
+    }
+    let folder = Folder::new("blank");
+    for (options, words) in [
+        ("--clusters 4084", "4085 to 65524"),
+        ("--clusters 65525", "4085 to 65524"),
+        ("--cluster-sectors 3", "1, 2, 4"),
+        ("--cluster-sectors 128", "1, 2, 4"),
+        ("--root-entries 500", "multiple of 16"),
+        ("--root-entries 0", "multiple of 16"),
+        ("--log-sectors 0", "1 to 128"),
+        ("--log-sectors 129", "1 to 128"),
+        ("--log-sectors 3 --cluster-sectors 2", "whole clusters"),
+        ("--clusters many", "no number"),
+    ] {
+        folder
+            .lfat(&format!("blank card {options}"))
+            .failed(2, words);
+        assert!(!folder.path().join("card").exists());
+    }
+    folder.write("card", b"something");
+    folder.lfat("blank card").failed(3, "card: File exists");
+    assert_eq!(folder.read("card"), b"something");
+}
+
+/// Two programs do not write to one image at the same time.
+#[test]
+fn image_in_use() {
+    let folder = Folder::new("in-use");
+    folder.lfat("blank card").done();
+    let before = folder.read("card");
+    let path = folder.path().join("card");
+    let file = OpenOptions::new().write(true).open(path).expect("the card");
+    file.lock().expect("a lock");
+    folder.lfat("recover card").failed(3, "in use");
+    folder.lfat("ls card").failed(3, "in use");
+    drop(file);
+    folder.lfat("ls card").done();
+    assert!(folder.read("card") == before);
+}

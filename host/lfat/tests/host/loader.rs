@@ -1,0 +1,140 @@
+//! The loader in C: good cards, cut ones, damaged ones, and what is no card.
+
+use crate::support::c::{build, top};
+use crate::support::cli::{Folder, Run};
+use crate::support::{card_with_route, points, set_fats, ALL, PANEL, ROUTE};
+use reference::{card_k, CardSpec};
+use std::process::Stdio;
+
+struct Loader(Folder);
+
+impl Loader {
+    fn new(name: &str) -> Loader {
+        let folder = Folder::new(name);
+        let source = top().join("examples/loader.c");
+        build("gcc", "c99", &source, &folder.path().join("loader")).expect("gcc is there");
+        Loader(folder)
+    }
+
+    fn run(&self, line: &str) -> Run {
+        self.0
+            .run(self.0.path().join("loader"), line, Stdio::null())
+    }
+
+    /// Runs on a card, whose image it leaves as it is.
+    fn run_on(&self, card: &[u8], name: &str) -> Run {
+        self.0.write("card", card);
+        let run = self.run(&format!("card {name}"));
+        assert_eq!(self.0.read("card"), card);
+        run
+    }
+
+    fn refuses(&self, card: &[u8], name: &str, ground: &str, number: i32) {
+        let words = format!("refused: {ground} (ground {number})");
+        self.run_on(card, name).failed(number, &words);
+    }
+}
+
+#[test]
+fn good_cards() {
+    let loader = Loader::new("loader-good");
+    let empty = loader.run_on(&card_k(), "").done();
+    assert_eq!(empty.text(), "recovered, 0 stores\n0 entries\n");
+
+    let mut card = card_with_route(1_300);
+    reference::create(&mut card, PANEL, ALL);
+    let head = "recovered, 0 stores\n2 entries\nROUTE.CUT 1300\nPANEL.CUT 0\n";
+    assert_eq!(loader.run_on(&card, "").done().text(), head);
+    let mut wanted = format!("{head}path ROUTE.CUT, 1300 bytes\n").into_bytes();
+    wanted.extend(points(1_300));
+    assert_eq!(loader.run_on(&card, "ROUTE.CUT").done().bytes(), wanted);
+    let empty = loader.run_on(&card, "PANEL.CUT").done();
+    assert_eq!(empty.text(), format!("{head}path PANEL.CUT, 0 bytes\n"));
+}
+
+/// M5 and M6: before the log record's store the old size, from it on the new one.
+#[test]
+fn cut_cards() {
+    let loader = Loader::new("loader-cut");
+    let mut start = card_k();
+    reference::create(&mut start, ROUTE, ALL);
+    for limit in 0..=8 {
+        let mut card = start.clone();
+        reference::append(&mut card, ROUTE, &points(1_300), limit);
+        let stores = reference::plan(&card, &reference::Operation::Recover).expect("recoverable");
+        let size = if limit < 5 { 0 } else { 1_300 };
+        let head = format!(
+            "recovered, {} stores\n1 entries\nROUTE.CUT {size}\npath ROUTE.CUT, {size} bytes\n",
+            stores.len()
+        );
+        let mut wanted = head.into_bytes();
+        wanted.extend(points(size));
+        assert_eq!(loader.run_on(&card, "ROUTE.CUT").done().bytes(), wanted);
+    }
+}
+
+#[test]
+fn no_cards() {
+    let loader = Loader::new("loader-none");
+    loader.refuses(&[], "", "SHORT", 1);
+    loader.refuses(&card_k()[..511], "", "SHORT", 1);
+    loader.refuses(&[0; 4_096], "", "BOOT", 2);
+    loader.refuses(&points(100_000), "ROUTE.CUT", "BOOT", 2);
+    loader.refuses(&card_k()[..4_149 * 512], "", "WINDOW", 3);
+    loader.run("missing").failed(66, "cannot read missing");
+    loader.run("").failed(64, "usage");
+    loader.run("a b c").failed(64, "usage");
+}
+
+#[test]
+fn damaged_cards() {
+    let loader = Loader::new("loader-damaged");
+    let good = card_with_route(1_300);
+    let damaged = |damage: &dyn Fn(&mut [u8])| {
+        let mut card = good.clone();
+        damage(&mut card);
+        card
+    };
+    let no_log = damaged(&|card| (2..10).for_each(|cluster| set_fats(card, cluster, 0)));
+    loader.refuses(&no_log, "", "LOGAREA", 4);
+    let root = damaged(&|card| card[33 * 512 + 5 * 32] = b'X');
+    loader.refuses(&root, "", "ROOT", 5);
+    let record = damaged(&|card| card[67 * 512] = b'R');
+    loader.refuses(&record, "ROUTE.CUT", "RECORD", 6);
+    let short_chain = damaged(&|card| set_fats(card, 11, 0xFFFF));
+    loader.refuses(&short_chain, "ROUTE.CUT", "CHAIN", 13);
+    let stale_size = damaged(&|card| card[33 * 512 + 29] += 2);
+    loader.refuses(&stale_size, "ROUTE.CUT", "CHAIN", 13);
+    let directory = damaged(&|card| card[33 * 512 + 11] = 0x10);
+    loader.refuses(&directory, "ROUTE.CUT", "DIRECTORY", 10);
+    loader.refuses(&good, "PANEL.CUT", "ABSENT", 9);
+    for name in [
+        "route.cut",
+        "ROUTES.CUTS",
+        "TOOLONGNAME",
+        ".CUT",
+        "ROUTE.",
+        "A.B.C",
+    ] {
+        loader.refuses(&good, name, "NAME", 8);
+    }
+}
+
+/// Half a path is no path.
+#[test]
+fn path_longer_than_the_buffer() {
+    let loader = Loader::new("loader-long");
+    let mut card = CardSpec {
+        total_sectors: 65 + 4_090,
+        ..CardSpec::K
+    }
+    .build();
+    reference::create(&mut card, ROUTE, ALL);
+    reference::append(&mut card, ROUTE, &points(1 << 20), ALL);
+    loader.run_on(&card, "ROUTE.CUT").done();
+    reference::append(&mut card, ROUTE, b"!", ALL);
+    let run = loader
+        .run_on(&card, "ROUTE.CUT")
+        .failed(65, "longer than the buffer");
+    assert!(!run.text().contains("path"));
+}

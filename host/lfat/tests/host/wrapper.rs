@@ -1,0 +1,148 @@
+//! The safe wrapper: names, entries, refusals, a card's whole life.
+
+use crate::support::points;
+use crate::support::random::Random;
+use lfat_card::{calls, Answer, Card, Name, Operation, Refusal};
+use reference::card_k;
+
+fn name(text: &str) -> Name {
+    Name::parse(text).expect("a name")
+}
+
+#[test]
+fn names() {
+    for (text, bytes) in [
+        ("ROUTE.CUT", b"ROUTE   CUT"),
+        ("A", b"A          "),
+        ("12345678.123", b"12345678123"),
+        ("!#$%&'()", b"!#$%&'()   "),
+        ("-@^_`.{}~", b"-@^_`   {}~"),
+        ("X.Y", b"X       Y  "),
+    ] {
+        assert_eq!(name(text).bytes(), bytes, "{text}");
+        assert_eq!(name(text).to_string(), text);
+        assert_eq!(text.parse(), Ok(name(text)));
+    }
+    let bad = [
+        "",
+        ".",
+        ".CUT",
+        "ROUTE.",
+        "route.cut",
+        "ROUTE.CUTS",
+        "NINECHARS",
+        "A B",
+        "A ",
+        " A",
+        "A.B C",
+        "A..B",
+        "A.B.C",
+        "ABCDEFGHIJK",
+        "A/B",
+        "A+B",
+        "\u{c4}",
+        "A\0",
+    ];
+    for text in bad {
+        assert_eq!(Name::parse(text), Err(Refusal::Name), "{text:?}");
+    }
+}
+
+/// What parses is a name to the library, and what does not is none.
+#[test]
+fn names_as_the_library_has_them() {
+    let card = card_k();
+    let characters = b"AZ09!#$%&'()-@^_`{}~az *+,/:;<=>?[]|\"\\\x7f";
+    let mut random = Random(0x3C6E_F372_FE94_F82B);
+    let pick = |random: &mut Random, length: usize| -> String {
+        let bound = if random.below(3) == 0 {
+            characters.len()
+        } else {
+            20
+        };
+        (0..length)
+            .map(|_| char::from(characters[random.below(bound)]))
+            .collect()
+    };
+    let (mut good, mut bad) = (0, 0);
+    for _ in 0..4_000 {
+        let (stem, extension) = (random.below(9), random.below(4));
+        let (stem, extension) = (pick(&mut random, stem), pick(&mut random, extension));
+        let dot = if extension.is_empty() { "" } else { "." };
+        let text = format!("{stem}{dot}{extension}");
+        // Spaces at a part's end fill it up on the card, but are no part of a name as written.
+        if stem.ends_with(' ') || extension.ends_with(' ') {
+            assert_eq!(Name::parse(&text), Err(Refusal::Name), "{text:?}");
+            continue;
+        }
+        let bytes = format!("{stem:<8}{extension:<3}").into_bytes();
+        let answer = calls::read(&card, &bytes, 0, &mut []);
+        match Name::parse(&text) {
+            Ok(name) => {
+                assert_eq!(
+                    (name.bytes(), answer),
+                    (&bytes[..], Answer::Refused(Refusal::Absent))
+                );
+                good += 1;
+            }
+            Err(refusal) => {
+                assert_eq!(
+                    (refusal, answer),
+                    (Refusal::Name, Answer::Refused(Refusal::Name)),
+                    "{text:?}"
+                );
+                bad += 1;
+            }
+        }
+    }
+    assert!(good > 500 && bad > 500, "{good} {bad}");
+}
+
+#[test]
+fn refusals_are_errors() {
+    for number in 1..=15 {
+        let refusal = Refusal::with_number(number).expect("a ground");
+        assert_eq!(refusal.number(), number);
+        let error: Box<dyn std::error::Error> = Box::new(refusal);
+        let text = error.to_string();
+        assert!(text.starts_with(refusal.name()) && text.ends_with(refusal.meaning()));
+    }
+    assert_eq!(Refusal::with_number(0), None);
+    assert_eq!(Refusal::with_number(16), None);
+}
+
+#[test]
+fn a_whole_life() {
+    let mut window = card_k();
+    let mut card = Card::new(&mut window);
+    let (route, panel) = (name("ROUTE.CUT"), name("PANEL"));
+    assert_eq!(card.recover(), Ok(0));
+    assert_eq!(card.create(route), Ok(3));
+    assert_eq!(card.create(route), Err(Refusal::Exists));
+    assert_eq!(card.append(route, &points(1_300)), Ok(8));
+    assert_eq!(card.read_whole(route), Ok(points(1_300)));
+    let mut part = [0; 10];
+    assert_eq!(card.read(route, 1_295, &mut part), Ok(5));
+    assert_eq!(part[..5], points(1_300)[1_295..]);
+    assert_eq!(part[5..], [0; 5]);
+    assert_eq!(card.truncate(route, 512), Ok(5));
+    assert_eq!(card.truncate(route, 513), Err(Refusal::Length));
+    assert_eq!(card.rename(route, panel), Ok(3));
+    assert_eq!(card.read_whole(route), Err(Refusal::Absent));
+
+    let entries = card.list().expect("clean");
+    assert_eq!(entries.len(), 1);
+    let entry = entries[0];
+    assert_eq!((entry.name().as_str(), entry.size()), ("PANEL", 512));
+    assert_eq!((entry.first_cluster(), entry.attributes()), (10, 0x20));
+    assert!(!entry.is_directory());
+
+    assert_eq!(
+        card.run(&Operation::Delete { name: panel }, 3),
+        Answer::Stopped(3)
+    );
+    assert_eq!(card.list(), Err(Refusal::Unclean));
+    assert_eq!(card.recover(), Ok(2));
+    assert_eq!(card.list(), Ok(vec![]));
+    assert_eq!(card.delete(panel), Err(Refusal::Absent));
+}

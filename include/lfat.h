@@ -1,0 +1,127 @@
+/*
+ * lfat.h: a FAT16 writer that survives power cuts, with a TI-LFAT journal on the card.
+ *
+ * The card is a window of bytes in memory. Every change is a store of one whole sector of 512 bytes.
+ * The calls keep no state between them, allocate nothing and touch nothing but what they are lent.
+ *
+ * Example: save 3 bytes under a new name, on a card that may have been cut.
+ *
+ *     const uint8_t name[] = "ROUTE   CUT", data[] = "G0\n";
+ *     uint64_t answer = lfat_recover(card, card_len, LFAT_NO_LIMIT);
+ *     if (LFAT_CODE(answer) == LFAT_DONE)
+ *         answer = lfat_create(card, card_len, name, LFAT_NAME_BYTES, LFAT_NO_LIMIT);
+ *     if (LFAT_CODE(answer) == LFAT_DONE)
+ *         answer = lfat_append(card, card_len, name, LFAT_NAME_BYTES, data, 3, LFAT_NO_LIMIT);
+ *     if (LFAT_CODE(answer) != LFAT_DONE)
+ *         puts(lfat_code_name(LFAT_CODE(answer)));
+ *
+ * What is asked of the caller:
+ *  - each pointer is good for the length beside it (a part of length 0 may have any pointer);
+ *  - the parts lent to one call do not overlap;
+ *  - the window is the whole card, from its boot sector on; bytes after its last sector are not touched;
+ *  - nobody else writes to the card during a call, nor between a cut and the end of recovery.
+ * Anything else may be wrong: a damaged card, a bad name or a length out of range is refused.
+ *
+ * examples/loader.c is a whole program.
+ */
+#ifndef LFAT_H
+#define LFAT_H
+
+#include <stddef.h>
+#include <stdint.h>
+
+#ifdef __cplusplus
+extern "C" {
+#endif
+
+/* An answer is code * 2^32 + count. The count is the stores made, the bytes read or the entries there are. */
+#define LFAT_CODE(answer) ((uint32_t)((uint64_t)(answer) >> 32))
+#define LFAT_COUNT(answer) ((uint32_t)((uint64_t)(answer) & 0xFFFFFFFFu))
+
+/* The limit that cuts nothing. A smaller one stops a call after so many stores, as a power cut would. */
+#define LFAT_NO_LIMIT UINT32_C(0xFFFFFFFF)
+
+/* Bytes of a sector, of a name (8 and 3, filled up with spaces) and of an entry that lfat_list copies. */
+#define LFAT_SECTOR_BYTES 512
+#define LFAT_NAME_BYTES 11
+#define LFAT_ENTRY_BYTES 32
+
+/*
+ * The codes. 1 to 15 are the grounds of a refusal, in checking order: the lowest that holds is answered.
+ * A refused call has stored nothing and altered no byte; its count is 0.
+ */
+enum lfat_code {
+    LFAT_DONE = 0,       /* all stores were made; for read and list: success */
+    LFAT_SHORT = 1,      /* the window has fewer than 512 bytes, less than a boot sector */
+    LFAT_BOOT = 2,       /* the boot sector is not that of a FAT16 card that is covered */
+    LFAT_WINDOW = 3,     /* the window has fewer bytes than the card's total sectors */
+    LFAT_LOGAREA = 4,    /* FAT1 has no log, more than one, or one of over 128 sectors */
+    LFAT_ROOT = 5,       /* a root slot after the first unused one is in use */
+    LFAT_RECORD = 6,     /* the pending log records are not one group */
+    LFAT_UNCLEAN = 7,    /* a log record is pending or the FATs differ: call lfat_recover first */
+    LFAT_NAME = 8,       /* a name is not 11 bytes or breaks the rule for names */
+    LFAT_ABSENT = 9,     /* no file has the name */
+    LFAT_DIRECTORY = 10, /* the name is that of a directory */
+    LFAT_EXISTS = 11,    /* the name is taken */
+    LFAT_ROOTFULL = 12,  /* the root directory has no free slot */
+    LFAT_CHAIN = 13,     /* the file's clusters do not fit its size */
+    LFAT_LENGTH = 14,    /* truncate was asked for more than the present size */
+    LFAT_NOSPACE = 15,   /* the card has too few free clusters */
+    LFAT_STOPPED = 255   /* the limit ended the call before its last store: recover before anything else */
+};
+
+/* A code's name, such as "UNCLEAN". */
+static inline const char *lfat_code_name(uint32_t code)
+{
+    static const char *const names[] = {
+        "DONE", "SHORT", "BOOT", "WINDOW", "LOGAREA", "ROOT", "RECORD", "UNCLEAN",
+        "NAME", "ABSENT", "DIRECTORY", "EXISTS", "ROOTFULL", "CHAIN", "LENGTH", "NOSPACE"};
+    if (code < sizeof names / sizeof names[0])
+        return names[code];
+    return code == LFAT_STOPPED ? "STOPPED" : "unknown";
+}
+
+/*
+ * Calls that store. All but lfat_recover ask for a clean card. The count is the number of stores made.
+ * A cut in mid-call leaves a card that lfat_recover brings to the state before the call or after it.
+ */
+
+/* Finishes what a power cut left behind, or takes it back. Call it at power-up, until it answers LFAT_DONE. */
+uint64_t lfat_recover(uint8_t *card, size_t card_len, uint32_t limit);
+
+/* Makes an empty file in the root directory. */
+uint64_t lfat_create(uint8_t *card, size_t card_len, const uint8_t *name, size_t name_len, uint32_t limit);
+
+/* Adds bytes at the end of a file. */
+uint64_t lfat_append(uint8_t *card, size_t card_len, const uint8_t *name, size_t name_len,
+                     const uint8_t *data, size_t data_len, uint32_t limit);
+
+/* Shortens a file to a size. */
+uint64_t lfat_truncate(uint8_t *card, size_t card_len, const uint8_t *name, size_t name_len,
+                       uint32_t size, uint32_t limit);
+
+/* Removes a file and frees its clusters. */
+uint64_t lfat_delete(uint8_t *card, size_t card_len, const uint8_t *name, size_t name_len, uint32_t limit);
+
+/* Gives a file another name. */
+uint64_t lfat_rename(uint8_t *card, size_t card_len, const uint8_t *old_name, size_t old_len,
+                     const uint8_t *new_name, size_t new_len, uint32_t limit);
+
+/* Calls that read. They ask for a clean card and touch no byte of the buffer but those that they fill. */
+
+/* Copies a file's bytes from an offset on, as many as there are and fit. The count is the bytes copied. */
+uint64_t lfat_read(const uint8_t *card, size_t card_len, const uint8_t *name, size_t name_len,
+                   uint32_t offset, uint8_t *buffer, size_t buffer_len);
+
+/*
+ * Copies the root directory's entries, files and directories, 32 bytes each as on the card, as many as fit whole.
+ * The count is how many there are. In an entry: name at 0 (11 bytes), attributes at 11 (bit 0x10: directory),
+ * size at 28 (4 bytes, little-endian).
+ */
+uint64_t lfat_list(const uint8_t *card, size_t card_len, uint8_t *buffer, size_t buffer_len);
+
+#ifdef __cplusplus
+}
+#endif
+
+#endif
