@@ -5,7 +5,7 @@ use mathlib.Core.List.{List, [], _∷_, map}
 use lib.ListN.{getD, replicate}
 use Rattle.model.specs.Bytes.{Bytes, zeros}
 use Rattle.model.specs.Scan.{range}
-use Rattle.model.specs.Sector.{Window, Store, store}
+use Rattle.model.specs.Sector.{Card, Window, Store, store, after}
 use Rattle.model.specs.Boot.{layout}
 use Rattle.model.specs.Root.{slot-at, file-size}
 use Rattle.model.specs.Ground.{Answer, refused, granted}
@@ -17,6 +17,7 @@ use Rattle.model.specs.declared.Outcome.{Outcome}
 use Rattle.model.specs.declared.Outcome.the-variants.{Done, Stopped}
 use Rattle.model.specs.declared.Pending.the-variants as Pending
 use Rattle.model.specs.declared.Ground.the-variants as Ground
+use Rattle.operations.specs.Program.{Program}
 use Rattle.operations.specs.Calls.{Call, creates, appends, truncates, deletes, renames, recovers, plan}
 use Rattle.operations.specs.Outcome.{outcome, made, left, largest}
 use Rattle.operations.specs.CardK.{k, window-k, boot-sector, span, route, letter, trace, Row, row, Seen, file, absent, seen}
@@ -77,15 +78,19 @@ pub record CutRow : Type 0 where
   pub recovered : Outcome
   pub file-then : Seen
 
+-- Each plan is an argument, so that it is computed once.
+unfoldable pub recovery-row : Outcome → Answer Program → Card → CutRow
+recovery-row end p c =
+    let ss = made largest p in
+    record { cut = end; stored = map (λ s. s .sector) ss; recovered = outcome largest p; file-then = seen (after ss c) }
+
+unfoldable pub cut-row : ℕ → Answer Program → Window → CutRow
+cut-row limit p before =
+    let c = after (made limit p) (before .card) in
+    recovery-row (outcome limit p) (plan recovers (record { size = before .size; card = c })) c
+
 abbrev pub cut-at : ℕ → Call → Window → CutRow
-cut-at limit call before =
-    let w = left limit call before in
-    record {
-      cut = outcome limit (plan call before);
-      stored = map (λ s. s .sector) (made largest (plan recovers w));
-      recovered = outcome largest (plan recovers w);
-      file-then = seen (left largest recovers w .card);
-    }
+cut-at limit call before = cut-row limit (plan call before) before
 
 -- The window after M4, and the size in root slot 1 once a rename of ROUTE.CUT on it is cut after its root store and recovered.
 abbrev pub k4 : Bytes → Window
