@@ -13,4 +13,5 @@ mod rack;
 mod refusals;
 mod support;
 mod usage;
+mod worked_card;
 mod wrapper;

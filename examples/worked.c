@@ -1,0 +1,100 @@
+/*
+ * Card K of the requirements, made from nothing, and its rows M3 to M10: all eight calls of the library from C.
+ * Prints a line for each call with its answer. Exit status: 0 if every answer is the one that is due, else 1.
+ */
+#include "lfat.h"
+
+#include <stdio.h>
+#include <string.h>
+
+enum { SECTORS = 4150, FAT1 = 1, FAT2 = 17, PATH_BYTES = 1300 };
+
+static const uint8_t route[] = "ROUTE   CUT", panel[] = "PANEL   CUT";
+static uint8_t card[SECTORS * LFAT_SECTOR_BYTES], saved[sizeof card];
+static uint8_t points[PATH_BYTES], back[PATH_BYTES + 1];
+static int wrong;
+
+/* 1 reserved sector, 1 sector per cluster, 16 per FAT, 512 root entries; log clusters 2 to 9; otherwise empty. */
+static void make_card(void)
+{
+    static const uint8_t fields[] = {0x00, 0x02, 1, 1, 0, 2, 0x00, 0x02, SECTORS & 0xFF, SECTORS >> 8, 0, 16, 0};
+    size_t k;
+    memset(card, 0, sizeof card);
+    memcpy(card + 11, fields, sizeof fields);
+    card[510] = 0x55;
+    card[511] = 0xAA;
+    for (k = 2; k < 10; k++) {
+        uint8_t *first = card + FAT1 * LFAT_SECTOR_BYTES + 2 * k, *second = card + FAT2 * LFAT_SECTOR_BYTES + 2 * k;
+        first[0] = second[0] = 0xF6;
+        first[1] = second[1] = 0xFF;
+    }
+}
+
+/* Prints an answer, and compares it with the code and count that are due. */
+static void due(const char *what, uint64_t answer, uint32_t code, uint32_t count)
+{
+    int right = LFAT_CODE(answer) == code && LFAT_COUNT(answer) == count;
+    printf("%s: %s %lu%s\n", what, lfat_code_name(LFAT_CODE(answer)), (unsigned long)LFAT_COUNT(answer),
+           right ? "" : ", which is wrong");
+    wrong |= !right;
+}
+
+static uint64_t append(size_t length, uint32_t limit)
+{
+    return lfat_append(card, sizeof card, route, LFAT_NAME_BYTES, points, length, limit);
+}
+
+static uint64_t create(const uint8_t *name)
+{
+    return lfat_create(card, sizeof card, name, LFAT_NAME_BYTES, LFAT_NO_LIMIT);
+}
+
+static uint64_t recover(void)
+{
+    return lfat_recover(card, sizeof card, LFAT_NO_LIMIT);
+}
+
+static uint64_t read_route(void)
+{
+    return lfat_read(card, sizeof card, route, LFAT_NAME_BYTES, 0, back, sizeof back);
+}
+
+/* Appends to the card as it was after M3, under a limit, and recovers: the file is then as before or as after. */
+static void cut(const char *what, uint32_t limit, uint32_t stores, uint32_t size)
+{
+    memcpy(card, saved, sizeof card);
+    due(what, append(PATH_BYTES, limit), LFAT_STOPPED, limit);
+    due("    unclean until recovered", read_route(), LFAT_UNCLEAN, 0);
+    due("    recover", recover(), LFAT_DONE, stores);
+    due("    read", read_route(), LFAT_DONE, size);
+}
+
+int main(void)
+{
+    static const uint8_t letters[3][LFAT_NAME_BYTES + 1] = {"A          ", "B          ", "C          "};
+    uint8_t entries[2 * LFAT_ENTRY_BYTES];
+    size_t i;
+    for (i = 0; i < PATH_BYTES; i++)
+        points[i] = (uint8_t)(i * 7 + 1);
+
+    make_card();
+    due("M3  create ROUTE.CUT", create(route), LFAT_DONE, 3);
+    memcpy(saved, card, sizeof card);
+    cut("M5  append 1300, cut after 4 stores", 4, 1, 0);
+    cut("M6  append 1300, cut after 5 stores", 5, 3, PATH_BYTES);
+    memcpy(card, saved, sizeof card);
+    due("M4  append 1300", append(PATH_BYTES, LFAT_NO_LIMIT), LFAT_DONE, 8);
+    due("    read", read_route(), LFAT_DONE, PATH_BYTES);
+    wrong |= memcmp(back, points, PATH_BYTES) != 0;
+    due("M7  append 100", append(100, LFAT_NO_LIMIT), LFAT_DONE, 4);
+    due("    truncate to 1401", lfat_truncate(card, sizeof card, route, 11, 1401, LFAT_NO_LIMIT), LFAT_LENGTH, 0);
+    due("M8  truncate to 512", lfat_truncate(card, sizeof card, route, 11, 512, LFAT_NO_LIMIT), LFAT_DONE, 5);
+    due("M9  delete", lfat_delete(card, sizeof card, route, 11, LFAT_NO_LIMIT), LFAT_DONE, 5);
+    for (i = 0; i < 3; i++)
+        due("    create", create(letters[i]), LFAT_DONE, 3);
+    due("M10 rename, the ninth group", lfat_rename(card, sizeof card, letters[0], 11, panel, 11, LFAT_NO_LIMIT),
+        LFAT_DONE, 11);
+    due("    list, with room for two", lfat_list(card, sizeof card, entries, sizeof entries), LFAT_DONE, 3);
+    due("    recover", recover(), LFAT_DONE, 0);
+    return wrong;
+}

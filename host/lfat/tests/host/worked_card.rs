@@ -1,0 +1,26 @@
+//! The worked card in C: all eight calls.
+
+use crate::support::c::{build, top};
+use crate::support::cli::Folder;
+use std::process::Stdio;
+
+#[test]
+fn all_eight_calls() {
+    let folder = Folder::new("worked-card");
+    let program = folder.path().join("worked");
+    build("gcc", "c99", &top().join("examples/worked.c"), &program).expect("gcc is there");
+    let run = folder.run(&program, "", Stdio::null()).done();
+    let text = run.text();
+    assert_eq!(text.lines().count(), 21);
+    for line in [
+        "M3  create ROUTE.CUT: DONE 3",
+        "M5  append 1300, cut after 4 stores: STOPPED 4",
+        "M6  append 1300, cut after 5 stores: STOPPED 5",
+        "    read: DONE 1300",
+        "    truncate to 1401: LENGTH 0",
+        "M10 rename, the ninth group: DONE 11",
+        "    list, with room for two: DONE 3",
+    ] {
+        assert!(text.lines().any(|own| own == line), "no line {line:?}");
+    }
+}
