@@ -1,15 +1,15 @@
 -- A directory listing in a lent buffer grows by a slot.
 use mathlib.Core.Path.{_≡_, refl, sym, ap, _∙_}
-use mathlib.Core.Logic.{_⊎_, inl, inr, ⊎-elim}
-use mathlib.Core.Bool.{Bool, true, false, _&&_}
+use mathlib.Core.Logic.{⊎-elim}
+use mathlib.Core.Bool.{Bool, true, false}
 use mathlib.Core.List.{List, [], _∷_, _++_, append-nil}
-use Prim.Native.Nat.{ℕ, _+_, _-_, _*_, _/_, _%_, _<_, _≤_, min}
+use Prim.Native.Nat.{ℕ, _+_, _*_, _/_, _%_, _<_, _≤_, min}
 use native.Mathlib.Omega.{arith}
 use lib.ListN.{length, getD, length-append, List·getD-append}
 use lib.Seq.{getD-append-add}
 use lib.Dec.{leb, ltb}
 use borrow.Author.Tests.{leb-true, leb-false, lt-ltb, le-ltb}
-use Rattle.model.specs.Bytes.{Bytes, pick, overlay, bytes-of}
+use Rattle.model.specs.Bytes.{pick, overlay, bytes-of}
 use Rattle.model.specs.Sector.{Card}
 use Rattle.model.specs.Root.{slot-at, listed}
 use Rattle.operations.specs.Reading.{Filled, directory-listing}
@@ -76,17 +76,6 @@ module _ (l : Layout) (c : Card) (ss : List ℕ) (room : ℕ) (e x y : List ℕ)
       byte i =
           let m : min (n + 1) (room / 32) ≡ min n (room / 32) = omega arith in
           rw m (⊎-elim (λ h. rw (lt-ltb i (32 * min n (room / 32)) h) (sym (old i (omega arith)))) (λ h. rw (le-ltb i (32 * min n (room / 32)) h) refl) (less? i (32 * min n (room / 32))))
-
--- only the bytes laid over matter
-pub overlay-same : (n : ℕ) (p q : Bytes) (at : ℕ) (b : Bytes) (i : ℕ) → ((m : ℕ) → m < n → p m ≡ q m) → overlay n p at b i ≡ overlay n q at b i
-overlay-same n p q at b i h =
-    ⊎-elim
-    (λ l. overlay-below p at b n i l ∙ sym (overlay-below q at b n i l))
-    (λ l. ⊎-elim
-    (λ u. overlay-in p at b n i l u ∙ h (i - at) (omega arith) ∙ sym (overlay-in q at b n i l u))
-    (λ u. overlay-above p at b n i u ∙ sym (overlay-above q at b n i u))
-    (less? i (at + n)))
-    (less? i at)
 
 pub fills-same : (f : Filled) (e x y : List ℕ) (n : ℕ) → Fills f e x n → ((i : ℕ) → getD y i 0 ≡ getD x i 0) → Fills f e y n
 fills-same f e x y n so h = record { counted = so .counted; bytes = λ i. h i ∙ so .bytes i }

@@ -1,8 +1,7 @@
 -- A record's line in the parts that it is written in.
 use Prim.Native.Nat.{ℕ, _+_, _*_}
 use mathlib.Core.List.{List, [], _∷_, _++_}
-use lib.Dec.{eqb}
-use Rattle.model.specs.Bytes.{Bytes, pick}
+use Rattle.model.specs.Bytes.{Bytes}
 use Rattle.model.specs.Text.{ascii, decimal}
 use Rattle.model.specs.Record.{r-number, r-slot, r-high, r-from, r-cluster, r-size}
 use Rattle.model.specs.Listing.{op-word, state-word}

@@ -10,11 +10,11 @@ use lib.Dec.{eqb}
 use lib.ListN.{length, getD, List·getD-append}
 use borrow.Author.Tests.{ne-eqb, eqb-true}
 use Rattle.model.specs.Bytes.{le}
-use Rattle.model.specs.Fat.{is-reserved, in-range, is-end}
+use Rattle.model.specs.Fat.{is-reserved, is-end}
 use Rattle.model.specs.Chain.{chain, ends-after, keeps-chain, needed, cluster-bytes, cluster-sector, file-sector}
 use Rattle.model.specs.declared.Layout.{Layout}
-use Rattle.model.proofs.Tests.{between-true, clash, told, less?}
-use Rattle.model.proofs.All.{All, all-map}
+use Rattle.model.proofs.Tests.{between-true, told, less?}
+use Rattle.model.proofs.All.{All}
 use Rattle.model.proofs.Indices.{Distinct, all-getD, distinct-getD}
 use Rattle.model.proofs.Walks.{inside, ends-inside, ends-rest, ends-last, distinct-chain}
 

@@ -1,10 +1,9 @@
 -- The tests by which free clusters, links, log marks and chain ends are told are the classes of FAT values.
 use Prim.Native.Nat.{ℕ, _+_, _≤_, _<_}
 use native.Mathlib.Omega.{arith}
-use mathlib.Core.Path.{_≡_, refl}
-use mathlib.Core.Bool.{Bool, true, false}
+use mathlib.Core.Path.{_≡_}
+use mathlib.Core.Bool.{true, false}
 use borrow.Author.Tests.{eqb-true, ne-eqb, lt-leb, le-leb}
-use lib.Dec.{eqb}
 use Rattle.model.specs.Scan.{between}
 use Rattle.model.specs.Fat.{is-free, in-range, is-reserved, is-end, class}
 use Rattle.model.specs.declared.Layout.{Layout}

@@ -1,17 +1,16 @@
 -- Stores that copy sectors of a card onto others, and those that write a FAT.
-use Prim.Native.Nat.{ℕ, _+_, _-_, _<_, _≤_}
+use Prim.Native.Nat.{ℕ, _+_, _<_, _≤_}
 use native.Mathlib.Omega.{arith}
-use mathlib.Core.Path.{_≡_, refl, sym, ap, _∙_}
-use mathlib.Core.Bool.{Bool, true, false, not}
-use mathlib.Core.List.{List, [], _∷_, map}
-use Rattle.model.specs.Bytes.{Bytes, pick}
-use Rattle.model.specs.Scan.{indices}
-use Rattle.model.specs.Sector.{Card, Store, store}
+use mathlib.Core.Path.{_≡_}
+use mathlib.Core.Bool.{not}
+use mathlib.Core.List.{[], _∷_}
+use Rattle.model.specs.Bytes.{pick}
+use Rattle.model.specs.Sector.{store}
 use Rattle.model.specs.Fat.{Fat, same, differing, write-fat}
 use Rattle.model.specs.Promises.{up-to}
 use Rattle.model.specs.declared.Layout.{Layout}
 use Rattle.model.proofs.Cards.{Away}
-use Rattle.model.proofs.Turns.{turn, map-indices, map-away}
+use Rattle.model.proofs.Turns.{map-indices, map-away}
 
 -- The stores that write a FAT, as turns over its sectors.
 pub write-fat-turns : (l : Layout) (at : ℕ) (new old : Fat)

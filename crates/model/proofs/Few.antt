@@ -1,20 +1,15 @@
 -- Lists of the numbers that a test holds of, where they are few.
 use Prim.Native.Nat.{ℕ, zero, suc, _+_, _-_, _<_, _≤_}
 use native.Mathlib.Omega.{arith}
-use mathlib.Core.Path.{_≡_, refl, sym, ap, _∙_}
+use mathlib.Core.Path.{_≡_, sym, ap, _∙_}
 use mathlib.Core.Logic.{⊎-elim}
 use mathlib.Core.Bool.{Bool, true, false}
 use mathlib.Core.List.{List, [], _∷_}
-use Rattle.model.specs.Bytes.{pick}
 use Rattle.model.specs.Scan.{indices-from, walk}
 use Rattle.model.proofs.Tests.{same?}
+use Rattle.model.proofs.Indices.{indices-empty}
 
 module _ (p : ℕ → Bool) where
-  pub indices-empty : (i n : ℕ) → ((k : ℕ) → i ≤ k → k < i + n → p k ≡ false) → indices-from p i n ≡ []
-  unfolding indices-from walk
-  indices-empty i zero h = refl
-  indices-empty i (suc n) h = rw (h i (omega arith) (omega arith)) (indices-empty (i + 1) n (λ k l m. h k (omega arith) (omega arith)))
-
   here : (i n : ℕ) → p i ≡ true → indices-from p i (suc n) ≡ i ∷ indices-from p (i + 1) n
   unfolding indices-from walk
   here i n e = rw e
@@ -37,7 +32,7 @@ module _ (p : ℕ → Bool) where
   pub indices-one : (i n k : ℕ) → i ≤ k → k < i + n → p k ≡ true → ((j : ℕ) → (j ≡ k → ⊥) → p j ≡ false) → indices-from p i n ≡ k ∷ []
   indices-one i n k l h e none =
       indices-first i n k l h (λ j a b. none j (λ q. omega arith)) e
-      ∙ ap (λ (ks : List ℕ). k ∷ ks) (indices-empty (k + 1) (i + n - (k + 1)) (λ j a b. none j (λ q. omega arith)))
+      ∙ ap (λ (ks : List ℕ). k ∷ ks) (indices-empty p (k + 1) (i + n - (k + 1)) (λ j a b. none j (λ q. omega arith)))
 
   pub indices-two : (i n k m : ℕ) → i ≤ k → k < m → m < i + n → p k ≡ true → p m ≡ true
       → ((j : ℕ) → (j ≡ k → ⊥) → (j ≡ m → ⊥) → p j ≡ false) → indices-from p i n ≡ k ∷ (m ∷ [])
@@ -45,4 +40,4 @@ module _ (p : ℕ → Bool) where
       indices-first i n k l (omega arith) (λ j a b. none j (λ q. omega arith) (λ q. omega arith)) e
       ∙ ap (λ (ks : List ℕ). k ∷ ks)
       (indices-first (k + 1) (i + n - (k + 1)) m (omega arith) (omega arith) (λ j a b. none j (λ q. omega arith) (λ q. omega arith)) f
-      ∙ ap (λ (ks : List ℕ). m ∷ ks) (indices-empty (m + 1) (k + 1 + (i + n - (k + 1)) - (m + 1)) (λ j a b. none j (λ q. omega arith) (λ q. omega arith))))
+      ∙ ap (λ (ks : List ℕ). m ∷ ks) (indices-empty p (m + 1) (k + 1 + (i + n - (k + 1)) - (m + 1)) (λ j a b. none j (λ q. omega arith) (λ q. omega arith))))

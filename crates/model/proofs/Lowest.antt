@@ -7,8 +7,7 @@ use mathlib.Core.List.{_∷_}
 use mathlib.Core.Bool.{Bool, true, false}
 use Rattle.model.specs.Scan.{walk, indices-from, first-from}
 use Rattle.model.proofs.Tests.{same?}
-use Rattle.model.proofs.Scan.{first-before, first-le, first-ge}
-use Rattle.model.proofs.Searches.{Sofar}
+use Rattle.model.proofs.Scan.{first-before, first-le, first-ge, Sofar}
 
 module _ (p : ℕ → Bool) where
   pub indices-here : (i n : ℕ) → 0 < n → p i ≡ true → indices-from p i n ≡ i ∷ indices-from p (i + 1) (n - 1)

@@ -1,13 +1,12 @@
 -- A `match` on a number with ranges, against a Bool of specs/: each return asks it on an interval without the single numbers among the patterns, or of those numbers.
-use mathlib.Core.Path.{_≡_, refl, sym, ap, _∙_}
-use mathlib.Core.Logic.{_⊎_, inl, inr}
+use mathlib.Core.Path.{_≡_, refl, sym}
+use mathlib.Core.Logic.{inl, inr}
 use mathlib.Core.Bool.{Bool, true, false, _&&_, _||_, not}
 use mathlib.Core.List.{List, [], _∷_}
-use Prim.Native.Nat.{ℕ, zero, suc, _+_, _-_, _<_, _≤_}
+use Prim.Native.Nat.{ℕ, _+_, _-_, _<_, _≤_}
 use native.Mathlib.Omega.{arith}
 use types.Run.{OneOf, hit}
 use mir.Val.{hasKey}
-use lib.Dec.{T}
 use Rattle.model.specs.Scan.{all}
 use Rattle.model.proofs.Scan.{all-at}
 use Rattle.model.proofs.Tests.{and-left, and-right}

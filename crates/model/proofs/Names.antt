@@ -6,17 +6,18 @@ use mathlib.Core.Logic.{_⊎_, inl, inr, ⊎-elim}
 use mathlib.Core.Bool.{Bool, true, false, _&&_, _||_, not}
 use lib.Dec.{leb, eqb, ltb}
 use borrow.Author.Tests.{leb-true, eqb-true, not-false, ltb-true, ne-eqb, eqb-false, not-true}
-use Rattle.model.specs.Bytes.{Bytes, byte-of, le, Span, part, pick}
-use Rattle.model.specs.Scan.{between, first, all-from, walk}
+use Rattle.model.specs.Bytes.{Bytes, byte-of, le, Span, part}
+use Rattle.model.specs.Scan.{between, first}
 use Rattle.model.specs.Sector.{Card}
-use Rattle.model.specs.Root.{name-byte, padded, stem-length, name-ok, name-in, vacant, listed, is-label, first-bytes, find, slot-at, lowest-slot, bears, same-name, free-slot, free-run, end-slot, root-ok}
+use Rattle.model.specs.Root.{name-byte, padded, stem-length, name-ok, name-in, vacant, listed, is-label, first-bytes, find, slot-at, lowest-slot, bears, same-name, free-slot, end-slot, root-ok}
 use Rattle.model.specs.declared.Layout.{Layout}
 use Rattle.model.specs.declared.Name.{Name}
 use Rattle.model.proofs.Tests.{any-elim, between-true, and-left, and-right, told, every-at, or-left, less?, clash}
-use Rattle.model.proofs.Scan.{all-at0, first-before0, first-has0, first-same, first-mono}
+use Rattle.model.proofs.Scan.{all-at0, first-before0, first-has0, first-mono}
 use Rattle.model.proofs.Numbers.{le-below}
 use Rattle.model.proofs.Records.{NameFits}
 use Rattle.model.proofs.Order.{ordered}
+use Rattle.model.proofs.Root.{free-slot-is}
 use Rattle.model.proofs.Pendings.{starts, starts-not-zero}
 
 -- ---- names
@@ -115,23 +116,13 @@ module _ (l : Layout) (c : Card) where
   found-live name less = record { in-root = less; begins = listed-starts (slot-at l c (find l c name)) (found-listed name less) }
 
   -- A free slot is the lowest vacant one.
-  pub free-slot-is : free-slot l c ≡ lowest-slot l c vacant
-  unfolding free-run lowest-slot all-from walk
-  free-slot-is =
-      let n : l .entries + 1 - 1 ≡ l .entries = omega arith in
-      rw n (first-same (λ k. pick (vacant (slot-at l c k)) true false) (λ k. vacant (slot-at l c k)) 0 (l .entries) (λ k lo hi. same (vacant (slot-at l c k))))
-    where
-      same : (b : Bool) → pick b true false ≡ b
-      same true = refl
-      same false = refl
-
   pub free-vacant : free-slot l c < l .entries → vacant (slot-at l c (free-slot l c)) ≡ true
   unfolding lowest-slot
-  free-vacant less = rw free-slot-is (first-has0 (λ k. vacant (slot-at l c k)) (l .entries) (rw free-slot-is at less))
+  free-vacant less = rw (free-slot-is l c) (first-has0 (λ k. vacant (slot-at l c k)) (l .entries) (rw (free-slot-is l c) at less))
 
   pub free-low : free-slot l c ≤ end-slot (l .entries) (first-bytes l c)
   unfolding lowest-slot end-slot vacant
-  free-low = rw free-slot-is (first-mono (λ k. eqb (slot-at l c k 0) 0) (λ k. vacant (slot-at l c k)) 0 (l .entries) (λ k e. or-left (eqb (slot-at l c k 0) 0) (eqb (slot-at l c k 0) 0xE5) e))
+  free-low = rw (free-slot-is l c) (first-mono (λ k. eqb (slot-at l c k 0) 0) (λ k. vacant (slot-at l c k)) 0 (l .entries) (λ k e. or-left (eqb (slot-at l c k 0) 0) (eqb (slot-at l c k 0) 0xE5) e))
 
   -- A live slot is not above the lowest beginning 0, and is not free.
   pub live-low : root-ok (l .entries) (first-bytes l c) ≡ true → (s : ℕ) → Live l c s → s ≤ end-slot (l .entries) (first-bytes l c)

@@ -1,16 +1,15 @@
 -- Sectors that are loaded, changed in pieces, and stored: bytes laid over others, log records laid into a sector, records marked.
-use Prim.Native.Nat.{ℕ, zero, suc, _+_, _-_, _*_, _/_, _%_, _<_, _≤_}
+use Prim.Native.Nat.{ℕ, _+_, _-_, _*_, _/_, _%_, _<_, _≤_}
 use native.Mathlib.Omega.{arith}
 use mathlib.Core.Path.{_≡_, refl, sym, ap, _∙_, fun-ext}
 use mathlib.Core.Logic.{⊎-elim}
-use mathlib.Core.Bool.{Bool, true, false, _&&_, and-false}
+use mathlib.Core.Bool.{and-false}
 use mathlib.Core.List.{List, [], _∷_, _++_}
 use lib.ListN.{length, getD, set, length-append, List·getD-append, List·getD-eq-default}
 use lib.Seq.{getD-set-same, getD-set-other, getD-append-add}
-use lib.Dec.{eqb, ltb}
 use borrow.Author.Tests.{lt-ltb, le-ltb, eq-eqb, ne-eqb}
 use Rattle.model.specs.Bytes.{Bytes, overlay, zeros}
-use Rattle.model.specs.Sector.{Card, card-of, clip, store}
+use Rattle.model.specs.Sector.{card-of, clip, store}
 use Rattle.model.specs.Record.{lay, committed}
 use Rattle.model.proofs.Tests.{same?, less?}
 use Rattle.model.proofs.Cards.{clip-at, clip-clip}
@@ -31,17 +30,6 @@ module _ (xs : List ℕ) (t : ℕ) (b : Bytes) (e : clip b ≡ card-of xs t) whe
 pub overlay-agree : (n m at : ℕ) (p b d : Bytes) → ((i : ℕ) → i < m → b i ≡ d i) → (i : ℕ) → i < m → overlay n p at b i ≡ overlay n p at d i
 unfolding overlay
 overlay-agree n m at p b d h i l = rw (h i l)
-
--- Only the n bytes that are laid over count.
-pub overlay-same : (n at : ℕ) (p q b : Bytes) → ((k : ℕ) → k < n → p k ≡ q k) → overlay n p at b ≡ overlay n q at b
-overlay-same n at p q b h =
-    fun-ext (λ i. ⊎-elim
-    (λ low. overlay-below p at b n i low ∙ sym (overlay-below q at b n i low))
-    (λ l. ⊎-elim
-    (λ u. overlay-in p at b n i l u ∙ h (i - at) (omega arith) ∙ sym (overlay-in q at b n i l u))
-    (λ u. overlay-above p at b n i u ∙ sym (overlay-above q at b n i u))
-    (less? i (at + n)))
-    (less? i at))
 
 -- ---- records laid into a sector
 

@@ -3,8 +3,8 @@ use Prim.Native.Nat.{ℕ, _+_, _*_, _/_, _%_, _^_, _≤_, _<_}
 use native.Mathlib.Omega.{arith}
 use native.Mathlib.Nat.{div-one, mod-eq-of-lt}
 use mathlib.Core.Path.{_≡_, refl, ap, _∙_}
-use mathlib.Core.List.{List, [], _∷_}
-use lib.ListN.{getD, length, List·getD-eq-default}
+use mathlib.Core.List.{List}
+use lib.ListN.{length, List·getD-eq-default}
 use Rattle.model.specs.Bytes.{Bytes, le, overlay, byte-of, patch, zeros}
 use Rattle.model.specs.Root.{entry-at}
 use Rattle.model.specs.Record.{record-of, records, lay, encode, decode, group-size, r-slot}

@@ -3,7 +3,7 @@ use Prim.Native.Nat.{ℕ, zero, suc, _+_, _-_, _<_, _≤_}
 use native.Mathlib.Nat.{add-zero, zero-add, suc-add}
 use native.Mathlib.Omega.{arith}
 use mathlib.Core.Path.{_≡_, refl, sym, ap, _∙_}
-use mathlib.Core.List.{List, [], _∷_}
+use mathlib.Core.List.{[], _∷_}
 use lib.ListN.{length}
 use mathlib.Core.Logic.{⊎-elim}
 use mathlib.Core.Bool.{Bool, true, false, not}
@@ -11,27 +11,9 @@ use lib.Dec.{eqb}
 use borrow.Author.Tests.{ne-eqb}
 use Rattle.model.specs.Bytes.{pick}
 use Rattle.model.specs.Scan.{walk, first-from, all-from, count-from, indices-from}
-use Rattle.model.proofs.Tests.{told, same?, less?}
-use Rattle.model.proofs.Scan.{first-none, first-before, count-step}
+use Rattle.model.proofs.Tests.{told, less?}
+use Rattle.model.proofs.Scan.{Sofar, first-before, count-step}
 use Rattle.model.proofs.Indices.{indices-empty}
-
--- p is v of the numbers from i on, below k: the invariant of a search.
-abbrev pub Sofar : (ℕ → Bool) → Bool → ℕ → ℕ → Type 0
-Sofar p v i k = (m : ℕ) → i ≤ m → m < k → p m ≡ v
-
-module _ (p : ℕ → Bool) (v : Bool) (i : ℕ) where
-  pub sofar-none : (k : ℕ) → k ≤ i → Sofar p v i k
-  sofar-none k l m a b = absurd (omega arith)
-
-  pub sofar-more : (k : ℕ) → Sofar p v i k → p k ≡ v → Sofar p v i (k + 1)
-  sofar-more k inv here m l h = ⊎-elim (λ e. rw e here) (λ ne. inv m l (omega arith)) (same? m k)
-
-  pub sofar-cut : (k j : ℕ) → Sofar p v i k → j ≤ k → Sofar p v i j
-  sofar-cut k j inv le m l h = inv m l (omega arith)
-
--- What a search from 0 on has not found.
-pub none-below : (p : ℕ → Bool) (n k : ℕ) → Sofar p false 0 k → n ≤ k → first-from p 0 n ≡ n
-none-below p n k inv l = first-none p 0 n (sofar-cut p false 0 k (0 + n) inv (omega arith)) ∙ omega arith
 
 -- All hold where none that fails is counted.
 pub count-fails : (p : ℕ → Bool) (i n : ℕ) → eqb (count-from (λ k. not (p k)) i n) 0 ≡ all-from p i n

@@ -2,7 +2,6 @@
 use Prim.Native.Nat.{ℕ, zero, suc, _+_, _-_, _≤_, _<_}
 use native.Mathlib.Omega.{arith}
 use mathlib.Core.Path.{_≡_, refl, sym, ap, _∙_}
-use mathlib.Core.List.{List, [], _∷_}
 use mathlib.Core.Bool.{Bool, true, false}
 use lib.ListN.{length, getD, drop}
 use Rattle.model.specs.Bytes.{pick}
@@ -46,9 +45,10 @@ module _ (e : ℕ → ℕ) where
       rw z (chain-step (suc n) (e k) q (omega arith))
 
   -- From any of its clusters on, it is the chain of that cluster.
-  pub chain-drop : (n k q : ℕ) → q < n → drop q (chain e n k) ≡ chain e (n - q) (getD (chain e n k) q 0)
+  pub chain-drop : (n k q : ℕ) → q ≤ n → drop q (chain e n k) ≡ chain e (n - q) (getD (chain e n k) q 0)
   unfolding chain
-  chain-drop zero k q h = absurd (omega arith)
+  chain-drop zero k zero h = refl
+  chain-drop zero k (suc q) h = absurd (omega arith)
   chain-drop (suc n) k zero h = let z : suc n - 0 ≡ suc n = omega arith in rw z refl
   chain-drop (suc n) k (suc q) h =
       let z : suc n - suc q ≡ n - q = omega arith in

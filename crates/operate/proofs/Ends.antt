@@ -1,18 +1,16 @@
 -- A call that ran its stores under a limit did what it should.
-use Prim.Native.Nat.{ℕ, _≤_, _<_, min}
+use Prim.Native.Nat.{ℕ, _≤_, _<_}
 use native.Mathlib.Omega.{arith}
-use mathlib.Core.Path.{_≡_, refl, sym, ap, _∙_}
+use mathlib.Core.Path.{_≡_, refl, sym, ap}
 use mathlib.Core.Bool.{Bool, true, false}
 use mathlib.Core.List.{List}
-use lib.ListN.{length, take}
-use lib.Dec.{leb}
+use lib.ListN.{length}
 use borrow.Author.Tests.{leb-true, leb-false}
 use Rattle.model.specs.Bytes.{pick}
-use Rattle.model.specs.Sector.{card-of, after}
+use Rattle.model.specs.Sector.{card-of}
 use Rattle.model.specs.Ground.{refused, granted}
 use Rattle.model.specs.Promises.{Ran}
 use Rattle.model.specs.declared.Ground.{Ground}
-use Rattle.model.specs.declared.Outcome.{Outcome}
 use Rattle.model.specs.declared.Outcome.the-variants.{Refused, Done, Stopped}
 use Rattle.operations.specs.Program.{Program, stores}
 use Rattle.operations.specs.Outcome.{outcome, made}

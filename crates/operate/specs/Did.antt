@@ -2,7 +2,6 @@
 use Prim.Native.Nat.{ℕ}
 use mathlib.Core.Path.{_≡_}
 use mathlib.Core.List.{List}
-use mathlib.Core.Bool.{Bool}
 use Rattle.model.specs.Bytes.{pick}
 use Rattle.model.specs.Sector.{card-of, after}
 use Rattle.model.specs.Ground.{Answer}

@@ -6,7 +6,7 @@ use mathlib.Core.List.{[], reverse}
 use mathlib.Core.Bool.{true}
 use lib.Dec.{ltb}
 use lib.ListN.{length, length-map, length-reverse}
-use Rattle.model.specs.Bytes.{pick, zeros}
+use Rattle.model.specs.Bytes.{zeros}
 use Rattle.model.specs.Scan.{range}
 use Rattle.model.specs.Sector.{Store, store}
 use Rattle.model.specs.Log.{Log, unused}

@@ -3,7 +3,7 @@ use Prim.Native.Nat.{ℕ, zero, suc, _+_, _<_}
 use native.Mathlib.Nat.{not-suc-le-zero, le-of-suc-le-suc, add-zero}
 use native.Mathlib.Omega.{arith}
 use mathlib.Core.Path.{_≡_, refl, sym, ap, _∙_, fun-ext}
-use mathlib.Core.List.{List, [], _∷_, map}
+use mathlib.Core.List.{List, map}
 use mathlib.Core.Bool.{Bool, true, false}
 use lib.Dec.{ltb}
 use lib.ListN.{getD}
@@ -12,7 +12,7 @@ use Rattle.model.specs.Bytes.{Bytes, pick, zeros}
 use Rattle.model.specs.Scan.{range, indices-from, walk}
 use Rattle.model.specs.Sector.{Card, Window}
 use Rattle.operations.specs.Calls.{Call}
-use Rattle.operations.specs.CardK.{Row, trace, trace-on}
+use Rattle.operations.specs.CardK.{trace, trace-on}
 
 abbrev look : List Bytes → ℕ → Card → Card
 look t n c s = pick (ltb s n) (getD t s zeros) (c s)

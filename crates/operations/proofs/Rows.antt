@@ -1,16 +1,15 @@
 -- The worked example, proved by computation over the definitions.
 use mathlib.Core.Path.{_≡_, refl, _∙_}
 use mathlib.Core.List.{_∷_, []}
-use lib.ListN.{getD, replicate}
+use lib.ListN.{replicate}
 use Rattle.model.specs.Bytes.{Bytes}
-use Rattle.model.specs.Ground.{refused, granted}
-use Rattle.model.specs.Volume.{clean}
+use Rattle.model.specs.Ground.{refused}
 use Rattle.model.specs.declared.Outcome.the-variants.{Done, Stopped}
 use Rattle.model.specs.declared.Ground.the-variants as Ground
-use Rattle.operations.specs.Calls.{appends, truncates, plan}
+use Rattle.operations.specs.Calls.{appends, truncates, deletes, plan}
 use Rattle.operations.specs.Outcome.{made, left, largest}
-use Rattle.operations.specs.CardK.{k, span, route, trace, trace-on, file}
-use Rattle.operations.specs.Worked.{Worked, volume-k, calls, rows, k3, m4, k4, renamed-size, tail-of, cut-at}
+use Rattle.operations.specs.CardK.{k, span, route, trace-on, file}
+use Rattle.operations.specs.Worked.{Worked, calls, rows, k3, m4, k4, renamed-size, tail-of, cut-at, stretched}
 use Rattle.operations.proofs.Compute.{compute}
 use Rattle.operations.proofs.Flat.{flat, trace-flat}
 
@@ -39,6 +38,10 @@ cut-rename : (d : Bytes) → renamed-size d ≡ 1300
 unfolding compute
 cut-rename d = refl
 
+short-row : (d : Bytes) → plan (deletes route) (stretched (k4 d)) ≡ refused Ground.Chain
+unfolding compute
+short-row d = refl
+
 longer-row : (d : Bytes) → plan (truncates route 1301) (left largest (m4 d) k3) ≡ refused Ground.Length
 unfolding compute
 longer-row d = refl
@@ -54,6 +57,7 @@ worked d e = record {
   m6 = cut-5 d;
   m7-cut = cut-7 d e;
   rename-cut = cut-rename d;
+  short-chain = short-row d;
   largest-card = (refl, refl);
   too-large = (refl, refl);
   longer = longer-row d;

@@ -1,5 +1,5 @@
 -- What a call stores, in segments. A segment ends in a barrier, a store that none passes: the group's store and the commit mark.
-use mathlib.Core.List.{List, [], _∷_, _++_}
+use mathlib.Core.List.{List, _∷_, _++_}
 use Rattle.model.specs.Sector.{Store}
 
 pub data Program : Type 0 where

@@ -3,9 +3,9 @@ use Prim.Native.Nat.{ℕ, _+_, _-_, _*_}
 use mathlib.Core.Path.{_≡_}
 use mathlib.Core.List.{List, [], _∷_, map}
 use lib.ListN.{getD, replicate}
-use Rattle.model.specs.Bytes.{Bytes, zeros}
+use Rattle.model.specs.Bytes.{Bytes, patch, zeros}
 use Rattle.model.specs.Scan.{range}
-use Rattle.model.specs.Sector.{Card, Window, Store, store, after}
+use Rattle.model.specs.Sector.{Card, Window, Store, store, put, after}
 use Rattle.model.specs.Boot.{layout}
 use Rattle.model.specs.Root.{slot-at, file-size}
 use Rattle.model.specs.Ground.{Answer, refused, granted}
@@ -101,6 +101,10 @@ renamed-size d =
     let w = left largest recovers (left 2 (renames route (letter 66)) (k4 d)) in
     file-size (slot-at (volume-k .layout) (w .card) 1)
 
+-- A window in which the size in root slot 0 is that of four clusters.
+unfoldable pub stretched : Window → Window
+stretched w = record { size = w .size; card = put (w .card) (store 33 (patch 4 2048 28 (w .card 33))) }
+
 -- A window that begins with a boot sector with 1 sector per cluster, 256 sectors per FAT and this many clusters.
 abbrev pub large : ℕ → Window
 large clusters =
@@ -123,6 +127,8 @@ pub record Worked (d e : Bytes) : Type 0 where
       ≡ record { cut = Stopped 2; stored = 33 ∷ 67 ∷ []; recovered = Done 2; file-then = file 1400 (10 ∷ 11 ∷ 12 ∷ []) }
   -- A rename may be redone after its root store: the new slot has the old one's size
   pub rename-cut : renamed-size d ≡ 1300
+  -- "Judging a chain by its end mark alone hands the loader old points": the chain of M4 ends after three clusters
+  pub short-chain : plan (deletes route) (stretched (k4 d)) ≡ refused Ground.Chain
   -- "65,524 clusters accepted, 65,525 BOOT; truncate to size + 1, LENGTH."
   pub largest-card : (mount (large 65524) ≡ granted (layout (large 65524 .card 0))) × (layout (large 65524 .card 0) .clusters ≡ 65524)
   pub too-large : (mount (large 65525) ≡ refused Ground.Boot) × (layout (large 65525 .card 0) .clusters ≡ 65525)

@@ -3,7 +3,6 @@ use lookup::Found;
 use model::Outcome;
 use model::Volume;
 use volume::Examined;
-ghost use mathlib.Core.Path.{_≡_};
 ghost use lib.ListN.{length};
 ghost use Rattle.model.specs.Bytes.{view};
 ghost use Rattle.model.specs.Sector.{card-of, window-of};

@@ -10,6 +10,7 @@ use Rattle.model.specs.Chain.{chain}
 use Rattle.model.specs.declared.Layout.{Layout}
 use Rattle.model.proofs.All.{All}
 use Rattle.model.proofs.Chains.{Used}
+use Rattle.model.proofs.Walks.{chain-drop}
 use Rattle.operations.specs.Plan.{shorten, last-cluster}
 use Rattle.operations.proofs.Lasts.{last-list}
 use Rattle.release.specs.Release.{cut, Inside}
@@ -24,20 +25,12 @@ unfolding release cut chain link
 release-cut t first zero = refl
 release-cut t first (suc m) = rw (ne-eqb (suc m) 0 (λ e. omega arith))
 
--- The clusters of a chain after the first n are a chain.
-pub chain-drop : (e : ℕ → ℕ) (m n k : ℕ) → n ≤ m → drop n (chain e m k) ≡ chain e (m - n) (getD (chain e m k) n 0)
-unfolding chain
-chain-drop e zero zero k h = refl
-chain-drop e zero (suc n) k h = absurd (omega arith)
-chain-drop e (suc m) zero k h = let f : suc m - 0 ≡ suc m = omega arith in rw f
-chain-drop e (suc m) (suc n) k h = let f : suc m - suc n ≡ m - n = omega arith in rw f (chain-drop e m n (e k) (omega arith))
-
 -- Of m clusters the first n are kept.
 pub truncate-cut : (t : Fat) (m n k : ℕ) → n ≤ m → let ks = chain (entry t) m k in
     All (λ j. j ≡ 0 → ⊥) (take n ks) → shorten (take n ks) (drop n ks) t ≡ cut t (last-cluster (take n ks)) (getD ks n 0) (m - n)
 truncate-cut t m n k h used =
     let ks = chain (entry t) m k in
-    ap (λ (x : List ℕ). shorten (take n ks) x t) (chain-drop (entry t) m n k h) ∙ shorten-cut (take n ks) used t (getD ks n 0) (m - n)
+    ap (λ (x : List ℕ). shorten (take n ks) x t) (chain-drop (entry t) m k n h) ∙ shorten-cut (take n ks) used t (getD ks n 0) (m - n)
 
 -- Clusters in use lie within range, and so do some of them.
 pub used-inside : (l : Layout) (e : ℕ → ℕ) (ks : List ℕ) → All (Used l e) ks → Inside l ks

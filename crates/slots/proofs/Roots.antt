@@ -19,7 +19,8 @@ use Rattle.model.specs.declared.Operation.the-variants.{Create, Update, Delete,
 use Rattle.model.proofs.Tests.{same?, less?}
 use Rattle.model.proofs.Cards.{store-same}
 use Rattle.model.proofs.Few.{indices-one, indices-two}
-use Rattle.model.proofs.Pieces.{overlay-agree, overlay-same}
+use Rattle.model.proofs.Pieces.{overlay-agree}
+use Rattle.model.proofs.Laying.{overlay-same}
 use Rattle.operations.specs.Finish.{Edit, edit, set-slots, edits, effect, root-sector, concerns, root-stores, set-name, set-first, mark-deleted, new-entry}
 use Rattle.operations.proofs.Roots.{unedited, edited-here, edited-else, slot-same, root-stores-same}
 use Rattle.slots.specs.Slots.{Slots, resized, with-slot, slot-store, pair-stores}
@@ -31,7 +32,7 @@ Makes es d r b = (j : ℕ) → j < 512 → root-sector (set-slots es d) r j ≡ 
 -- An edit of a slot in this sector, and of one in another.
 laid : (s : ℕ) (x a : Bytes) (es : List Edit) (d : Directory) (r : ℕ) (b : Bytes) → s / 16 ≡ r → ((k : ℕ) → k < 32 → x k ≡ a k) → Makes es d r b → Makes (edit s x ∷ es) d r (with-slot s a b)
 laid s x a es d r b e f so j h =
-    edited-here s x es d r j h e ∙ ap (λ (y : Bytes). y j) (overlay-same 32 (32 * (s % 16)) x a (root-sector (set-slots es d) r) f)
+    edited-here s x es d r j h e ∙ overlay-same 32 x a (32 * (s % 16)) (root-sector (set-slots es d) r) f j
     ∙ overlay-agree 32 512 (32 * (s % 16)) a (root-sector (set-slots es d) r) b so j h
 
 past : (s : ℕ) (x : Bytes) (es : List Edit) (d : Directory) (r : ℕ) (b : Bytes) → (s / 16 ≡ r → ⊥) → Makes es d r b → Makes (edit s x ∷ es) d r b

@@ -17,12 +17,12 @@ use Rattle.model.specs.declared.Volume.{Volume}
 use Rattle.model.proofs.All.{All, all-map, all-take}
 use Rattle.model.proofs.Chains.{Used, chain-used}
 use Rattle.model.proofs.Needed.{needed-mono}
-use Rattle.model.proofs.Walks.{chain-length, chain-here}
+use Rattle.model.proofs.Walks.{chain-length, chain-here, chain-drop}
 use Rattle.operations.specs.Plan.{clusters-of, old-fat, last-cluster, operate, shorten, truncate-along, truncate-stores, delete-stores}
 use Rattle.file.specs.Files.{links}
 use Rattle.file.proofs.Laws.{chain-at, links-none, links-more, link-inside}
 use Rattle.release.specs.Release.{cut, Inside}
-use Rattle.release.proofs.Shortens.{release-cut, truncate-cut, chain-drop, used-inside, inside-drop}
+use Rattle.release.proofs.Shortens.{release-cut, truncate-cut, used-inside, inside-drop}
 use Rattle.truncation.specs.declared.Cut.{Cut}
 use Rattle.truncation.specs.Calls.{Parts}
 
@@ -57,7 +57,7 @@ module _ (l : Layout) (fits : Fits l) (t : Fat) (f : File) (h : keeps-chain l (e
     cut-is = truncate-cut t m n (f .first) fewer kept-used
 
     rest-is : drop n ms ≡ chain (entry t) (m - n) (getD ms n 0)
-    rest-is = chain-drop (entry t) m n (f .first) fewer
+    rest-is = chain-drop (entry t) m (f .first) n fewer
 
     rest-inside : Inside l (chain (entry t) (m - n) (getD ms n 0))
     rest-inside = subst (Inside l) rest-is (inside-drop l n ms (rw all all-inside))

@@ -1,4 +1,4 @@
-use mathlib.Core.Path.{_≡_, refl, sym, ap, _∙_, subst}
+use mathlib.Core.Path.{sym, subst}
 use mathlib.Core.List.{List, []}
 use Rattle.model.specs.Sector.{Store, card-of}
 use Rattle.model.specs.Fat.{fat1-of}

@@ -1,4 +1,4 @@
-use mathlib.Core.Path.{_≡_, refl, sym, ap, _∙_}
+use mathlib.Core.Path.{sym, ap, _∙_}
 use Rattle.model.specs.Ground.{_>>=_}
 use Rattle.operate.proofs.Ends.{did-refused}
 use Rattle.lookup.specs.Found.{vacancy-of}

@@ -1,9 +1,7 @@
-use mathlib.Core.Path.{_≡_, refl, sym, ap, _∙_}
-use Prim.Native.Nat.{ℕ, _+_, _*_, _-_, _/_, _%_, _≤_}
+use mathlib.Core.Path.{_≡_, refl}
+use Prim.Native.Nat.{_-_, _≤_}
 use native.Mathlib.Omega.{arith}
-use lib.ListN.{length, getD}
-use borrow.Author.Tests.{not-true, not-false, lt-leb, le-leb}
-use Rattle.model.specs.Bytes.{bytes-of, overlay}
+use lib.ListN.{length}
 use Rattle.model.specs.Sector.{card-of}
 use Rattle.model.specs.Root.{slot-at, listed}
 use Rattle.operations.specs.Reading.{shown, directory-listing}

@@ -2,16 +2,12 @@ use mathlib.Core.Path.{_≡_, refl, sym, ap, _∙_}
 use Prim.Native.Nat.{ℕ, _+_, _*_, _-_, _/_, _%_, _≤_}
 use native.Mathlib.Omega.{arith}
 use lib.ListN.{length, getD}
-use borrow.Author.Tests.{not-true, not-false, lt-leb, le-leb}
 use Rattle.model.specs.Bytes.{bytes-of, overlay}
 use Rattle.model.specs.Sector.{card-of}
-use Rattle.model.specs.Root.{slot-at, listed}
-use Rattle.operations.specs.Reading.{shown, directory-listing}
-use Rattle.entries.specs.Filled.{Fills, shown-to}
+use Rattle.model.specs.Root.{slot-at}
 use Rattle.model.proofs.Overlays.{overlay-none, overlay-more}
 use Rattle.model.proofs.Sectors.{byte-in}
-use Rattle.model.proofs.Scan.{indices-none}
-use Rattle.entries.proofs.Laws.{overlay-same, listed-le, listing-none, listing-step}
+use Rattle.model.proofs.Laying.{overlay-same}
 use borrow.Author.Needs.{needs}
 use Rattle.entries.proofs.copy_slot.Statement.{statement}
 use Rattle.entries.proofs.copy_slot.Tie as tie
@@ -73,8 +69,8 @@ same-length c = search needs
 returns : tie.Need-returns Inv-loop μ-loop
 unfolding slot-at
 returns c = let s : ℕ = c .before .before .before .before .before .before .before .args .l .root + c .before .before .before .before .before .before .before .args .k / 16 in let end : c .before .loop .j ≡ 32 = omega arith in let f = rw end at (c .before .loop .inv .2) in
-    λ i. f i ∙ overlay-same 32 _ (slot-at (c .before .before .before .before .before .before .before .args .l) (card-of (c .before .before .before .before .before .before .before .args .w .now)) (c .before .before .before .before .before .before .before .args .k)) (c .before .before .before .before .before .before .before .args .at) (bytes-of (c .before .before .before .before .before .before .before .args .out .now)) i
-    (λ m h. ap (λ (z : ℕ). getD (c .before .before .before .before .before .before .before .args .w .now) z 0) (omega (arith, c .before .before .before .index .ensures, c .before .before .index2 .ensures)) ∙ sym (byte-in (c .before .before .before .before .before .before .before .args .w .now) s (32 * (c .before .before .before .before .before .before .before .args .k % 16) + m) (omega arith)))
+    λ i. f i ∙ overlay-same 32 _ (slot-at (c .before .before .before .before .before .before .before .args .l) (card-of (c .before .before .before .before .before .before .before .args .w .now)) (c .before .before .before .before .before .before .before .args .k)) (c .before .before .before .before .before .before .before .args .at) (bytes-of (c .before .before .before .before .before .before .before .args .out .now))
+    (λ m h. ap (λ (z : ℕ). getD (c .before .before .before .before .before .before .before .args .w .now) z 0) (omega (arith, c .before .before .before .index .ensures, c .before .before .index2 .ensures)) ∙ sym (byte-in (c .before .before .before .before .before .before .before .args .w .now) s (32 * (c .before .before .before .before .before .before .before .args .k % 16) + m) (omega arith))) i
 
 pub copy-slot-spec : {M : Type 1} → statement M
 copy-slot-spec =

@@ -1,15 +1,8 @@
-use mathlib.Core.Path.{_≡_, refl, sym, ap, _∙_}
-use Prim.Native.Nat.{ℕ, _+_, _*_, _-_, _/_, _%_, _≤_}
+use mathlib.Core.Path.{refl, sym, _∙_}
+use Prim.Native.Nat.{_+_, _*_}
 use native.Mathlib.Omega.{arith}
-use lib.ListN.{length, getD}
+use lib.ListN.{length}
 use borrow.Author.Tests.{not-true, not-false, lt-leb, le-leb}
-use Rattle.model.specs.Bytes.{bytes-of, overlay}
-use Rattle.model.specs.Sector.{card-of}
-use Rattle.model.specs.Root.{slot-at, listed}
-use Rattle.operations.specs.Reading.{shown, directory-listing}
-use Rattle.entries.specs.Filled.{Fills, shown-to}
-use Rattle.model.proofs.Scan.{indices-none}
-use Rattle.entries.proofs.Laws.{listed-le, listing-none, listing-step}
 use borrow.Author.Needs.{needs}
 use Rattle.entries.proofs.list_slot.Statement.{statement}
 use Rattle.entries.proofs.list_slot.Tie as tie

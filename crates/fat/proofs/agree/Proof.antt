@@ -5,8 +5,7 @@ use native.Mathlib.Omega.{arith}
 use borrow.Author.Tests.{not-true, not-false}
 use Rattle.model.specs.Sector.{card-of}
 use Rattle.model.specs.Fat.{same, fats-agree}
-use Rattle.model.proofs.Scan.{all-of, all-not}
-use Rattle.model.proofs.Searches.{Sofar, sofar-none, sofar-more, sofar-cut}
+use Rattle.model.proofs.Scan.{all-of, all-not, Sofar, sofar-none, sofar-more, sofar-cut}
 use borrow.Author.Needs.{needs}
 use Rattle.fat.proofs.agree.Statement.{statement}
 use Rattle.fat.proofs.agree.Tie as tie

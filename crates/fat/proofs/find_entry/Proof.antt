@@ -5,8 +5,8 @@ use native.Mathlib.Omega.{arith}
 use borrow.Author.Tests.{eq-eqb, ne-eqb}
 use Rattle.model.specs.Sector.{card-of}
 use Rattle.model.specs.Fat.{fat-at}
-use Rattle.model.proofs.Scan.{first-is, first-none}
-use Rattle.model.proofs.Searches.{Sofar, sofar-none, sofar-more, sofar-cut, sofar-over}
+use Rattle.model.proofs.Scan.{first-is, first-none, Sofar, sofar-none, sofar-more, sofar-cut}
+use Rattle.model.proofs.Searches.{sofar-over}
 use Rattle.fat.specs.Located.{holds}
 use borrow.Author.Needs.{needs}
 use Rattle.fat.proofs.find_entry.Statement.{statement}

@@ -1,4 +1,4 @@
-use mathlib.Core.Path.{_≡_, refl, sym, ap, _∙_}
+use mathlib.Core.Path.{ap, _∙_}
 use Rattle.operations.specs.Outcome.{outcome-number}
 use borrow.Author.Needs.{needs}
 use Rattle.lfat.proofs.lfat_rename.Statement.{statement}

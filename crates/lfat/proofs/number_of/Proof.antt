@@ -1,7 +1,5 @@
-use mathlib.Core.Path.{_≡_, refl, sym, ap, _∙_}
 use native.Mathlib.Omega.{arith}
 use Rattle.model.specs.Ground.{ground-number}
-use Rattle.operations.specs.Outcome.{outcome-number}
 use borrow.Author.Needs.{needs}
 use Rattle.lfat.proofs.number_of.Statement.{statement}
 use Rattle.lfat.proofs.number_of.Tie as tie

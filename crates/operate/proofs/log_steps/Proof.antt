@@ -1,11 +1,9 @@
-use mathlib.Core.Path.{_≡_, refl, sym, ap, _∙_}
-use Prim.Native.Nat.{ℕ}
 use native.Mathlib.Omega.{arith}
 use borrow.Author.Tests.{not-true, not-false}
 use Rattle.model.specs.Sector.{card-of}
 use Rattle.model.specs.Log.{log-of}
 use Rattle.operations.specs.Plan.{new-group}
-use Rattle.operate.proofs.Laws.{group-steps-cut, group-steps-ran, log-steps-cut, log-steps-ran, group-sector-in}
+use Rattle.operate.proofs.Laws.{log-steps-cut, log-steps-ran, group-sector-in}
 use borrow.Author.Needs.{needs}
 use Rattle.operate.proofs.log_steps.Statement.{statement}
 use Rattle.operate.proofs.log_steps.Tie as tie

@@ -1,8 +1,7 @@
 -- The chains of files on the card that a finished operation leaves.
-use Prim.Native.Nat.{ℕ, _+_, _-_, _*_, _/_, _≤_, _<_}
-use native.Mathlib.Nat.{div-eq-of-lt}
+use Prim.Native.Nat.{ℕ, _+_, _≤_, _<_}
 use native.Mathlib.Omega.{arith}
-use mathlib.Core.Path.{_≡_, refl, ap, _∙_}
+use mathlib.Core.Path.{_≡_, refl, _∙_}
 use mathlib.Core.List.{List, []}
 use mathlib.Core.Bool.{true}
 use lib.ListN.{length, getD}
@@ -11,7 +10,7 @@ use Rattle.model.specs.Bytes.{Bytes}
 use Rattle.model.specs.Scan.{between}
 use Rattle.model.specs.Sector.{Card, Store}
 use Rattle.model.specs.Fat.{Fat, entry, fat1-of, in-range}
-use Rattle.model.specs.Chain.{chain, keeps-chain, needed, cluster-bytes}
+use Rattle.model.specs.Chain.{chain, keeps-chain, needed}
 use Rattle.model.specs.Root.{slot-at, file-size, first-cluster, file-at, Directory}
 use Rattle.model.specs.Promises.{Shape}
 use Rattle.model.specs.declared.Layout.{Layout}
@@ -21,6 +20,7 @@ use Rattle.operations.specs.Plan.{clusters-of}
 use Rattle.operations.specs.Sound.{proper, chain-of}
 use Rattle.model.proofs.Tests.{and-both}
 use Rattle.model.proofs.All.{All, all-map}
+use Rattle.model.proofs.Needed.{needed-none}
 use Rattle.model.proofs.Chains.{Used, chain-same, chain-used}
 use Rattle.model.proofs.Volumes.{layout-of, first-fat}
 use Rattle.operations.proofs.Safety.Start.{Start, shape-of}
@@ -31,13 +31,6 @@ use Rattle.operations.proofs.Safety.Linked.{Linked, Ranged, all-zip, li
 pub ranged : (l : Layout) → l .clusters ≤ 65524 → (k : ℕ) → 2 ≤ k → k < 2 + l .clusters → Ranged l k
 unfolding in-range between
 ranged l few k low high = (and-both _ _ (le-leb 2 k low) (le-leb k (l .clusters + 1) (omega arith)), omega arith)
-
--- No bytes, no clusters.
-pub needed-none : (l : Layout) → 1 ≤ l .factor → needed l 0 ≡ 0
-unfolding needed cluster-bytes
-needed-none l one =
-    let less : 512 * l .factor - 1 < 512 * l .factor = omega arith in
-    ap (λ m. m / (512 * l .factor)) (let s : 0 + (512 * l .factor - 1) ≡ 512 * l .factor - 1 = omega arith in s) ∙ div-eq-of-lt less
 
 -- The file in a slot keeps the chain rule, with this chain.
 pub record HasChain (l : Layout) (t : Card) (s : ℕ) (ks : List ℕ) : Type 0 where

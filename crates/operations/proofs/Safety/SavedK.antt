@@ -2,7 +2,7 @@
 use Prim.Native.Nat.{ℕ, _+_, _/_}
 use native.Mathlib.Omega.{arith}
 use mathlib.Core.Path.{_≡_, refl}
-use mathlib.Core.Bool.{true, false}
+use mathlib.Core.Bool.{false}
 use borrow.Author.Tests.{ne-eqb}
 use Rattle.model.specs.Bytes.{Bytes}
 use Rattle.model.specs.Root.{slot-at, is-file, listed, vacant}

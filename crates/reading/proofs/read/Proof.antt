@@ -1,15 +1,11 @@
-use mathlib.Core.Path.{_≡_, refl, sym, ap, _∙_}
-use Prim.Native.Nat.{ℕ}
+use mathlib.Core.Path.{refl, sym, ap, _∙_}
 use lib.ListN.{length}
-use Rattle.model.specs.Bytes.{view, bytes-of}
-use Rattle.model.specs.Sector.{card-of, window-of}
+use Rattle.model.specs.Bytes.{view}
+use Rattle.model.specs.Sector.{window-of}
 use Rattle.model.specs.Ground.{_>>=_}
-use Rattle.model.specs.declared.Outcome.the-variants.{Done}
-use Rattle.operations.specs.Reading.{buffer-after, filled-outcome, directory-listing, shown, reading}
+use Rattle.operations.specs.Reading.{buffer-after, filled-outcome}
 use Rattle.volume.specs.Examined.{examined-of}
-use Rattle.lookup.specs.Found.{found-of}
-use Rattle.reading.specs.Gave.{Gave, read-on}
-use Rattle.reading.proofs.Laws.{over-first, list-refused, list-granted, read-refused, read-granted}
+use Rattle.reading.proofs.Laws.{read-refused, read-granted}
 use borrow.Author.Needs.{needs}
 use Rattle.reading.proofs.read.Statement.{statement}
 use Rattle.reading.proofs.read.Tie as tie

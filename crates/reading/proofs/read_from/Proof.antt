@@ -1,15 +1,9 @@
-use mathlib.Core.Path.{_≡_, refl, sym, ap, _∙_}
-use Prim.Native.Nat.{ℕ}
-use lib.ListN.{length}
-use Rattle.model.specs.Bytes.{view, bytes-of}
-use Rattle.model.specs.Sector.{card-of, window-of}
+use mathlib.Core.Path.{refl, sym, ap, _∙_}
 use Rattle.model.specs.Ground.{_>>=_}
 use Rattle.model.specs.declared.Outcome.the-variants.{Done}
-use Rattle.operations.specs.Reading.{buffer-after, filled-outcome, directory-listing, shown, reading}
-use Rattle.volume.specs.Examined.{examined-of}
+use Rattle.operations.specs.Reading.{buffer-after, filled-outcome}
 use Rattle.lookup.specs.Found.{found-of}
-use Rattle.reading.specs.Gave.{Gave, read-on}
-use Rattle.reading.proofs.Laws.{over-first, list-refused, list-granted, read-refused, read-granted}
+use Rattle.reading.specs.Gave.{read-on}
 use borrow.Author.Needs.{needs}
 use Rattle.reading.proofs.read_from.Statement.{statement}
 use Rattle.reading.proofs.read_from.Tie as tie

@@ -4,8 +4,7 @@ use native.Mathlib.Omega.{arith}
 use mathlib.Core.Bool.{false}
 use borrow.Author.Tests.{eq-eqb, ne-eqb}
 use Rattle.model.specs.Log.{unused}
-use Rattle.model.proofs.Scan.{first-is}
-use Rattle.model.proofs.Searches.{Sofar, sofar-none, sofar-more, none-below}
+use Rattle.model.proofs.Scan.{first-is, Sofar, sofar-none, sofar-more, none-below}
 use Rattle.stage.proofs.Laws.{begins-zero}
 use borrow.Author.Needs.{needs}
 use Rattle.stage.proofs.unused_sector.Statement.{statement}

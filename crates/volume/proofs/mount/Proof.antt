@@ -1,12 +1,7 @@
-use mathlib.Core.Path.{_≡_, refl, sym, ap, _∙_}
+use mathlib.Core.Path.{sym, _∙_}
 use native.Mathlib.Omega.{arith}
-use borrow.Author.Tests.{not-true, not-false}
-use Rattle.model.specs.Sector.{card-of, window-of}
-use Rattle.model.specs.Fat.{fat1-of}
-use Rattle.model.specs.Pending.{pending}
+use Rattle.model.specs.Sector.{window-of}
 use Rattle.model.specs.Ground.{_>>=_}
-use Rattle.model.specs.Volume.{examine, clean}
-use Rattle.volume.specs.Examined.{mounted-of, examined-of, examine-on}
 use Rattle.boot.proofs.Grounds.{mount-short, mount-boot, mount-window, mount-layout}
 use borrow.Author.Needs.{needs}
 use Rattle.volume.proofs.mount.Statement.{statement}
