@@ -14,7 +14,7 @@ help:
 	@echo 'make run     make a card, save a path, pull the plug at every store, recover, print the table'
 	@echo 'make lfat    build the command line, $(LFAT)'
 	@echo 'make loader  build examples/loader.c, $(LOADER)'
-	@echo 'make test    the gate, .ci/run: proves everything from nothing (half an hour or more)'
+	@echo 'make test    the gate, .ci/run: proves everything from nothing (40 minutes)'
 	@echo 'make clean   remove what cargo, gcc and make run have made; proofs and library stay'
 
 # rt proves only what has changed; from nothing it takes a while.
