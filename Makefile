@@ -8,12 +8,16 @@ PROVED := crates.txt $(shell find crates -name '*.rt' -o -name '*.antt')
 
 export PATH := $(PATH):$(HOME)/.cargo/bin
 
-.PHONY: help lfat run loader test clean
+.PHONY: help lfat run loader cases test clean
+
+# How many times the usual number of random cases.
+N := 10
 
 help:
 	@echo 'make run     make a card, save a path, pull the plug at every store, recover, print the table'
 	@echo 'make lfat    build the command line, $(LFAT)'
 	@echo 'make loader  build examples/loader.c, $(LOADER)'
+	@echo 'make cases   the random tests of the library, N times as many: make cases N=10'
 	@echo 'make test    the gate, .ci/run: proves everything from nothing (40 minutes)'
 	@echo 'make clean   remove what cargo, gcc and make run have made; proofs and library stay'
 
@@ -36,6 +40,9 @@ run: lfat
 
 loader: $(LIBRARY)
 	gcc -std=c99 -Wall -Wextra -Wpedantic -Werror -O2 -I include examples/loader.c $(LIBRARY) -o $(LOADER)
+
+cases: $(LIBRARY)
+	LFAT_CASES=$(N) cargo test --release --offline --manifest-path host/Cargo.toml --package lfat-card --test library --target-dir target/host
 
 test:
 	.ci/run
