@@ -11,7 +11,7 @@ use std::fs::{self, OpenOptions};
 #[test]
 fn same_as_in_memory() {
     let folder = Folder::new("images");
-    let mut random = Random(0x510E_527F_ADE6_82D1);
+    let mut random = Random::new(0x510E_527F_ADE6_82D1);
     for sectors_per_cluster in [1, 8] {
         let mut window = spec(sectors_per_cluster).build();
         // Bytes after the card's last sector are kept.

@@ -19,7 +19,7 @@ fn accepts(boot: &[u8]) -> bool {
 
 #[test]
 fn random_boot_sectors() {
-    let mut random = Random(0x9B05_688C_2B3E_6C1F);
+    let mut random = Random::new(0x9B05_688C_2B3E_6C1F);
     let (mut accepted, mut refused) = (0, 0);
     for round in 0..3_000 {
         let sectors_per_cluster = 1 << (round % 7);

@@ -35,7 +35,7 @@ fn as_loglist_on_many_tables() {
         loglist.same(&vec![b'A'; length]);
         loglist.same(&vec![0xE5; length]);
     }
-    let mut random = Random(0x1F83_D9AB_FB41_BD6B);
+    let mut random = Random::new(0x1F83_D9AB_FB41_BD6B);
     for _ in 0..60 {
         let sectors = 1 + random.below(9);
         let mut table = random.bytes(512 * sectors);

@@ -122,7 +122,7 @@ fn random_operation<'a>(random: &mut Random, data: &'a [u8]) -> Operation<'a> {
 fn every_write_of_random_histories() {
     let data = points(6_000);
     for (sectors_per_cluster, operations) in [(1, 40), (4, 8)] {
-        let mut random = Random(0xA54F_F53A_5F1D_36F1 + u64::from(sectors_per_cluster));
+        let mut random = Random::new(0xA54F_F53A_5F1D_36F1 + u64::from(sectors_per_cluster));
         let mut card = spec(sectors_per_cluster).build();
         for _ in 0..operations {
             check_with_recoveries(&mut card, &random_operation(&mut random, &data));

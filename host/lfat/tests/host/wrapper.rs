@@ -53,7 +53,7 @@ fn names() {
 fn names_as_the_library_has_them() {
     let card = card_k();
     let characters = b"AZ09!#$%&'()-@^_`{}~az *+,/:;<=>?[]|\"\\\x7f";
-    let mut random = Random(0x3C6E_F372_FE94_F82B);
+    let mut random = Random::new(0x3C6E_F372_FE94_F82B);
     let pick = |random: &mut Random, length: usize| -> String {
         let bound = if random.below(3) == 0 {
             characters.len()
