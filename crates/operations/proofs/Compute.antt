@@ -22,5 +22,4 @@ unfolding ones onesIn
     Rattle.operations.specs.Calls.slot-of Rattle.operations.specs.Calls.file-in Rattle.operations.specs.Calls.whole Rattle.operations.specs.Calls.taken Rattle.operations.specs.Calls.root-full Rattle.operations.specs.Calls.create Rattle.operations.specs.Calls.unless-none Rattle.operations.specs.Calls.file-of Rattle.operations.specs.Calls.append Rattle.operations.specs.Calls.truncate Rattle.operations.specs.Calls.delete Rattle.operations.specs.Calls.rename Rattle.operations.specs.Calls.recover Rattle.operations.specs.Calls.plan Rattle.operations.specs.Calls.named-file Rattle.operations.specs.Calls.taken-by Rattle.operations.specs.Calls.released-by
     Rattle.operations.specs.Outcome.outcome Rattle.operations.specs.Outcome.made Rattle.operations.specs.Outcome.left
     Rattle.operations.specs.Reading.file-byte Rattle.operations.specs.Reading.reading Rattle.operations.specs.Reading.read Rattle.operations.specs.Reading.shown Rattle.operations.specs.Reading.directory-listing Rattle.operations.specs.Reading.list Rattle.operations.specs.Reading.buffer-after Rattle.operations.specs.Reading.filled-outcome
-    Rattle.operations.specs.CardK.boot-sector Rattle.operations.specs.CardK.log-fat Rattle.operations.specs.CardK.card-k Rattle.operations.specs.CardK.window-k Rattle.operations.specs.CardK.k Rattle.operations.specs.CardK.route Rattle.operations.specs.CardK.letter Rattle.operations.specs.CardK.seen-file Rattle.operations.specs.CardK.seen-at Rattle.operations.specs.CardK.seen-in Rattle.operations.specs.CardK.seen Rattle.operations.specs.CardK.last-from Rattle.operations.specs.CardK.row-of Rattle.operations.specs.CardK.step Rattle.operations.specs.CardK.trace-on Rattle.operations.specs.CardK.trace Rattle.operations.specs.Worked.recovery-row Rattle.operations.specs.Worked.cut-row Rattle.operations.specs.Worked.stretched
 compute = tt

@@ -1,10 +1,8 @@
 pub mod Compute
-pub mod Flat
-pub mod Rows
+pub mod Small
 pub mod Appends
 pub mod Clearing
 pub mod Roots
 pub mod Lasts
 pub mod Added
 pub mod DataStores
-pub mod Safety

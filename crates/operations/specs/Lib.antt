@@ -4,11 +4,4 @@ pub mod Plan
 pub mod Calls
 pub mod Outcome
 pub mod Reading
-pub mod Sound
 pub mod Promises
-pub mod Cuts
-pub mod Demand3
-pub mod AfterCall
-pub mod Saved
-pub mod CardK
-pub mod Worked

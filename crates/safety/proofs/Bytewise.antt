@@ -1,0 +1,231 @@
+-- Every call on a window of bytes leaves a window of bytes.
+use Prim.Native.Nat.{ℕ, zero, suc, _+_, _-_, _*_, _/_, _%_, _^_, _≤_, _<_}
+use native.Mathlib.Nat.{mod-lt}
+use native.Mathlib.Omega.{arith}
+use mathlib.Core.Path.{_≡_, refl, sym, ap, _∙_, subst}
+use mathlib.Core.Logic.{inl, inr}
+use mathlib.Core.List.{List, [], _∷_, _++_}
+use mathlib.Core.Bool.{Bool, true, _&&_}
+use lib.Dec.{ltb, eqb, leb}
+use lib.ListN.{getD}
+use borrow.Author.Tests.{ltb-true, ltb-false}
+use Rattle.model.specs.Bytes.{Bytes, Span, pick, patch, overlay, byte-of, zeros}
+use Rattle.model.specs.Scan.{range}
+use Rattle.model.specs.Sector.{Card, Window, Store, after, put}
+use Rattle.model.specs.Fat.{Fat, set-entry, set-wide-entry, link, release}
+use Rattle.model.specs.Chain.{file-sector}
+use Rattle.model.specs.Root.{Directory, slot-at}
+use Rattle.model.specs.Record.{record-of, records, lay, encode, committed, commit}
+use Rattle.model.specs.Ground.{Answer, refused, granted}
+use Rattle.model.specs.Volume.{clean}
+use Rattle.model.specs.declared.Entry.{Entry}
+use Rattle.model.specs.declared.Group.{Group}
+use Rattle.model.specs.declared.Layout.{Layout}
+use Rattle.model.specs.declared.Name.{Name}
+use Rattle.model.specs.declared.Operation.{Operation}
+use Rattle.model.specs.declared.Operation.the-variants.{Create, Update, Delete, Truncate, Rename}
+use Rattle.model.specs.declared.Pending.{Pending}
+use Rattle.model.specs.declared.Volume.{Volume}
+use Rattle.operations.specs.Program.{Program, stores, ending}
+use Rattle.operations.specs.Finish.{Edit, set-slots, set-name, new-entry, edits, effect, root-sector, finish, redo}
+use Rattle.operations.specs.Plan.{prepare, group-store, operate, journal, new-group, last-of, extend, shorten, appended, append-sector, data-stores}
+use Rattle.operations.specs.Calls.{Call, plan, creates, appends, truncates, deletes, renames, recovers}
+use Rattle.operations.specs.Outcome.{left, made}
+use Rattle.safety.specs.Saved.{OfBytes, StaysGenuine}
+use Rattle.model.proofs.Tests.{by-pick}
+use Rattle.model.proofs.All.{All, all-append, all-image, all-take, all-map}
+use Rattle.model.proofs.Indices.{indices-all}
+use Rattle.model.proofs.Cards.{put-case}
+use Rattle.model.proofs.Changes.{Clipped, Keeps, after-keeps, put-clipped}
+use Rattle.model.proofs.Volumes.{window, layout-of, first-fat, volume-of, cleaned}
+use Rattle.safety.proofs.Start.{Start}
+use Rattle.safety.proofs.Before.{start-rests}
+use Rattle.safety.proofs.Steps.{prepare-all, finish-all}
+use Rattle.safety.proofs.Granted.{create-granted, rename-granted, delete-granted, truncate-granted, append-granted, Unless}
+use Rattle.model.specs.declared.Pending.the-variants as Pending
+
+-- Bytes are below 256: of a run, of a store, of a card, of a FAT.
+abbrev Small : Bytes → Type 0
+Small b = (j : ℕ) → b j < 256
+
+abbrev SmallStore : Store → Type 0
+SmallStore s = Small (s .bytes)
+
+abbrev SmallCard : Card → Type 0
+SmallCard x = (n : ℕ) → Small (x n)
+
+-- ---- runs
+
+patched : (n v at : ℕ) (b : Bytes) → Small b → Small (patch n v at b)
+unfolding overlay byte-of
+patched n v at b h j = by-pick (λ x. x < 256) (leb at j && ltb j (at + n)) (v / 256 ^ (j - at) % 256) (b j) (λ _. mod-lt (v / 256 ^ (j - at)) (omega arith)) (λ _. h j)
+
+none : Small zeros
+none j = omega arith
+
+if-small : (t : Bool) (a b : Bytes) → Small a → Small b → Small (pick t a b)
+if-small t a b h k = by-pick Small t a b (λ _. h) (λ _. k)
+
+named : (n : Name) (b : Bytes) → Small b → Small (set-name n b)
+named n b h = patched 8 (n .stem) 0 _ (patched 3 (n .extension) 8 b h)
+
+-- ---- records
+
+record-small : (e : Entry) (number cluster from size : ℕ) → Small (record-of e number cluster from size)
+unfolding record-of
+record-small e number cluster from size =
+    patched 8 (e .name .stem) 0 _ (patched 3 (e .name .extension) 8 _ (patched 1 (e .attributes) 11 _ (patched 1 number 13 _
+    (patched 2 (e .slot) 18 _ (patched 4 from 22 _ (patched 2 cluster 26 _ (patched 4 size 28 zeros none)))))))
+
+records-small : (o : Operation) → All Small (records o)
+unfolding records
+records-small (Create e) = (record-small e 1 0 0 0, tt)
+records-small (Update e last from size) = (record-small e 2 last from size, tt)
+records-small (Delete e first size) = (record-small e 3 first 0 size, tt)
+records-small (Truncate e first from size) = (record-small e 4 first from size, tt)
+records-small (Rename e first size to renamed) = (record-small e 5 first 0 size, (record-small _ 0 first 0 size, tt))
+
+getD-small : (rs : List Bytes) (i : ℕ) → All Small rs → Small (getD rs i zeros)
+getD-small [] i a = none
+getD-small (r ∷ rs) zero a = a .0
+getD-small (r ∷ rs) (suc i) a = getD-small rs i (a .1)
+
+encode-small : (o : Operation) → Small (encode o)
+unfolding encode lay
+encode-small o j = getD-small (records o) (j / 32) (records-small o) (j % 32)
+
+committed-small : (n : ℕ) (b : Bytes) → Small b → Small (committed n b)
+unfolding committed
+committed-small n b h j = by-pick (λ x. x < 256) (eqb (j % 32) 0 && ltb j (32 * n)) 0xE5 (b j) (λ _. omega arith) (λ _. h j)
+
+-- ---- slots
+
+edits-small : (o : Operation) (d : Directory) → ((k : ℕ) → Small (d k)) → All (λ e. Small (e .bytes)) (edits o d)
+unfolding edits new-entry
+edits-small (Create e) d h = (named (e .name) _ (patched 1 0x20 11 _ (patched 2 0x21 16 _ (patched 2 0x21 18 _ (patched 2 0x21 24 zeros none)))), tt)
+edits-small (Update e last from size) d h = (patched 4 size 28 _ (if-small (eqb last 0) _ (d (e .slot)) (patched 2 from 26 (d (e .slot)) (h (e .slot))) (h (e .slot))), tt)
+edits-small (Delete e first size) d h = (patched 1 0xE5 0 (d (e .slot)) (h (e .slot)), tt)
+edits-small (Truncate e first from size) d h = (patched 4 size 28 _ (if-small (eqb size 0) _ (d (e .slot)) (patched 2 0 26 (d (e .slot)) (h (e .slot))) (h (e .slot))), tt)
+edits-small (Rename e first size to renamed) d h = (patched 1 0xE5 0 (d (e .slot)) (h (e .slot)), (named renamed (d (e .slot)) (h (e .slot)), tt))
+
+set-small : (es : List Edit) (d : Directory) → All (λ e. Small (e .bytes)) es → ((k : ℕ) → Small (d k)) → (k : ℕ) → Small (set-slots es d k)
+unfolding set-slots
+set-small [] d a h k = h k
+set-small (e ∷ es) d a h k = if-small (eqb k (e .slot)) (e .bytes) (set-slots es d k) (a .0) (set-small es d (a .1) h k)
+
+effect-small : (o : Operation) (d : Directory) → ((k : ℕ) → Small (d k)) → (k : ℕ) → Small (effect o d k)
+unfolding effect
+effect-small o d h = set-small (edits o d) d (edits-small o d h) h
+
+-- ---- FATs
+
+entry-small : (k v : ℕ) (f : Fat) → SmallCard f → SmallCard (set-entry k v f)
+unfolding set-wide-entry
+entry-small k v f h s = if-small (eqb s (k / 256)) (patch 2 v (2 * (k % 256)) (f s)) (f s) (patched 2 v (2 * (k % 256)) (f s) (h s)) (h s)
+
+link-small : (ks : List ℕ) (f : Fat) → SmallCard f → SmallCard (link ks f)
+unfolding link
+link-small [] f h = h
+link-small (k ∷ []) f h = entry-small k 0xFFFF f h
+link-small (k ∷ (j ∷ r)) f h = link-small (j ∷ r) (set-entry k j f) (entry-small k j f h)
+
+release-small : (ks : List ℕ) (f : Fat) → SmallCard f → SmallCard (release ks f)
+unfolding release
+release-small [] f h = h
+release-small (k ∷ ks) f h = release-small ks (set-entry k 0 f) (entry-small k 0 f h)
+
+extend-small : (old new : List ℕ) (f : Fat) → SmallCard f → SmallCard (extend old new f)
+unfolding extend
+extend-small old [] f h = h
+extend-small old (k ∷ ks) f h = link-small (last-of old ++ (k ∷ ks)) f h
+
+shorten-small : (kept freed : List ℕ) (f : Fat) → SmallCard f → SmallCard (shorten kept freed f)
+unfolding shorten
+shorten-small kept [] f h = h
+shorten-small kept (k ∷ ks) f h = release-small (k ∷ ks) (link (last-of kept) f) (link-small (last-of kept) f h)
+
+-- ---- stores
+
+put-small : (s : Store) → SmallStore s → Keeps SmallCard s
+put-small s h x k n = put-case Small x s n (λ _ j. h (j % 512)) (λ _. k n)
+
+after-small : (ss : List Store) (x : Card) → All SmallStore ss → SmallCard x → SmallCard (after ss x)
+after-small ss x a h = after-keeps SmallCard ss (all-map SmallStore (Keeps SmallCard) put-small ss a) x h
+
+after-clipped : (ss : List Store) (x : Card) → Clipped x → Clipped (after ss x)
+after-clipped ss x h = after-keeps Clipped ss (each ss) x h
+  where
+    each : (ss : List Store) → All (Keeps Clipped) ss
+    each [] = tt
+    each (s ∷ ss) = (λ x. put-clipped x s, each ss)
+
+data-small : (l : Layout) (c : Card) (ks : List ℕ) (old : ℕ) (d : Span) → SmallCard c → ((i : ℕ) → i < d .size → d .byte i < 256) → All SmallStore (data-stores l c ks old d)
+unfolding data-stores append-sector appended
+data-small l c ks old d h small =
+    let st : ℕ → Store = λ q. append-sector c (file-sector l ks q) old d q in
+    all-image SmallStore st (range (old / 512) ((old + d .size + 511) / 512 - old / 512))
+    (indices-all (λ q. SmallStore (st q)) (λ k. true) (old / 512) _ (λ q lo hi e j. one (c (file-sector l ks q)) (h (file-sector l ks q)) (512 * q + j % 512) (j % 512)))
+  where
+    one : (b : Bytes) → Small b → (i j : ℕ) → pick (ltb i old) (b j) (pick (ltb i (old + d .size)) (d .byte (i - old)) 0) < 256
+    one b k i j = by-pick (λ x. x < 256) (ltb i old) (b j) _ (λ _. k j)
+        (λ e. by-pick (λ x. x < 256) (ltb i (old + d .size)) (d .byte (i - old)) 0
+        (λ f. let low : old ≤ i = ltb-false i old e in let high : i < old + d .size = ltb-true i (old + d .size) f in small (i - old) (omega arith)) (λ _. omega arith))
+
+operate-small : (v : Volume) (c : Card) (ds : List Store) (f : Fat) (o : Operation) → SmallCard c → All SmallStore ds → SmallCard f → All SmallStore (stores (operate v c ds f o))
+unfolding operate journal redo new-group group-store commit root-sector slot-at
+operate-small v c ds f o h own fat =
+    let l : Layout = v .layout in
+    let prep : List Store = prepare v c ds f in
+    let g : Group = new-group (v .log) c o in
+    let u : Card = put (after prep c) (group-store g) in
+    let before : All SmallStore prep = prepare-all v c ds f SmallStore own (λ s less j. fat s (j % 512)) (λ i less j. omega arith) in
+    let group : SmallStore (group-store g) = λ j. encode-small o (j % 512) in
+    let small : SmallCard u = put-small (group-store g) group (after prep c) (after-small prep c before h) in
+    let rest : All SmallStore (finish l o u) = finish-all l o u SmallStore (λ s less j. small _ (j % 512))
+    (λ r less j. effect-small o (slot-at l u) (λ k i. small _ (32 * (k % 16) + i)) (16 * r + j % 512 / 32) (j % 512 % 32)) in
+    let mark : SmallStore (commit u g) = λ j. committed-small (g .records) (u (g .sector)) (small (g .sector)) (j % 512) in
+    all-append SmallStore prep _ before (group, all-append SmallStore (finish l o u) _ rest (mark, tt))
+
+-- ---- calls
+
+module _ {size : ℕ} {c : Card} (st : Start size c) (is : clean (window size c) ≡ granted (volume-of c Pending.Nothing)) where
+  abbrev w : Window
+  w = window size c
+
+  abbrev v : Volume
+  v = volume-of c Pending.Nothing
+
+  abbrev Fine : Program → Type 0
+  Fine p = All SmallStore (stores p)
+
+  old-small : SmallCard (first-fat c)
+  old-small s = st .small (layout-of c .fat1 + s)
+
+  fine : (ds : List Store) (f : Fat) (o : Operation) → All SmallStore ds → SmallCard f → Fine (operate v c ds f o)
+  fine ds f o own fat = operate-small v c ds f o (st .small) own fat
+
+  unless-fine : (n : ℕ) (q p : Program) → Unless st is n q p → Fine q → Fine p
+  unless-fine n q p (inl a) h = rw (a .1) tt
+  unless-fine n q p (inr a) h = subst Fine (a .1) h
+
+  granted-fine : (k : Call) (p : Program) → OfBytes k → plan k w ≡ granted p → Fine p
+  granted-fine (creates n) p b h = subst Fine (create-granted st is n p h .same) (fine [] (first-fat c) _ tt old-small)
+  granted-fine (renames n m) p b h = subst Fine (rename-granted st is n m p h .same) (fine [] (first-fat c) _ tt old-small)
+  granted-fine (deletes n) p b h = subst Fine (delete-granted st is n p h .same) (fine [] _ _ tt (release-small _ (first-fat c) old-small))
+  granted-fine (truncates n m) p b h = unless-fine _ _ p (truncate-granted st is n m p h .same) (fine [] _ _ tt (shorten-small _ _ (first-fat c) old-small))
+  granted-fine (appends n d) p b h =
+      unless-fine _ _ p (append-granted st is n d p h .same) (fine _ _ _ (data-small (layout-of c) c _ _ d (st .small) b) (extend-small _ _ (first-fat c) old-small))
+  granted-fine recovers p b h = let e : granted (ending []) ≡ granted p = sym (start-rests st) ∙ h in let same : ending [] ≡ p = cc in subst Fine same tt
+
+  made-fine : (k : Call) (limit : ℕ) (a : Answer Program) → OfBytes k → plan k w ≡ a → All SmallStore (made limit a)
+  unfolding made
+  made-fine k limit (refused g) b h = tt
+  made-fine k limit (granted p) b h = all-take SmallStore limit (stores p) (granted-fine k p b h)
+
+pub stays-genuine : StaysGenuine
+unfolding left
+stays-genuine k w v real is b limit =
+    let h = cleaned (w .size) (w .card) v is in
+    let st : Start (w .size) (w .card) = record { clean = h .0; clipped = real .sectors; small = real .bytes } in
+    let fine : All SmallStore (made limit (plan k w)) = made-fine st (is ∙ ap granted (h .1)) k limit (plan k w) b refl in
+    record { sectors = after-clipped (made limit (plan k w)) (w .card) (real .sectors); bytes = after-small (made limit (plan k w)) (w .card) fine (real .bytes) }

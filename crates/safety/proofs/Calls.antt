@@ -1,0 +1,159 @@
+-- Every call on a clean card, accepted or refused, has a program of which all is shown.
+use Prim.Native.Nat.{ℕ, _+_, _-_}
+use native.Mathlib.Omega.{arith}
+use mathlib.Core.Path.{_≡_, refl, sym, ap, _∙_, subst}
+use mathlib.Core.Logic.{⊎-elim}
+use mathlib.Core.List.{List, []}
+use lib.ListN.{drop, take}
+use lib.Seq.{take-all}
+use Rattle.model.specs.Bytes.{Span}
+use Rattle.model.specs.Sector.{Card, after}
+use Rattle.model.specs.Fat.{Fat, entry, release}
+use Rattle.model.specs.Chain.{needed, chain}
+use Rattle.model.specs.Root.{file-at, slot-at, first-cluster, file-size}
+use Rattle.model.specs.Ground.{Answer, refused, granted}
+use Rattle.model.specs.Volume.{clean}
+use Rattle.model.specs.Promises.{Shape}
+use Rattle.model.specs.declared.Layout.{Layout}
+use Rattle.model.specs.declared.Pending.{Pending}
+use Rattle.model.specs.declared.Volume.{Volume}
+use Rattle.operations.specs.Program.{Program, stores, ending}
+use Rattle.operations.specs.Plan.{clusters-of, new-clusters, added}
+use Rattle.operations.specs.Calls.{Call, taken-by, released-by, slot-of, creates, renames, deletes, named-file, truncates, appends, recover, recovers, plan}
+use Rattle.operations.specs.Outcome.{left, made, largest}
+use Rattle.safety.specs.Cuts.{program-of}
+use Rattle.model.proofs.All.{All, all-take}
+use Rattle.model.proofs.Lists.{drop-all}
+use Rattle.model.proofs.Walks.{chain-length}
+use Rattle.model.proofs.Volumes.{window, volume-of, layout-of, first-fat}
+use Rattle.safety.proofs.Start.{Start, shape-of}
+use Rattle.safety.proofs.Before.{start-rests}
+use Rattle.safety.proofs.Clusters.{Plain, none-free, released-free, shorten-free, extend-free}
+use Rattle.safety.proofs.Fair.{Fair, idle-fair, plain-fair, operate-fair}
+use Rattle.safety.proofs.Operations.{old-plain, old-busy}
+use Rattle.safety.proofs.Appends.{new, ds, new-plain, few-data, append-spared}
+use Rattle.safety.proofs.Supplied.{creates-as, create-supplies, renames-as, rename-supplies, ks, deletes-as, delete-supplies, cut-fat, truncates-as, truncate-supplies, longer-fat, updates-as, append-supplies}
+use Rattle.safety.proofs.Granted.{create-granted, rename-granted, delete-granted, Truncated, truncate-granted, Appended, append-granted}
+use Rattle.model.specs.declared.Pending.the-variants as Pending
+
+-- A refused call takes and releases no cluster.
+abbrev pub if-granted : Answer Program → List ℕ → List ℕ
+if-granted (refused g) ks = []
+if-granted (granted p) ks = ks
+
+module _ {size : ℕ} {c : Card} (st : Start size c) (is : clean (window size c) ≡ granted (volume-of c Pending.Nothing)) where
+  abbrev l : Layout
+  l = layout-of c
+
+  abbrev v : Volume
+  v = volume-of c Pending.Nothing
+
+  abbrev fat : Fat
+  fat = first-fat c
+
+  abbrev at : Span → ℕ
+  at n = slot-of v c n
+
+  sh : Shape l
+  sh = shape-of st
+
+  -- What is shown of a call that answers a.
+  abbrev Shown : Call → Answer Program → Type 1
+  Shown k a = Fair size c (if-granted a (taken-by v c k)) (if-granted a (released-by v c k)) (program-of a)
+
+  create-shown : (n : Span) (a : Answer Program) → plan (creates n) (window size c) ≡ a → Shown (creates n) a
+  unfolding taken-by released-by
+  create-shown n (refused g) h = idle-fair st is
+  create-shown n (granted p) h =
+      let a = create-granted st is n p h in
+      subst (Fair size c [] []) (a .same) (plain-fair st fat (creates-as st n) (create-supplies st n (a .ok) (a .room)) [] [] (none-free fat))
+
+  rename-shown : (n m : Span) (a : Answer Program) → plan (renames n m) (window size c) ≡ a → Shown (renames n m) a
+  unfolding taken-by released-by
+  rename-shown n m (refused g) h = idle-fair st is
+  rename-shown n m (granted p) h =
+      let a = rename-granted st is n m p h in
+      subst (Fair size c [] []) (a .same)
+      (plain-fair st fat (renames-as st (at n) (a .live) m) (rename-supplies st (at n) (a .live) m (a .new-ok) (a .room)) [] [] (none-free fat))
+
+  delete-shown : (n : Span) (a : Answer Program) → plan (deletes n) (window size c) ≡ a → Shown (deletes n) a
+  unfolding taken-by released-by named-file clusters-of file-at
+  delete-shown n (refused g) h = idle-fair st is
+  delete-shown n (granted p) h =
+      let a = delete-granted st is n p h in
+      let live = a .it .live in
+      let keeps = a .it .keeps in
+      let js : List ℕ = ks st (at n) live keeps in
+      subst (Fair size c [] js) (a .same) (plain-fair st (release js fat) (deletes-as st (at n) live keeps) (delete-supplies st (at n) live keeps) [] js (released-free js fat))
+
+  -- A call that stores nothing takes and releases nothing.
+  idle-shown : (ts rs : List ℕ) (p : Program) → ts ≡ [] → rs ≡ [] → p ≡ ending [] → Fair size c ts rs p
+  idle-shown ts rs p t r e = rw (t, r, e) (idle-fair st is)
+
+  nothing-freed : (s m : ℕ) → file-size (slot-at l c s) ≡ m → drop (needed l m) (clusters-of l fat (file-at l c s)) ≡ []
+  unfolding clusters-of file-at
+  nothing-freed s m e = drop-all (needed l m) (chain (entry fat) (needed l (file-size (slot-at l c s))) (first-cluster (slot-at l c s)))
+      (rw (chain-length (entry fat) (needed l (file-size (slot-at l c s))) (first-cluster (slot-at l c s)), e) (omega arith))
+
+  truncate-shown : (n : Span) (m : ℕ) (a : Answer Program) → plan (truncates n m) (window size c) ≡ a → Shown (truncates n m) a
+  unfolding taken-by released-by named-file clusters-of file-at
+  truncate-shown n m (refused g) h = idle-fair st is
+  truncate-shown n m (granted p) h =
+      let a : Truncated st is n m p = truncate-granted st is n m p h in
+      let live = a .it .live in
+      let keeps = a .it .keeps in
+      let js : List ℕ = ks st (at n) live keeps in
+      let kept : All (Plain l fat) js = old-plain st (at n) live keeps in
+      let busy : All (λ k. entry fat k ≡ 0 → ⊥) js = old-busy st (at n) live keeps in
+      let i : ℕ = needed l m in
+      ⊎-elim
+      (λ z. idle-shown [] (drop i js) p refl (nothing-freed (at n) m (omega (arith, z .0, a .less))) (z .1))
+      (λ z. subst (Fair size c [] (drop i js)) (z .1)
+      (plain-fair st (cut-fat st (at n) live keeps m) (truncates-as st (at n) live keeps m) (truncate-supplies st (at n) live keeps m (a .less)) [] (drop i js)
+      (shorten-free l (sh .few) fat (take i js) (all-take (Plain l fat) i js kept) (all-take (λ k. entry fat k ≡ 0 → ⊥) i js busy) (drop i js))))
+      (a .same)
+
+  nothing-taken : (s n : ℕ) → n ≡ 0 → new-clusters v c (file-at l c s) n ≡ []
+  unfolding new-clusters added
+  nothing-taken s n z =
+      let same : file-at l c s .size + n ≡ file-at l c s .size = omega arith in
+      let none : needed l (file-at l c s .size + n) - needed l (file-at l c s .size) ≡ 0 = rw same (omega arith) in
+      rw none
+
+  append-shown : (n d : Span) (a : Answer Program) → plan (appends n d) (window size c) ≡ a → Shown (appends n d) a
+  unfolding taken-by released-by named-file new-clusters added file-at
+  append-shown n d (refused g) h = idle-fair st is
+  append-shown n d (granted p) h =
+      let a : Appended st is n d p = append-granted st is n d p h in
+      let s : ℕ = at n in
+      let live = a .it .live in
+      let keeps = a .it .keeps in
+      let js : List ℕ = ks st s live keeps in
+      let more : List ℕ = new st s live keeps d (a .room) in
+      ⊎-elim
+      (λ z. idle-shown more [] p (nothing-taken s (d .size) (z .0)) refl (z .1))
+      (λ z. subst (Fair size c more []) (z .1)
+      (operate-fair st (ds st s live keeps d (a .room)) (longer-fat st s live keeps d (a .room)) (updates-as st s live keeps d (a .room)) (append-supplies st s live keeps d (a .room))
+      more [] (few-data st s live keeps d (a .room))
+      (extend-free l (sh .few) fat js (old-plain st s live keeps) (old-busy st s live keeps) more (new-plain st s live keeps d (a .room)))
+      (λ sound t i in-root file less. append-spared st s live keeps d (a .room) sound (a .it .file) t i in-root file less)))
+      (a .same)
+
+  -- Recovery of a clean card stores nothing.
+  recover-shown : (a : Answer Program) → recover (window size c) ≡ a → Shown recovers a
+  unfolding taken-by released-by plan
+  recover-shown a h = subst (Shown recovers) (sym (start-rests st) ∙ h) (idle-fair st is)
+
+  pub shown : (k : Call) → Shown k (plan k (window size c))
+  unfolding plan
+  shown (creates n) = create-shown n (plan (creates n) (window size c)) refl
+  shown (appends n d) = append-shown n d (plan (appends n d) (window size c)) refl
+  shown (truncates n m) = truncate-shown n m (plan (truncates n m) (window size c)) refl
+  shown (deletes n) = delete-shown n (plan (deletes n) (window size c)) refl
+  shown (renames n m) = rename-shown n m (plan (renames n m) (window size c)) refl
+  shown recovers = recover-shown (recover (window size c)) refl
+
+  -- With the largest limit all is stored.
+  pub left-is : (k : Call) (p : Program) → plan k (window size c) ≡ granted p → left largest k (window size c) ≡ window size (after (stores p) c)
+  unfolding left made
+  left-is k p e = rw e (ap (λ ss. window size (after ss c)) (take-all largest (stores p) (rw e at (shown k .short))))

@@ -1,0 +1,218 @@
+-- What is read after a truncate.
+use Prim.Native.Nat.{ℕ, _+_, _-_, _*_, _/_, _%_, _≤_, _<_}
+use native.Mathlib.Nat.{div-mul-le-self, le-div-iff-mul-le}
+use native.Mathlib.Omega.{arith}
+use mathlib.Core.Path.{_≡_, refl, sym, ap, _∙_, subst}
+use mathlib.Core.Logic.{_⊎_, inl, inr, ⊎-elim}
+use mathlib.Core.List.{List, []}
+use mathlib.Core.Bool.{true}
+use lib.Dec.{eqb}
+use lib.ListN.{length, getD, take, drop, take-append-drop}
+use lib.Seq.{length-take-le, getD-take}
+use borrow.Author.Tests.{eq-eqb, ne-eqb}
+use Rattle.model.specs.Bytes.{Bytes, Span, pick}
+use Rattle.model.specs.Sector.{Card, Window, after}
+use Rattle.model.specs.Fat.{Fat, entry}
+use Rattle.model.specs.Chain.{needed, cluster-bytes, file-sector, keeps-chain}
+use Rattle.model.specs.Root.{Directory, slot-at, file-size, first-cluster, file-at, entry-at}
+use Rattle.model.specs.Ground.{granted}
+use Rattle.model.specs.Volume.{clean}
+use Rattle.model.specs.Promises.{Shape}
+use Rattle.model.specs.declared.Layout.{Layout}
+use Rattle.model.specs.declared.Pending.{Pending}
+use Rattle.model.specs.declared.Volume.{Volume}
+use Rattle.model.proofs.Walks.{chain-length}
+use Rattle.operations.specs.Program.{Program, ending}
+use Rattle.operations.specs.Finish.{effect, edits}
+use Rattle.operations.specs.Plan.{clusters-of}
+use Rattle.operations.specs.Calls.{plan, truncates, slot-of}
+use Rattle.operations.specs.Outcome.{left, largest}
+use Rattle.operations.specs.Reading.{file-byte}
+use Rattle.safety.specs.Sound.{chain-of, proper}
+use Rattle.safety.specs.Saved.{Holds}
+use Rattle.model.proofs.Tests.{same?}
+use Rattle.model.proofs.All.{All, all-map, all-take}
+use Rattle.model.proofs.Indices.{Distinct}
+use Rattle.model.proofs.Cards.{after-nil}
+use Rattle.model.proofs.Chains.{Used, chain-distinct, in-cluster, longer}
+use Rattle.model.proofs.Names.{Live}
+use Rattle.model.proofs.Volumes.{window, layout-of, first-fat, volume-of}
+use Rattle.safety.proofs.Start.{Start, shape-of}
+use Rattle.safety.proofs.Operations.{size-fits, old-used}
+use Rattle.safety.proofs.Theorem.{along}
+use Rattle.safety.proofs.Linked.{Linked, Ranged, keeps-linked, chain-head, shorten-linked}
+use Rattle.safety.proofs.Ended.{Ended, ended, SameHead, same-directory}
+use Rattle.model.proofs.Needed.{needed-none}
+use Rattle.safety.proofs.Chained.{HasChain, ranged, head-is, size-is, empty-then, linked-then}
+use Rattle.safety.proofs.Readings.{Found, Read, holds-of, holds-read}
+use Rattle.safety.proofs.Slots.{resized, resized-size, resized-first, resized-head, one-in, one-out}
+use Rattle.safety.proofs.Supplied.{truncates-as, cut-fat, truncate-supplies, ks}
+use Rattle.safety.proofs.Granted.{Named, Truncated, truncate-granted}
+use Rattle.safety.proofs.Moved.{proper-clear, finish-with}
+use Rattle.safety.proofs.Means.{resized-means}
+use Rattle.model.specs.declared.Pending.the-variants as Pending
+
+-- Fewer bytes need no more clusters; some bytes need one.
+pub needed-less : (l : Layout) → 1 ≤ l .factor → (n m : ℕ) → n ≤ m → needed l n ≤ needed l m
+unfolding needed cluster-bytes
+needed-less l one n m less =
+    let pos : 0 < 512 * l .factor = omega arith in
+    let low : (n + (512 * l .factor - 1)) / (512 * l .factor) * (512 * l .factor) ≤ n + (512 * l .factor - 1) = div-mul-le-self (n + (512 * l .factor - 1)) (512 * l .factor) in
+    le-div-iff-mul-le pos .1 (trans _ n m (512 * l .factor - 1) low less)
+  where
+    trans : (a n m k : ℕ) → a ≤ n + k → n ≤ m → a ≤ m + k
+    trans a n m k h less = omega arith
+
+pub needed-some : (l : Layout) → 1 ≤ l .factor → (n : ℕ) → (n ≡ 0 → ⊥) → 0 < needed l n
+needed-some l one n ne = let h : 0 / l .factor < needed l n = in-cluster l one 0 n (omega arith) in omega arith
+
+-- The clusters of a file that keeps the chain rule.
+module _ {size : ℕ} {c : Card} (st : Start size c) (s : ℕ) (live : Live (layout-of c) c s) (keeps : keeps-chain (layout-of c) (entry (first-fat c)) (first-cluster (slot-at (layout-of c) c s)) (file-size (slot-at (layout-of c) c s)) ≡ true) where
+  abbrev l : Layout
+  l = layout-of c
+
+  abbrev fat : Fat
+  fat = first-fat c
+
+  abbrev b : Bytes
+  b = slot-at l c s
+
+  abbrev own : List ℕ
+  own = ks st s live keeps
+
+  sh : Shape l
+  sh = shape-of st
+
+  pub own-length : length own ≡ needed l (file-size b)
+  own-length = chain-length (entry fat) (needed l (file-size b)) (first-cluster b)
+
+  pub own-distinct : Distinct own
+  own-distinct = chain-distinct l (sh .few) (entry fat) (sh .factor-low) (first-cluster b) (file-size b) keeps
+
+  pub own-high : All (λ k. k < 2 + l .clusters) own
+  own-high = all-map (Used l (entry fat)) (λ k. k < 2 + l .clusters) (λ k u. u .high) own (old-used st s live keeps)
+
+  pub own-ranged : All (Ranged l) own
+  own-ranged = all-map (Used l (entry fat)) (Ranged l) (λ k u. ranged l (sh .few) k (u .low) (u .high)) own (old-used st s live keeps)
+
+  pub own-linked : (file-size b ≡ 0 → ⊥) → Linked l (entry fat) own
+  own-linked ne = keeps-linked l (entry fat) (first-cluster b) (file-size b) keeps ne
+
+  pub own-first : (file-size b ≡ 0 → ⊥) → getD own 0 0 ≡ first-cluster b
+  own-first ne = chain-head l (entry fat) (needed l (file-size b)) (first-cluster b) (own-linked ne)
+
+  -- ---- cut to n bytes
+
+  module _ (n : ℕ) (less : n < file-size b) {t : Card} (end : Ended size c [] (cut-fat st s live keeps n) (truncates-as st s live keeps n) t) where
+    abbrev d : Directory
+    d = slot-at l c
+
+    abbrev new : Bytes
+    new = resized (eqb n 0) 0 n b
+
+    pub cut-slot : effect (truncates-as st s live keeps n) d s ≡ new
+    unfolding edits entry-at
+    cut-slot = one-in (truncates-as st s live keeps n) d s new refl
+
+    pub uncut-slot : (k : ℕ) → (k ≡ s → ⊥) → effect (truncates-as st s live keeps n) d k ≡ d k
+    unfolding edits entry-at
+    uncut-slot k ne = one-out (truncates-as st s live keeps n) d s new refl k ne
+
+    pub cut-size : file-size new ≡ n
+    cut-size = resized-size (eqb n 0) 0 n b (omega (arith, size-fits st s live))
+
+    pub cut-head : SameHead new b
+    cut-head = resized-head (eqb n 0) 0 n b
+
+    cut-first : first-cluster new ≡ pick (eqb n 0) 0 (first-cluster b)
+    cut-first = resized-first (eqb n 0) 0 n b (omega arith)
+
+    abbrev few : ℕ
+    few = needed l n
+
+    few-own : few ≤ length own
+    few-own = rw own-length (needed-less l (sh .factor-low) n (file-size b) (omega arith))
+
+    pub cut-chain : HasChain l t s (take few own)
+    cut-chain = go (same? n 0)
+      where
+        go : (n ≡ 0) ⊎ (n ≡ 0 → ⊥) → HasChain l t s (take few own)
+        go (inl z) =
+            let none : take few own ≡ [] = ap (λ m. take m own) (ap (needed l) z ∙ needed-none l (sh .factor-low)) in
+            subst (HasChain l t s) (sym none) (empty-then st end s (live .in-root) new cut-slot (cut-first ∙ ap (λ a. pick a 0 (first-cluster b)) (eq-eqb n 0 z)) (cut-size ∙ z))
+        go (inr ne) =
+            let some : 0 < few = needed-some l (sh .factor-low) n ne in
+            let old : file-size b ≡ 0 → ⊥ = λ e. omega arith in
+            linked-then st end s (live .in-root) new cut-slot (take few own) (shorten-linked l own few fat own-distinct own-ranged (own-linked old) some)
+            (all-take (λ k. k < 2 + l .clusters) few own own-high)
+            (getD-take few own 0 0 some ∙ own-first old ∙ sym (cut-first ∙ ap (λ a. pick a 0 (first-cluster b)) (ne-eqb n 0 ne)))
+            (length-take-le few own few-own ∙ ap (needed l) (sym cut-size)) (λ e. ne (sym cut-size ∙ e))
+
+    pub cut-bytes : (i : ℕ) → i < n → file-byte l t (file-at l t s) i ≡ file-byte l c (file-at l c s) i
+    unfolding chain-of clusters-of file-at proper
+    cut-bytes i small =
+        let q : ℕ = i / 512 in
+        let there : q / l .factor < length (take few own) = rw (length-take-le few own few-own) (in-cluster l (sh .factor-low) q n (omega arith)) in
+        let same : file-sector l (take few own) q ≡ file-sector l own q =
+        sym (longer l (take few own) (drop few own) q there) ∙ ap (λ (js : List ℕ). file-sector l js q) (take-append-drop few own) in
+        along l t s (take few own) i (cut-chain .chain) ∙ (λ j. t (same j) (i % 512))
+        ∙ (λ j. (end .sectors (file-sector l own q) (proper-clear st s keeps i (omega arith) .1) ∙ (λ j. after-nil c j (file-sector l own q))) j (i % 512))
+        ∙ sym (along l c s own i refl)
+
+module _ {size : ℕ} {c : Card} (st : Start size c) (is : clean (window size c) ≡ granted (volume-of c Pending.Nothing)) where
+  abbrev v : Volume
+  v = volume-of c Pending.Nothing
+
+  abbrev w : Window
+  w = window size c
+
+  abbrev at : Span → ℕ
+  at n = slot-of v c n
+
+  -- No store, no change.
+  pub unstored : (n : Span) (m : ℕ) (content : Bytes) → Holds w n m content → Holds (window size (after [] c)) n m content
+  unfolding after
+  unstored n m content h = h
+
+  module _ (n : Span) (m : ℕ) (g : Named st is n) (less : m < file-size (slot-at (layout-of c) c (at n))) {t : Card}
+      (end : Ended size c [] (cut-fat st (at n) (g .live) (g .keeps) m) (truncates-as st (at n) (g .live) (g .keeps) m) t) where
+    abbrev x : ℕ
+    x = at n
+
+    abbrev R : Bytes
+    R = new st x (g .live) (g .keeps) m less end
+
+    cut-found : Found v t n x
+    cut-found = record {
+      ok = g .found .ok;
+      at = resized-means st is end n x R (cut-slot st x (g .live) (g .keeps) m less end) (cut-head st x (g .live) (g .keeps) m less end) (uncut-slot st x (g .live) (g .keeps) m less end);
+      in-root = g .live .in-root;
+      plain =
+          same-directory (slot-at (layout-of c) t x) R (head-is st end x (g .live .in-root) R (cut-slot st x (g .live) (g .keeps) m less end))
+          ∙ same-directory R (slot-at (layout-of c) c x) (cut-head st x (g .live) (g .keeps) m less end) ∙ g .found .plain;
+      keeps = cut-chain st x (g .live) (g .keeps) m less end .keeps;
+    }
+
+    cut-then : (size′ : ℕ) (content : Bytes) → Holds w n size′ content → Holds (window size t) n m content
+    cut-then size′ content h =
+        let r : Read w v is n size′ content = holds-read w v is n size′ content h in
+        holds-of (window size t) v (end .cleans) n x cut-found m content
+        (size-is st end x (g .live .in-root) R (cut-slot st x (g .live) (g .keeps) m less end) ∙ cut-size st x (g .live) (g .keeps) m less end)
+        (λ i small. cut-bytes st x (g .live) (g .keeps) m less end i small ∙ r .same i (omega (arith, r .sized)))
+
+  pub truncate-holds : (n : Span) (m : ℕ) (p : Program) → plan (truncates n m) w ≡ granted p → (size′ : ℕ) (content : Bytes) → Holds w n size′ content
+      → Holds (left largest (truncates n m) w) n m content
+  truncate-holds n m p h size′ content holds =
+      let g : Truncated st is n m p = truncate-granted st is n m p h in
+      let f : Named st is n = g .it in
+      let old : ℕ = file-size (slot-at (layout-of c) c (at n)) in
+      let le : m ≤ old = g .less in
+      ⊎-elim
+      (λ a. let sized : old ≡ size′ = holds-read w v is n size′ content holds .sized in
+      let none : old - m ≡ 0 = a .0 in
+      finish-with st is (λ x. Holds x n m content) (truncates n m) p (ending []) h (sym (a .1))
+      (unstored n m content (subst (λ k. Holds w n k content) (let e : size′ ≡ m = omega arith in e) holds)))
+      (λ a. let some : old - m ≡ 0 → ⊥ = a .0 in
+      finish-with st is (λ x. Holds x n m content) (truncates n m) p _ h (a .1)
+      (cut-then n m f (omega arith) (ended st [] _ (truncates-as st (at n) (f .live) (f .keeps) m) (truncate-supplies st (at n) (f .live) (f .keeps) m le)) size′ content holds))
+      (g .same)

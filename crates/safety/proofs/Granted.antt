@@ -1,0 +1,190 @@
+-- A call that is not refused: what its grounds tell, and which operation it makes.
+use Prim.Native.Nat.{ℕ, _-_, _≤_, _<_}
+use native.Mathlib.Omega.{arith}
+use mathlib.Core.Path.{_≡_, sym, ap, _∙_}
+use mathlib.Core.Logic.{_⊎_, inl, inr, ⊎-elim}
+use mathlib.Core.List.{[]}
+use mathlib.Core.Bool.{true, false, _&&_, not}
+use lib.Dec.{ltb, eqb}
+use lib.ListN.{length}
+use borrow.Author.Tests.{ltb-true, ltb-false, not-false, eqb-true, eqb-false}
+use Rattle.model.specs.Bytes.{Span}
+use Rattle.model.specs.Sector.{Card, Window}
+use Rattle.model.specs.Fat.{Fat, entry, release, free-clusters}
+use Rattle.model.specs.Chain.{keeps-chain}
+use Rattle.model.specs.Root.{slot-at, name-ok, free-slot, first-cluster, file-size, file-at, is-file, is-directory}
+use Rattle.model.specs.Ground.{Answer, granted, _>>=_}
+use Rattle.model.specs.Volume.{clean}
+use Rattle.model.specs.declared.File.{File}
+use Rattle.model.specs.declared.Layout.{Layout}
+use Rattle.model.specs.declared.Pending.{Pending}
+use Rattle.model.specs.declared.Volume.{Volume}
+use Rattle.operations.specs.Program.{Program, ending}
+use Rattle.operations.specs.Plan.{operate, create-stores, rename-stores, delete-stores, truncate-stores, truncate-along, append-stores, append-along, clusters-of, new-clusters, added}
+use Rattle.operations.specs.Calls.{creates, renames, deletes, truncates, appends, plan, create, rename, delete, truncate, append, unless-none, taken, root-full, file-in, file-of, slot-of, name-of}
+use Rattle.safety.specs.Sound.{proper}
+use Rattle.model.proofs.Tests.{which, and-left, and-right, and-both}
+use Rattle.model.proofs.Grounds.{then, asked, bound}
+use Rattle.model.proofs.Names.{Live, found-live, found-listed}
+use Rattle.model.proofs.Volumes.{window, layout-of, first-fat, volume-of}
+use Rattle.safety.proofs.Start.{Start}
+use Rattle.safety.proofs.Readings.{Found, there, found-in, found-file}
+use Rattle.safety.proofs.Supplied.{creates-as, renames-as, deletes-as, truncates-as, cut-fat, updates-as, longer-fat, ks}
+use Rattle.safety.proofs.Appends.{ds}
+use Rattle.model.specs.declared.Pending.the-variants as Pending
+use Rattle.model.specs.declared.Ground.the-variants as Ground
+
+module _ {size : ℕ} {c : Card} (st : Start size c) (is : clean (window size c) ≡ granted (volume-of c Pending.Nothing)) where
+  abbrev l : Layout
+  l = layout-of c
+
+  abbrev v : Volume
+  v = volume-of c Pending.Nothing
+
+  abbrev w : Window
+  w = window size c
+
+  abbrev fat : Fat
+  fat = first-fat c
+
+  abbrev at : Span → ℕ
+  at n = slot-of v c n
+
+  opened : {B : Type 0} (k : Volume → Answer B) (a : Answer B) → (clean w >>= k) ≡ a → k v ≡ a
+  opened k a h = sym (then (clean w) k v is) ∙ h
+
+  room-in : root-full v c ≡ false → free-slot l c < l .entries
+  unfolding root-full
+  room-in h = ltb-true (free-slot l c) (l .entries) (not-false (ltb (free-slot l c) (l .entries)) h)
+
+  unused : (n : Span) → taken v c n ≡ false → l .entries ≤ at n
+  unfolding taken
+  unused n h = ltb-false (at n) (l .entries) h
+
+  pub live-at : (n : Span) → at n < l .entries → Live l c (at n)
+  unfolding slot-of
+  live-at n less = found-live l c (name-of n) less
+
+  pub file-at-name : (n : Span) → at n < l .entries → is-directory (slot-at l c (at n)) ≡ false → is-file (slot-at l c (at n)) ≡ true
+  unfolding slot-of is-file
+  file-at-name n less plain = and-both _ _ (found-listed l c (name-of n) less) (ap not plain)
+
+  -- ---- create and rename
+
+  pub record Created (n : Span) (p : Program) : Type 0 where
+    pub ok : name-ok n ≡ true
+    pub unused : l .entries ≤ at n
+    pub room : free-slot l c < l .entries
+    pub same : operate v c [] fat (creates-as st n) ≡ p
+
+  pub create-granted : (n : Span) (p : Program) → plan (creates n) w ≡ granted p → Created n p
+  unfolding plan create create-stores
+  create-granted n p h =
+      let h1 = asked Ground.Name (not (name-ok n)) _ p (opened _ (granted p) h) in
+      let h2 = asked Ground.Exists (taken v c n) _ p (h1 .1) in
+      let h3 = asked Ground.Rootfull (root-full v c) _ p (h2 .1) in
+      let e : granted (create-stores v c (name-of n)) ≡ granted p = h3 .1 in
+      record { ok = not-false (name-ok n) (h1 .0); unused = unused n (h2 .0); room = room-in (h3 .0); same = cc }
+
+  pub record Renamed (n m : Span) (p : Program) : Type 0 where
+    pub ok : name-ok n ≡ true
+    pub new-ok : name-ok m ≡ true
+    pub live : Live l c (at n)
+    pub plain : is-directory (slot-at l c (at n)) ≡ false
+    pub unused : l .entries ≤ at m
+    pub room : free-slot l c < l .entries
+    pub same : operate v c [] fat (renames-as st (at n) live m) ≡ p
+
+  pub rename-granted : (n m : Span) (p : Program) → plan (renames n m) w ≡ granted p → Renamed n m p
+  unfolding plan rename rename-stores file-at
+  rename-granted n m p h =
+      let h1 = asked Ground.Name (not (name-ok n && name-ok m)) _ p (opened _ (granted p) h) in
+      let b = bound (file-in v c (at n)) _ p (h1 .1) in
+      let a = there w v is (at n) (b .0) (b .1) in
+      let h2 = asked Ground.Exists (taken v c m) _ p (b .2) in
+      let h3 = asked Ground.Rootfull (root-full v c) _ p (h2 .1) in
+      let e : granted (rename-stores v c (b .0) (name-of m)) ≡ granted p = h3 .1 in
+      let s : rename-stores v c (b .0) (name-of m) ≡ p = cc in
+      let names : (name-ok n && name-ok m) ≡ true = not-false (name-ok n && name-ok m) (h1 .0) in
+      record {
+        ok = and-left (name-ok n) (name-ok m) names;
+        new-ok = and-right (name-ok n) (name-ok m) names;
+        live = live-at n (a .0);
+        plain = a .1;
+        unused = unused m (h2 .0);
+        room = room-in (h3 .0);
+        same = ap (λ f. rename-stores v c f (name-of m)) (a .2) ∙ s;
+      }
+
+  -- ---- calls on a file that keeps the chain rule
+
+  abbrev pub Keeps : ℕ → Type 0
+  Keeps s = keeps-chain l (entry fat) (first-cluster (slot-at l c s)) (file-size (slot-at l c s)) ≡ true
+
+  pub record Named (n : Span) : Type 0 where
+    pub found : Found v c n (at n)
+    pub live : Live l c (at n)
+    pub keeps : Keeps (at n)
+    pub file : is-file (slot-at l c (at n)) ≡ true
+
+  named-in : (n : Span) (f : File) → file-of v c n ≡ granted f → Named n
+  unfolding proper
+  named-in n f h = let a = found-in w v is n f h in record { found = a; live = live-at n (a .in-root); keeps = a .keeps; file = file-at-name n (a .in-root) (a .plain) }
+
+  pub record Deleted (n : Span) (p : Program) : Type 0 where
+    pub it : Named n
+    pub same : operate v c [] (release (ks st (at n) (it .live) (it .keeps)) fat) (deletes-as st (at n) (it .live) (it .keeps)) ≡ p
+
+  pub delete-granted : (n : Span) (p : Program) → plan (deletes n) w ≡ granted p → Deleted n p
+  unfolding plan delete delete-stores file-at clusters-of
+  delete-granted n p h =
+      let b = bound (file-of v c n) _ p (opened _ (granted p) h) in
+      let e : granted (delete-stores v c (b .0)) ≡ granted p = b .2 in
+      let s : delete-stores v c (b .0) ≡ p = cc in
+      record { it = named-in n (b .0) (b .1); same = ap (delete-stores v c) (found-file w v is n (b .0) (b .1)) ∙ s }
+
+  -- A call that stores nothing where a number is 0, else q.
+  abbrev pub Unless : ℕ → Program → Program → Type 0
+  Unless n q p = ((n ≡ 0) × (p ≡ ending [])) ⊎ ((n ≡ 0 → ⊥) × (q ≡ p))
+
+  unless-is : (n : ℕ) (q p : Program) → unless-none n q ≡ p → Unless n q p
+  unfolding unless-none
+  unless-is n q p h = ⊎-elim (λ a. inl (eqb-true n 0 (a .0), sym (a .1))) (λ a. inr (eqb-false n 0 (a .0), a .1)) (which (eqb n 0) (ending []) q p h)
+
+  pub record Truncated (n : Span) (m : ℕ) (p : Program) : Type 0 where
+    pub it : Named n
+    pub less : m ≤ file-size (slot-at l c (at n))
+    pub same : Unless (file-size (slot-at l c (at n)) - m) (operate v c [] (cut-fat st (at n) (it .live) (it .keeps) m) (truncates-as st (at n) (it .live) (it .keeps) m)) p
+
+  pub truncate-granted : (n : Span) (m : ℕ) (p : Program) → plan (truncates n m) w ≡ granted p → Truncated n m p
+  unfolding plan truncate truncate-stores truncate-along file-at clusters-of
+  truncate-granted n m p h =
+      let b = bound (file-of v c n) _ p (opened _ (granted p) h) in
+      let f : File = b .0 in
+      let h2 = asked Ground.Length (ltb (f .size) m) _ p (b .2) in
+      let e : granted (unless-none (f .size - m) (truncate-stores v c f m)) ≡ granted p = h2 .1 in
+      let s : unless-none (f .size - m) (truncate-stores v c f m) ≡ p = cc in
+      let mine : file-at l c (at n) ≡ f = found-file w v is n f (b .1) in
+      let sized : file-size (slot-at l c (at n)) ≡ f .size = ap (λ f. f .size) mine in
+      let le : m ≤ f .size = ltb-false (f .size) m (h2 .0) in
+      record { it = named-in n f (b .1); less = omega arith; same = unless-is _ _ p (ap (λ (g : File). unless-none (g .size - m) (truncate-stores v c g m)) mine ∙ s) }
+
+  abbrev pub Room : ℕ → Span → Type 0
+  Room s d = added l (file-at l c s) (d .size) ≤ length (free-clusters l fat)
+
+  pub record Appended (n d : Span) (p : Program) : Type 0 where
+    pub it : Named n
+    pub room : Room (at n) d
+    pub same : Unless (d .size) (operate v c (ds st (at n) (it .live) (it .keeps) d room) (longer-fat st (at n) (it .live) (it .keeps) d room) (updates-as st (at n) (it .live) (it .keeps) d room)) p
+
+  pub append-granted : (n d : Span) (p : Program) → plan (appends n d) w ≡ granted p → Appended n d p
+  unfolding plan append append-stores append-along file-at clusters-of new-clusters added
+  append-granted n d p h =
+      let b = bound (file-of v c n) _ p (opened _ (granted p) h) in
+      let f : File = b .0 in
+      let h2 = asked Ground.Nospace (ltb (length (free-clusters l fat)) (added l f (d .size))) _ p (b .2) in
+      let e : granted (unless-none (d .size) (append-stores v c f d)) ≡ granted p = h2 .1 in
+      let s : unless-none (d .size) (append-stores v c f d) ≡ p = cc in
+      let mine : file-at l c (at n) ≡ f = found-file w v is n f (b .1) in
+      let space : added l f (d .size) ≤ length (free-clusters l fat) = ltb-false (length (free-clusters l fat)) (added l f (d .size)) (h2 .0) in
+      record { it = named-in n f (b .1); room = rw (ap (λ g. added l g (d .size)) mine) space; same = unless-is _ _ p (ap (λ g. unless-none (d .size) (append-stores v c g d)) mine ∙ s) }

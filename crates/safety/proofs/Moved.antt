@@ -1,0 +1,278 @@
+-- What is read after a create, a rename and a delete.
+use Prim.Native.Nat.{ℕ, _/_, _%_, _<_}
+use native.Mathlib.Omega.{arith}
+use mathlib.Core.Path.{_≡_, refl, sym, ap, _∙_, subst}
+use mathlib.Core.Logic.{_⊎_, inl, inr, ⊎-elim}
+use mathlib.Core.List.{List, [], _∷_}
+use mathlib.Core.Bool.{true, false, not}
+use lib.ListN.{length}
+use borrow.Author.Tests.{not-true}
+use Rattle.model.specs.Bytes.{Bytes, Span}
+use Rattle.model.specs.Sector.{Card, Window, after}
+use Rattle.model.specs.Fat.{Fat, entry, release}
+use Rattle.model.specs.Chain.{needed, file-sector, chain}
+use Rattle.model.specs.Root.{Directory, slot-at, free-slot, bears, is-label, listed, vacant, file-size, first-cluster, file-at, entry-at}
+use Rattle.model.specs.Ground.{granted}
+use Rattle.model.specs.Volume.{clean}
+use Rattle.model.specs.Promises.{Shape}
+use Rattle.model.specs.declared.Layout.{Layout}
+use Rattle.model.specs.declared.Pending.{Pending}
+use Rattle.model.specs.declared.Volume.{Volume}
+use Rattle.model.proofs.Walks.{chain-length}
+use Rattle.operations.specs.Program.{Program, stores}
+use Rattle.operations.specs.Finish.{effect, edits, new-entry, set-name, mark-deleted}
+use Rattle.operations.specs.Plan.{clusters-of, operate}
+use Rattle.operations.specs.Calls.{Call, plan, creates, renames, deletes, slot-of, name-of}
+use Rattle.operations.specs.Outcome.{left, largest}
+use Rattle.operations.specs.Reading.{file-byte}
+use Rattle.safety.specs.Sound.{chain-of, proper}
+use Rattle.safety.specs.Saved.{Holds, Gone, Alone}
+use Rattle.model.proofs.Tests.{clash, same?, told, and-right}
+use Rattle.model.proofs.All.{All}
+use Rattle.model.proofs.Cards.{after-nil}
+use Rattle.model.proofs.Chains.{Used, chain-used, in-cluster}
+use Rattle.model.proofs.Names.{live-not-free, name-fits, name-starts, found-listed}
+use Rattle.model.proofs.Volumes.{window, layout-of, first-fat, volume-of}
+use Rattle.safety.proofs.Start.{Start, shape-of, Clear}
+use Rattle.safety.proofs.Clusters.{sector-clear, used-plain}
+use Rattle.safety.proofs.Theorem.{along}
+use Rattle.safety.proofs.Ended.{Ended, ended, same-bears, same-directory}
+use Rattle.safety.proofs.Chained.{HasChain, head-is, size-is, empty-then, kept-then}
+use Rattle.safety.proofs.Readings.{Found, Read, holds-of, holds-read, gone-of}
+use Rattle.safety.proofs.Slots.{one-in, one-out, two-first, two-second, two-out, new-size, new-first, new-directory, new-bears, named-size, named-first, named-directory, named-bears, named-only, deleted-bears, means, means-none, lower-not, bearer}
+use Rattle.safety.proofs.Supplied.{creates-as, renames-as, deletes-as, create-supplies, rename-supplies, delete-supplies, ks}
+use Rattle.safety.proofs.Calls.{left-is}
+use Rattle.safety.proofs.Granted.{Created, create-granted, Renamed, rename-granted, Deleted, delete-granted}
+use Rattle.model.specs.declared.Pending.the-variants as Pending
+
+-- A file with a proper chain lies in data sectors outside the log.
+pub proper-clear : {size : ℕ} {c : Card} (st : Start size c) (s : ℕ) → proper (layout-of c) c s ≡ true → (i : ℕ) → i < file-size (slot-at (layout-of c) c s)
+    → (i / 512 / layout-of c .factor < length (chain-of (layout-of c) c s)) × Clear c (file-sector (layout-of c) (chain-of (layout-of c) c s) (i / 512))
+unfolding proper chain-of clusters-of file-at
+proper-clear {size} {c} st s h i less =
+    let l : Layout = layout-of c in
+    let g : ℕ → ℕ = entry (first-fat c) in
+    let n : ℕ = file-size (slot-at l c s) in
+    let k : ℕ = first-cluster (slot-at l c s) in
+    let sh : Shape l = shape-of st in
+    let used : All (Used l g) (chain g (needed l n) k) = chain-used l (sh .few) g (sh .factor-low) k n h in
+    let within : i / 512 / l .factor < length (chain g (needed l n) k) = rw (chain-length g (needed l n) k) (in-cluster l (sh .factor-low) (i / 512) n (omega arith)) in
+    (within, sector-clear st (chain g (needed l n) k) (used-plain l (first-fat c) (chain g (needed l n) k) used) (i / 512) within)
+
+module _ {size : ℕ} {c : Card} (st : Start size c) (is : clean (window size c) ≡ granted (volume-of c Pending.Nothing)) where
+  abbrev l : Layout
+  l = layout-of c
+
+  abbrev v : Volume
+  v = volume-of c Pending.Nothing
+
+  abbrev w : Window
+  w = window size c
+
+  abbrev fat : Fat
+  fat = first-fat c
+
+  abbrev d : Directory
+  d = slot-at l c
+
+  abbrev at : Span → ℕ
+  at n = slot-of v c n
+
+  abbrev z : ℕ
+  z = free-slot l c
+
+  -- What holds of the card that a program's stores leave holds of the window that the call leaves.
+  pub finish-with : (P : Window → Type 0) (k : Call) (p q : Program) → plan k w ≡ granted p → q ≡ p → P (window size (after (stores q) c)) → P (left largest k w)
+  finish-with P k p q h e x = subst P (sym (left-is st is k p h)) (subst (λ q. P (window size (after (stores q) c))) e x)
+
+  -- ---- create
+
+  module _ (n : Span) (p : Program) (g : Created st is n p) {t : Card} (end : Ended size c [] fat (creates-as st n) t) where
+    pub new-slot : effect (creates-as st n) d z ≡ new-entry (name-of n)
+    unfolding edits
+    new-slot = one-in (creates-as st n) d z (new-entry (name-of n)) refl
+
+    pub old-slot : (k : ℕ) → (k ≡ z → ⊥) → effect (creates-as st n) d k ≡ d k
+    unfolding edits
+    old-slot k ne = one-out (creates-as st n) d z (new-entry (name-of n)) refl k ne
+
+    create-found : Found v t n z
+    create-found = record {
+      ok = g .ok;
+      at = means v t n z (g .room)
+          (same-bears (slot-at l t z) (new-entry (name-of n)) (head-is st end z (g .room) (new-entry (name-of n)) new-slot) (name-of n) ∙ new-bears (name-of n) (name-fits n (g .ok)) (name-starts n (g .ok)))
+          (λ j less. same-bears (slot-at l t j) (d j) (head-is st end j (omega (arith, g .room)) (d j) (old-slot j (λ e. omega arith))) (name-of n) ∙ lower-not v c n j (omega (arith, g .room, g .unused)));
+      in-root = g .room;
+      plain = same-directory (slot-at l t z) (new-entry (name-of n)) (head-is st end z (g .room) (new-entry (name-of n)) new-slot) ∙ new-directory (name-of n);
+      keeps = empty-then st end z (g .room) (new-entry (name-of n)) new-slot (new-first (name-of n)) (new-size (name-of n)) .keeps;
+    }
+
+    create-then : (content : Bytes) → Holds (window size t) n 0 content
+    create-then content = holds-of (window size t) v (end .cleans) n z create-found 0 content
+        (size-is st end z (g .room) (new-entry (name-of n)) new-slot ∙ new-size (name-of n)) (λ i less. absurd (omega arith))
+
+  pub create-holds : (n : Span) (p : Program) → plan (creates n) w ≡ granted p → (content : Bytes) → Holds (left largest (creates n) w) n 0 content
+  create-holds n p h content =
+      let g : Created st is n p = create-granted st is n p h in
+      finish-with (λ x. Holds x n 0 content) (creates n) p _ h (g .same)
+      (create-then n p g (ended st [] fat (creates-as st n) (create-supplies st n (g .ok) (g .room))) content)
+
+  -- ---- rename
+
+  module _ (n m : Span) (p : Program) (g : Renamed st is n m p) {t : Card} (end : Ended size c [] fat (renames-as st (at n) (g .live) m) t) where
+    abbrev x : ℕ
+    x = at n
+
+    abbrev b : Bytes
+    b = set-name (name-of m) (d x)
+
+    apart : z ≡ x → ⊥
+    apart e = live-not-free l c x (g .live) (g .room) (sym e)
+
+    pub left-slot : effect (renames-as st x (g .live) m) d x ≡ mark-deleted (d x)
+    unfolding edits entry-at
+    left-slot = two-first (renames-as st x (g .live) m) d x z (mark-deleted (d x)) b refl
+
+    pub named-slot : effect (renames-as st x (g .live) m) d z ≡ b
+    unfolding edits entry-at
+    named-slot = two-second (renames-as st x (g .live) m) d x z (mark-deleted (d x)) b refl apart
+
+    pub rest-slot : (k : ℕ) → (k ≡ x → ⊥) → (k ≡ z → ⊥) → effect (renames-as st x (g .live) m) d k ≡ d k
+    unfolding edits entry-at
+    rest-slot k ne other = two-out (renames-as st x (g .live) m) d x z (mark-deleted (d x)) b refl k ne other
+
+    x-listed : listed (d x) ≡ true
+    unfolding slot-of
+    x-listed = found-listed l c (name-of n) (g .live .in-root)
+
+    no-label : is-label (d x) ≡ false
+    unfolding listed
+    no-label = not-true (is-label (d x)) (and-right (not (vacant (d x))) (not (is-label (d x))) x-listed)
+
+    x-not : (name : Span) → bears (name-of name) (slot-at l t x) ≡ false
+    x-not name = same-bears (slot-at l t x) (mark-deleted (d x)) (head-is st end x (g .live .in-root) (mark-deleted (d x)) left-slot) (name-of name) ∙ deleted-bears (name-of name) (d x)
+
+    rest-bears : (name : Span) (k : ℕ) → k < l .entries → (k ≡ x → ⊥) → (k ≡ z → ⊥) → bears (name-of name) (slot-at l t k) ≡ bears (name-of name) (d k)
+    rest-bears name k less ne other = same-bears (slot-at l t k) (d k) (head-is st end k less (d k) (rest-slot k ne other)) (name-of name)
+
+    lower : (j : ℕ) → j < z → bears (name-of m) (slot-at l t j) ≡ false
+    lower j less = ⊎-elim (λ e. rw e (x-not m))
+        (λ ne. rest-bears m j (omega (arith, g .room)) ne (λ e. omega arith) ∙ lower-not v c m j (omega (arith, g .room, g .unused))) (same? j x)
+
+    module _ (keeps : proper l c x ≡ true) where
+      pub rename-chain : HasChain l t z (chain-of l c x)
+      rename-chain = kept-then st end z (g .room) b named-slot x (named-first (name-of m) (d x)) (named-size (name-of m) (d x)) keeps (all-same (chain-of l c x))
+        where
+          all-same : (js : List ℕ) → All (λ k. entry fat k ≡ entry fat k) js
+          all-same [] = tt
+          all-same (j ∷ js) = (refl, all-same js)
+
+      rename-found : Found v t m z
+      rename-found = record {
+        ok = g .new-ok;
+        at = means v t m z (g .room)
+            (same-bears (slot-at l t z) b (head-is st end z (g .room) b named-slot) (name-of m) ∙ named-bears (name-of m) (d x) (name-fits m (g .new-ok)) (name-starts m (g .new-ok)) no-label) lower;
+        in-root = g .room;
+        plain = same-directory (slot-at l t z) b (head-is st end z (g .room) b named-slot) ∙ named-directory (name-of m) (d x) ∙ g .plain;
+        keeps = rename-chain .keeps;
+      }
+
+      rename-bytes : (i : ℕ) → i < file-size (d x) → file-byte l t (file-at l t z) i ≡ file-byte l c (file-at l c x) i
+      rename-bytes i less =
+          let n : ℕ = file-sector l (chain-of l c x) (i / 512) in
+          along l t z (chain-of l c x) i (rename-chain .chain)
+          ∙ (λ j. (end .sectors n (proper-clear st x keeps i less .1) ∙ (λ j. after-nil c j n)) j (i % 512))
+          ∙ sym (along l c x (chain-of l c x) i refl)
+
+    rename-then : (size′ : ℕ) (content : Bytes) → Holds w n size′ content → Holds (window size t) m size′ content
+    rename-then size′ content h =
+        let r : Read w v is n size′ content = holds-read w v is n size′ content h in
+        let keeps : proper l c x ≡ true = r .found .keeps in
+        holds-of (window size t) v (end .cleans) m z (rename-found keeps) size′ content
+        (size-is st end z (g .room) b named-slot ∙ named-size (name-of m) (d x) ∙ r .sized)
+        (λ i less. rename-bytes keeps i (omega (arith, r .sized)) ∙ r .same i less)
+
+    rename-from : slot-of v t n ≡ x → ⊥
+    rename-from e =
+        let less : slot-of v t n < l .entries = omega (arith, g .live .in-root) in
+        clash (rw e at (bearer v t n less)) (x-not n)
+
+    rename-gone : Alone v c n → Gone (window size t) n
+    rename-gone alone = gone-of (window size t) v (end .cleans) n (g .ok) (means-none v t n (λ j less. go j less (same? j x) (same? j z) (told (bears (name-of n) (slot-at l t j)))))
+      where
+        other-name : bears (name-of n) (slot-at l t z) ≡ true → ⊥
+        other-name h =
+            let same : name-of m ≡ name-of n = named-only (name-of n) (name-of m) (d x) (name-fits m (g .new-ok)) (sym (same-bears (slot-at l t z) b (head-is st end z (g .room) b named-slot) (name-of n)) ∙ h) in
+            clash (bearer v c n (g .live .in-root)) (ap (λ name. bears name (d x)) (sym same) ∙ lower-not v c m x (omega (arith, g .live .in-root, g .unused)))
+
+        go : (j : ℕ) → j < l .entries → (j ≡ x) ⊎ (j ≡ x → ⊥) → (j ≡ z) ⊎ (j ≡ z → ⊥) → (bears (name-of n) (slot-at l t j) ≡ true) ⊎ (bears (name-of n) (slot-at l t j) ≡ false)
+            → bears (name-of n) (slot-at l t j) ≡ false
+        go j less a b (inr f) = f
+        go j less (inl e) b (inl h) = rw e (x-not n)
+        go j less (inr ne) (inl e) (inl h) = absurd (other-name (rw e at h))
+        go j less (inr ne) (inr other) (inl h) = absurd (ne (alone j less (sym (rest-bears n j less ne other) ∙ h)))
+
+  pub rename-end : (n m : Span) (p : Program) (g : Renamed st is n m p)
+      → Ended size c [] fat (renames-as st (at n) (g .live) m) (after (stores (operate v c [] fat (renames-as st (at n) (g .live) m))) c)
+  rename-end n m p g = ended st [] fat (renames-as st (at n) (g .live) m) (rename-supplies st (at n) (g .live) m (g .new-ok) (g .room))
+
+  pub rename-holds : (n m : Span) (p : Program) → plan (renames n m) w ≡ granted p → (size′ : ℕ) (content : Bytes) → Holds w n size′ content
+      → Holds (left largest (renames n m) w) m size′ content
+  rename-holds n m p h size′ content holds =
+      let g : Renamed st is n m p = rename-granted st is n m p h in
+      finish-with (λ x. Holds x m size′ content) (renames n m) p _ h (g .same) (rename-then n m p g (rename-end n m p g) size′ content holds)
+
+  pub rename-leaves : (n m : Span) (p : Program) → plan (renames n m) w ≡ granted p → slot-of v (left largest (renames n m) w .card) n ≡ at n → ⊥
+  rename-leaves n m p h =
+      let g : Renamed st is n m p = rename-granted st is n m p h in
+      finish-with (λ x. slot-of v (x .card) n ≡ at n → ⊥) (renames n m) p _ h (g .same) (rename-from n m p g (rename-end n m p g))
+
+  pub rename-absent : (n m : Span) (p : Program) → plan (renames n m) w ≡ granted p → Alone v c n → Gone (left largest (renames n m) w) n
+  rename-absent n m p h alone =
+      let g : Renamed st is n m p = rename-granted st is n m p h in
+      finish-with (λ x. Gone x n) (renames n m) p _ h (g .same) (rename-gone n m p g (rename-end n m p g) alone)
+
+  -- ---- delete
+
+  module _ (n : Span) (p : Program) (g : Deleted st is n p) {t : Card}
+      (end : Ended size c [] (release (ks st (at n) (g .it .live) (g .it .keeps)) fat) (deletes-as st (at n) (g .it .live) (g .it .keeps)) t) where
+    pub gone-slot : effect (deletes-as st (at n) (g .it .live) (g .it .keeps)) d (at n) ≡ mark-deleted (d (at n))
+    unfolding edits entry-at
+    gone-slot = one-in (deletes-as st (at n) (g .it .live) (g .it .keeps)) d (at n) (mark-deleted (d (at n))) refl
+
+    pub kept-slot : (k : ℕ) → (k ≡ at n → ⊥) → effect (deletes-as st (at n) (g .it .live) (g .it .keeps)) d k ≡ d k
+    unfolding edits entry-at
+    kept-slot k ne = one-out (deletes-as st (at n) (g .it .live) (g .it .keeps)) d (at n) (mark-deleted (d (at n))) refl k ne
+
+    not-there : bears (name-of n) (slot-at l t (at n)) ≡ false
+    not-there = same-bears (slot-at l t (at n)) (mark-deleted (d (at n))) (head-is st end (at n) (g .it .live .in-root) (mark-deleted (d (at n))) gone-slot) (name-of n)
+        ∙ deleted-bears (name-of n) (d (at n))
+
+    delete-from : slot-of v t n ≡ at n → ⊥
+    delete-from e =
+        let less : slot-of v t n < l .entries = omega (arith, g .it .live .in-root) in
+        clash (rw e at (bearer v t n less)) not-there
+
+    delete-gone : Alone v c n → Gone (window size t) n
+    delete-gone alone = gone-of (window size t) v (end .cleans) n (g .it .found .ok) (means-none v t n (λ j less. go j less (same? j (at n)) (told (bears (name-of n) (slot-at l t j)))))
+      where
+        go : (j : ℕ) → j < l .entries → (j ≡ at n) ⊎ (j ≡ at n → ⊥) → (bears (name-of n) (slot-at l t j) ≡ true) ⊎ (bears (name-of n) (slot-at l t j) ≡ false)
+            → bears (name-of n) (slot-at l t j) ≡ false
+        go j less a (inr f) = f
+        go j less (inl e) (inl h) = rw e not-there
+        go j less (inr ne) (inl h) = absurd (ne (alone j less (sym (same-bears (slot-at l t j) (d j) (head-is st end j less (d j) (kept-slot j ne)) (name-of n)) ∙ h)))
+
+  pub delete-end : (n : Span) (p : Program) (g : Deleted st is n p)
+      → Ended size c [] (release (ks st (at n) (g .it .live) (g .it .keeps)) fat) (deletes-as st (at n) (g .it .live) (g .it .keeps))
+      (after (stores (operate v c [] (release (ks st (at n) (g .it .live) (g .it .keeps)) fat) (deletes-as st (at n) (g .it .live) (g .it .keeps)))) c)
+  delete-end n p g = ended st [] _ (deletes-as st (at n) (g .it .live) (g .it .keeps)) (delete-supplies st (at n) (g .it .live) (g .it .keeps))
+
+  pub delete-leaves : (n : Span) (p : Program) → plan (deletes n) w ≡ granted p → slot-of v (left largest (deletes n) w .card) n ≡ at n → ⊥
+  delete-leaves n p h =
+      let g : Deleted st is n p = delete-granted st is n p h in
+      finish-with (λ x. slot-of v (x .card) n ≡ at n → ⊥) (deletes n) p _ h (g .same) (delete-from n p g (delete-end n p g))
+
+  pub delete-absent : (n : Span) (p : Program) → plan (deletes n) w ≡ granted p → Alone v c n → Gone (left largest (deletes n) w) n
+  delete-absent n p h alone =
+      let g : Deleted st is n p = delete-granted st is n p h in
+      finish-with (λ x. Gone x n) (deletes n) p _ h (g .same) (delete-gone n p g (delete-end n p g) alone)

@@ -1,0 +1,184 @@
+-- Slots that operations edit: their names, sizes and first clusters, and which slot a name means.
+use Prim.Native.Nat.{ℕ, _^_, _≤_, _<_}
+use native.Mathlib.Omega.{arith}
+use mathlib.Core.Path.{_≡_, refl, sym, ap, _∙_}
+use mathlib.Core.List.{[], _∷_}
+use mathlib.Core.Bool.{Bool, true, false, not}
+use lib.Dec.{eqb}
+use borrow.Author.Tests.{eq-eqb, eqb-true}
+use Rattle.model.specs.Bytes.{Bytes, Span, pick, le, byte-of, overlay, patch}
+use Rattle.model.specs.Sector.{Card}
+use Rattle.model.specs.Root.{Directory, slot-at, name-in, file-size, first-cluster, is-file, is-directory, is-label, listed, vacant, bears, same-name, find, lowest-slot}
+use Rattle.model.specs.declared.Name.{Name}
+use Rattle.model.specs.declared.Operation.{Operation}
+use Rattle.model.specs.declared.Volume.{Volume}
+use Rattle.operations.specs.Calls.{slot-of, name-of}
+use Rattle.operations.specs.Finish.{set-name, set-size, set-first, mark-deleted, new-entry, edit, edits, set-slots, effect}
+use Rattle.model.proofs.Tests.{and-both, and-left, and-right}
+use Rattle.model.proofs.Scan.{first-same, first-is0, first-before0, first-has0, first-above0}
+use Rattle.model.proofs.Overlays.{overlay-below}
+use Rattle.model.proofs.Numbers.{read-back, le-over-below, le-over-above}
+use Rattle.model.proofs.Records.{NameFits}
+use Rattle.model.proofs.Pendings.{starts}
+use Rattle.model.proofs.Names.{vacant-starts}
+use Rattle.safety.proofs.Effect.{set-in, set-out}
+use Rattle.safety.proofs.Ended.{SameHead}
+
+-- ---- a slot with a new size, and a first cluster if a test holds
+
+module _ (t : Bool) (k size : ℕ) (b : Bytes) where
+  abbrev pub resized : Bytes
+  resized = set-size size (pick t (set-first k b) b)
+
+  pub resized-size : size < 256 ^ 4 → file-size resized ≡ size
+  resized-size less = read-back 4 size 28 (pick t (set-first k b) b) less
+
+  pub resized-first : k < 256 ^ 2 → first-cluster resized ≡ pick t k (first-cluster b)
+  resized-first less = le-over-below 2 4 28 26 (byte-of size) (pick t (set-first k b) b) (omega arith) ∙ go t
+    where
+      go : (t : Bool) → first-cluster (pick t (set-first k b) b) ≡ pick t k (first-cluster b)
+      go true = read-back 2 k 26 b less
+      go false = refl
+
+  pub resized-head : SameHead resized b
+  resized-head j small = overlay-below (byte-of size) 28 (pick t (set-first k b) b) 4 j (omega arith) ∙ go t
+    where
+      go : (t : Bool) → pick t (set-first k b) b j ≡ b j
+      go true = overlay-below (byte-of k) 26 b 2 j (omega arith)
+      go false = refl
+
+-- ---- a slot with a new name
+
+pub name-back : (n : Name) (b : Bytes) → NameFits n → same-name (name-in (set-name n b)) n ≡ true
+unfolding same-name
+name-back n b fits =
+    let stem : le 8 (set-name n b) 0 ≡ n .stem = read-back 8 (n .stem) 0 (patch 3 (n .extension) 8 b) (fits .stem) in
+    let extension : le 3 (set-name n b) 8 ≡ n .extension =
+    le-over-above 3 8 0 8 (byte-of (n .stem)) (patch 3 (n .extension) 8 b) (omega arith) ∙ read-back 3 (n .extension) 8 b (fits .extension) in
+    and-both (eqb (le 8 (set-name n b) 0) (n .stem)) _ (eq-eqb _ _ stem) (eq-eqb _ _ extension)
+
+module _ (n : Name) (b : Bytes) where
+  pub named-size : file-size (set-name n b) ≡ file-size b
+  named-size = le-over-above 4 8 0 28 (byte-of (n .stem)) (patch 3 (n .extension) 8 b) (omega arith) ∙ le-over-above 4 3 8 28 (byte-of (n .extension)) b (omega arith)
+
+  pub named-first : first-cluster (set-name n b) ≡ first-cluster b
+  named-first = le-over-above 2 8 0 26 (byte-of (n .stem)) (patch 3 (n .extension) 8 b) (omega arith) ∙ le-over-above 2 3 8 26 (byte-of (n .extension)) b (omega arith)
+
+  pub named-directory : is-directory (set-name n b) ≡ is-directory b
+  unfolding is-directory overlay
+  named-directory = refl
+
+  module _ (fits : NameFits n) (begins : starts (byte-of (n .stem) 0) ≡ true) (plain : is-label b ≡ false) where
+    named-listed : listed (set-name n b) ≡ true
+    unfolding listed is-label overlay
+    named-listed = and-both (not (vacant (set-name n b))) _ (vacant-starts (set-name n b) ∙ begins) (ap not plain)
+
+    pub named-bears : bears n (set-name n b) ≡ true
+    unfolding bears
+    named-bears = and-both (listed (set-name n b)) _ named-listed (name-back n b fits)
+
+    pub named-file : is-directory b ≡ false → is-file (set-name n b) ≡ true
+    unfolding is-file
+    named-file other = and-both (listed (set-name n b)) _ named-listed (ap not (named-directory ∙ other))
+
+-- ---- a new slot, and a deleted one
+
+pub new-size : (n : Name) → file-size (new-entry n) ≡ 0
+unfolding new-entry overlay byte-of le
+new-size n = refl
+
+pub new-first : (n : Name) → first-cluster (new-entry n) ≡ 0
+unfolding new-entry overlay byte-of le
+new-first n = refl
+
+pub new-directory : (n : Name) → is-directory (new-entry n) ≡ false
+unfolding new-entry overlay byte-of is-directory
+new-directory n = refl
+
+pub new-bears : (n : Name) → NameFits n → starts (byte-of (n .stem) 0) ≡ true → bears n (new-entry n) ≡ true
+unfolding new-entry overlay byte-of is-label
+new-bears n fits begins = named-bears n _ fits begins refl
+
+pub deleted-bears : (n : Name) (b : Bytes) → bears n (mark-deleted b) ≡ false
+unfolding bears listed vacant overlay byte-of
+deleted-bears n b = refl
+
+pub deleted-file : (b : Bytes) → is-file (mark-deleted b) ≡ false
+unfolding is-file listed vacant overlay byte-of
+deleted-file b = refl
+
+-- ---- names
+
+same-names : (x y : Name) → same-name x y ≡ true → x ≡ y
+unfolding same-name
+same-names x y h =
+    let stem : x .stem ≡ y .stem = eqb-true (x .stem) (y .stem) (and-left (eqb (x .stem) (y .stem)) (eqb (x .extension) (y .extension)) h) in
+    let extension : x .extension ≡ y .extension = eqb-true (x .extension) (y .extension) (and-right (eqb (x .stem) (y .stem)) (eqb (x .extension) (y .extension)) h) in
+    λ i. record { stem = stem i; extension = extension i }
+
+-- A slot bears one name, and a vacant one none.
+pub bears-name : (n : Name) (b : Bytes) → bears n b ≡ true → name-in b ≡ n
+unfolding bears
+bears-name n b h = same-names (name-in b) n (and-right (listed b) (same-name (name-in b) n) h)
+
+pub vacant-bears : (n : Name) (b : Bytes) → vacant b ≡ true → bears n b ≡ false
+unfolding bears listed
+vacant-bears n b h = rw h
+
+-- A slot that was given the name m and bears n has it from m.
+pub named-only : (n m : Name) (b : Bytes) → NameFits m → bears n (set-name m b) ≡ true → m ≡ n
+named-only n m b fits h = sym (same-names (name-in (set-name m b)) m (name-back m b fits)) ∙ bears-name n (set-name m b) h
+
+pub new-named : (n m : Name) → NameFits m → bears n (new-entry m) ≡ true → m ≡ n
+unfolding new-entry
+new-named n m fits h = named-only n m _ fits h
+
+-- ---- edits
+
+module _ (o : Operation) (d : Directory) where
+  pub one-in : (x : ℕ) (b : Bytes) → edits o d ≡ edit x b ∷ [] → effect o d x ≡ b
+  unfolding effect
+  one-in x b e = ap (λ es. set-slots es d x) e ∙ set-in (edit x b) [] d x refl
+
+  pub one-out : (x : ℕ) (b : Bytes) → edits o d ≡ edit x b ∷ [] → (k : ℕ) → (k ≡ x → ⊥) → effect o d k ≡ d k
+  unfolding effect set-slots
+  one-out x b e k ne = ap (λ es. set-slots es d k) e ∙ set-out (edit x b) [] d k ne
+
+  module _ (x y : ℕ) (a b : Bytes) (e : edits o d ≡ edit x a ∷ edit y b ∷ []) where
+    pub two-first : effect o d x ≡ a
+    unfolding effect
+    two-first = ap (λ es. set-slots es d x) e ∙ set-in (edit x a) (edit y b ∷ []) d x refl
+
+    pub two-second : (y ≡ x → ⊥) → effect o d y ≡ b
+    unfolding effect
+    two-second ne = ap (λ es. set-slots es d y) e ∙ set-out (edit x a) (edit y b ∷ []) d y ne ∙ set-in (edit y b) [] d y refl
+
+    pub two-out : (k : ℕ) → (k ≡ x → ⊥) → (k ≡ y → ⊥) → effect o d k ≡ d k
+    unfolding effect set-slots
+    two-out k ne other = ap (λ es. set-slots es d k) e ∙ set-out (edit x a) (edit y b ∷ []) d k ne ∙ set-out (edit y b) [] d k other
+
+-- ---- the slot that a name means
+
+module _ (v : Volume) (x : Card) (n : Span) where
+  abbrev borne : ℕ → Bool
+  borne k = bears (name-of n) (slot-at (v .layout) x k)
+
+  pub means : (s : ℕ) → s < v .layout .entries → borne s ≡ true → ((j : ℕ) → j < s → borne j ≡ false) → slot-of v x n ≡ s
+  unfolding slot-of find lowest-slot
+  means s less h none = first-is0 borne (v .layout .entries) s less none h
+
+  pub means-none : ((j : ℕ) → j < v .layout .entries → borne j ≡ false) → v .layout .entries ≤ slot-of v x n
+  unfolding slot-of find lowest-slot
+  means-none none = first-above0 borne (v .layout .entries) (v .layout .entries) (omega arith) none
+
+  pub lower-not : (j : ℕ) → j < slot-of v x n → borne j ≡ false
+  unfolding slot-of find lowest-slot
+  lower-not j less = first-before0 borne (v .layout .entries) j less
+
+  pub means-same : (y : Card) → ((k : ℕ) → k < v .layout .entries → bears (name-of n) (slot-at (v .layout) y k) ≡ borne k) → slot-of v y n ≡ slot-of v x n
+  unfolding slot-of find lowest-slot
+  means-same y h = first-same (λ k. bears (name-of n) (slot-at (v .layout) y k)) borne 0 (v .layout .entries) (λ k lo hi. h k (omega arith))
+
+  pub bearer : slot-of v x n < v .layout .entries → borne (slot-of v x n) ≡ true
+  unfolding slot-of find lowest-slot
+  bearer less = first-has0 borne (v .layout .entries) less

@@ -1,0 +1,325 @@
+-- Every call on a sound card keeps the files that it does not name, and soundness.
+use Prim.Native.Nat.{ℕ, _-_, _≤_, _<_}
+use native.Mathlib.Omega.{arith}
+use mathlib.Core.Path.{_≡_, refl, sym, ap, _∙_, subst}
+use mathlib.Core.Logic.{_⊎_, inl, inr, ⊎-elim}
+use mathlib.Core.List.{List, [], _∷_, _++_}
+use mathlib.Core.Bool.{true}
+use lib.Dec.{eqb}
+use lib.ListN.{take, drop}
+use borrow.Author.Tests.{eq-eqb, ne-eqb}
+use Rattle.model.specs.Bytes.{Bytes, Span, pick}
+use Rattle.model.specs.Sector.{Card, Window, after}
+use Rattle.model.specs.Fat.{Fat, entry, release}
+use Rattle.model.specs.Chain.{needed}
+use Rattle.model.specs.Root.{Directory, slot-at, free-slot, is-file, file-size, file-at}
+use Rattle.model.specs.Ground.{Answer, refused, granted}
+use Rattle.model.specs.Volume.{clean}
+use Rattle.model.specs.declared.Layout.{Layout}
+use Rattle.model.specs.declared.Pending.{Pending}
+use Rattle.model.specs.declared.Volume.{Volume}
+use Rattle.operations.specs.Program.{Program, ending}
+use Rattle.operations.specs.Finish.{new-entry, mark-deleted}
+use Rattle.operations.specs.Plan.{clusters-of}
+use Rattle.operations.specs.Calls.{Call, plan, creates, appends, truncates, deletes, renames, recovers, slot-of, name-of}
+use Rattle.operations.specs.Outcome.{left, made, largest}
+use Rattle.safety.specs.Sound.{Sound, chain-of}
+use Rattle.safety.specs.Saved.{Names, Holds, SameFile, AllKeep}
+use Rattle.model.proofs.Tests.{clash, same?}
+use Rattle.model.proofs.All.{All, all-map, all-take, all-drop, all-append}
+use Rattle.model.proofs.Chains.{Used}
+use Rattle.model.proofs.Volumes.{window, layout-of, first-fat, volume-of}
+use Rattle.safety.proofs.Start.{Start}
+use Rattle.safety.proofs.Before.{start-rests}
+use Rattle.safety.proofs.Clusters.{Fresh}
+use Rattle.safety.proofs.Files.{file-used}
+use Rattle.safety.proofs.Theorem.{after-calls}
+use Rattle.safety.proofs.Linked.{Off, all-zip, release-other, shorten-other, extend-other}
+use Rattle.safety.proofs.Ended.{Ended, ended, SameHead, same-size, same-directory, same-is-file}
+use Rattle.safety.proofs.Chained.{empty-then}
+use Rattle.safety.proofs.Readings.{Read, holds-read, holds-of}
+use Rattle.safety.proofs.Slots.{new-first, new-size, deleted-file}
+use Rattle.safety.proofs.Supplied.{creates-as, create-supplies, renames-as, deletes-as, truncates-as, truncate-supplies, cut-fat, updates-as, append-supplies, longer-fat, ks}
+use Rattle.safety.proofs.Granted.{file-at-name, Created, create-granted, Renamed, rename-granted, Named, Deleted, delete-granted, Truncated, truncate-granted, Room, Appended, append-granted}
+use Rattle.safety.proofs.Moved.{finish-with, new-slot, old-slot, left-slot, rest-slot, rename-chain, rename-end, gone-slot, kept-slot, delete-end}
+use Rattle.safety.proofs.Cut.{cut-slot, cut-head, uncut-slot, cut-chain}
+use Rattle.safety.proofs.Grown.{grown-slot, grown-head, other-slot, grown-chain}
+use Rattle.safety.proofs.Others.{file-not-free, Spares, Owner, chains-apart, no-data, owned-old, other-same, Owned, owned-by, file-by, other-owned, sound-then}
+use Rattle.safety.proofs.Means.{resized-means, create-means, rename-means, delete-means}
+use Rattle.safety.proofs.Saved.{started, volume-is}
+use Rattle.safety.proofs.Appends as Appends
+use Rattle.model.specs.declared.Pending.the-variants as Pending
+
+-- What is kept on a card t that a call leaves of c.
+record Keeping (v : Volume) (c : Card) (k : Call) (t : Card) : Type 0 where
+  others : (s : ℕ) → s < v .layout .entries → is-file (slot-at (v .layout) c s) ≡ true → (Names v c k s → ⊥) → SameFile (v .layout) c t s
+  means : (m : Span) → slot-of v c m < v .layout .entries → (Names v c k (slot-of v c m) → ⊥) → slot-of v t m ≡ slot-of v c m
+  sound : Sound (v .layout) t
+
+-- The same entries.
+same-fat : (f : Fat) (js : List ℕ) → All (λ k. entry f k ≡ entry f k) js
+same-fat f [] = tt
+same-fat f (j ∷ js) = (refl, same-fat f js)
+
+module _ {size : ℕ} {c : Card} (st : Start size c) (is : clean (window size c) ≡ granted (volume-of c Pending.Nothing)) (sound : Sound (layout-of c) c) where
+  abbrev l : Layout
+  l = layout-of c
+
+  abbrev v : Volume
+  v = volume-of c Pending.Nothing
+
+  abbrev w : Window
+  w = window size c
+
+  abbrev fat : Fat
+  fat = first-fat c
+
+  abbrev d : Directory
+  d = slot-at l c
+
+  abbrev at : Span → ℕ
+  at n = slot-of v c n
+
+  abbrev z : ℕ
+  z = free-slot l c
+
+  idle-keeps : (k : Call) → Keeping v c k c
+  idle-keeps k = record { others = λ s less file ne. record { slot = λ j small. refl; bytes = λ i small. refl }; means = λ m less ne. refl; sound = sound }
+
+  none-keeps : (k : Call) → Keeping v c k (after [] c)
+  unfolding after
+  none-keeps k = idle-keeps k
+
+  abbrev Kept : Call → Window → Type 0
+  Kept k x = Keeping v c k (x .card)
+
+  -- ---- create
+
+  module _ (n : Span) (p : Program) (g : Created st is n p) {t : Card} (end : Ended size c [] fat (creates-as st n) t) where
+    create-spares : Spares c [] fat (creates-as st n) (at n)
+    create-spares = record {
+      slot = λ s less file ne. old-slot st is n p g end s (file-not-free l c s less file (g .room));
+      fat = λ s less file ne. same-fat fat (chain-of l c s);
+      bytes = no-data st sound;
+    }
+
+    create-owned : (s : ℕ) → s < l .entries → is-file (slot-at l t s) ≡ true → (s ≡ z) ⊎ (s ≡ z → ⊥) → Owned st sound create-spares end (λ r. r) z s
+    create-owned s less file (inl e) = subst (λ s. Owned st sound create-spares end (λ r. r) z s) (sym e)
+        (owned-by st sound create-spares end (λ r. r) z z []
+        (empty-then st end z (g .room) (new-entry (name-of n)) (new-slot st is n p g end) (new-first (name-of n)) (new-size (name-of n))) tt)
+    create-owned s less file (inr ne) =
+        other-owned st sound create-spares end (λ r. r) z s less (file-by st sound create-spares end (λ r. r) z s less (d s) (old-slot st is n p g end s ne) file)
+        (λ e. omega (arith, g .unused)) refl
+
+    create-keeps : Keeping v c (creates n) t
+    create-keeps = record {
+      others = λ s less file ne. other-same st sound create-spares end s less file (λ e. omega (arith, g .unused));
+      means = λ m less ne. create-means st is n p g end m less;
+      sound = sound-then st sound create-spares end (λ r. r) z (λ s less file. create-owned s less file (same? s z));
+    }
+
+  -- ---- rename
+
+  module _ (n m : Span) (p : Program) (g : Renamed st is n m p) {t : Card} (end : Ended size c [] fat (renames-as st (at n) (g .live) m) t) where
+    rename-spares : Spares c [] fat (renames-as st (at n) (g .live) m) (at n)
+    rename-spares = record {
+      slot = λ s less file ne. rest-slot st is n m p g end s ne (file-not-free l c s less file (g .room));
+      fat = λ s less file ne. same-fat fat (chain-of l c s);
+      bytes = no-data st sound;
+    }
+
+    -- The old slot becomes the new one.
+    abbrev moved : ℕ → ℕ
+    moved r = pick (eqb r (at n)) z r
+
+    x-file : is-file (d (at n)) ≡ true
+    x-file = file-at-name st is n (g .live .in-root) (g .plain)
+
+    rename-owned : (s : ℕ) → s < l .entries → is-file (slot-at l t s) ≡ true → (s ≡ at n) ⊎ (s ≡ at n → ⊥) → (s ≡ z) ⊎ (s ≡ z → ⊥)
+        → Owned st sound rename-spares end moved z s
+    rename-owned s less file (inl e) b =
+        clash (file-by st sound rename-spares end moved z (at n) (g .live .in-root) (mark-deleted (d (at n))) (left-slot st is n m p g end) (rw e at file)) (deleted-file (d (at n)))
+    rename-owned s less file (inr ne) (inl e) = subst (λ s. Owned st sound rename-spares end moved z s) (sym e)
+        (owned-by st sound rename-spares end moved z z (chain-of l c (at n)) (rename-chain st is n m p g end (sound .chains (at n) (g .live .in-root) x-file))
+        (owned-old st sound moved z z (at n) (g .live .in-root) x-file (ap (λ t. pick t z (at n)) (eq-eqb (at n) (at n) refl))))
+    rename-owned s less file (inr ne) (inr other) =
+        other-owned st sound rename-spares end moved z s less (file-by st sound rename-spares end moved z s less (d s) (rest-slot st is n m p g end s ne other) file) ne
+        (ap (λ t. pick t z s) (ne-eqb s (at n) ne))
+
+    rename-keeps : Keeping v c (renames n m) t
+    rename-keeps = record {
+      others = other-same st sound rename-spares end;
+      means = λ name less ne. rename-means st is n m p g end name less ne;
+      sound = sound-then st sound rename-spares end moved z (λ s less file. rename-owned s less file (same? s (at n)) (same? s z));
+    }
+
+  -- ---- calls on a file
+
+  -- The entries along another file's chain, under a change that leaves clusters off this file's.
+  spared-fat : (x : ℕ) (f : Fat) → x < l .entries → is-file (d x) ≡ true → ((k : ℕ) → Used l (entry fat) k → Off (chain-of l c x) k → entry f k ≡ entry fat k)
+      → (s : ℕ) → s < l .entries → is-file (d s) ≡ true → (s ≡ x → ⊥) → All (λ k. entry f k ≡ entry fat k) (chain-of l c s)
+  spared-fat x f in-root it h s less file ne =
+      all-zip (Used l (entry fat)) (Off (chain-of l c x)) (λ k. entry f k ≡ entry fat k) h (chain-of l c s) (file-used st sound s less file) (chains-apart st sound s x less in-root file it ne)
+
+  module _ (n : Span) (p : Program) (g : Deleted st is n p) {t : Card}
+      (end : Ended size c [] (release (ks st (at n) (g .it .live) (g .it .keeps)) fat) (deletes-as st (at n) (g .it .live) (g .it .keeps)) t) where
+    abbrev own : List ℕ
+    own = ks st (at n) (g .it .live) (g .it .keeps)
+
+    delete-spares : Spares c [] (release own fat) (deletes-as st (at n) (g .it .live) (g .it .keeps)) (at n)
+    unfolding chain-of clusters-of file-at
+    delete-spares = record {
+      slot = λ s less file ne. kept-slot st is n p g end s ne;
+      fat = spared-fat (at n) (release own fat) (g .it .live .in-root) (g .it .file) (λ k u off. release-other own fat k off);
+      bytes = no-data st sound;
+    }
+
+    delete-owned : (s : ℕ) → s < l .entries → is-file (slot-at l t s) ≡ true → (s ≡ at n) ⊎ (s ≡ at n → ⊥) → Owned st sound delete-spares end (λ r. r) z s
+    delete-owned s less file (inl e) = clash
+        (file-by st sound delete-spares end (λ r. r) z (at n) (g .it .live .in-root) (mark-deleted (d (at n))) (gone-slot st is n p g end) (rw e at file)) (deleted-file (d (at n)))
+    delete-owned s less file (inr ne) =
+        other-owned st sound delete-spares end (λ r. r) z s less (file-by st sound delete-spares end (λ r. r) z s less (d s) (kept-slot st is n p g end s ne) file) ne refl
+
+    delete-keeps : Keeping v c (deletes n) t
+    delete-keeps = record {
+      others = other-same st sound delete-spares end;
+      means = λ name less ne. delete-means st is n p g end name ne;
+      sound = sound-then st sound delete-spares end (λ r. r) z (λ s less file. delete-owned s less file (same? s (at n)));
+    }
+
+  module _ (n : Span) (m : ℕ) (g : Named st is n) (shorter : m < file-size (d (at n))) {t : Card}
+      (end : Ended size c [] (cut-fat st (at n) (g .live) (g .keeps) m) (truncates-as st (at n) (g .live) (g .keeps) m) t) where
+    abbrev mine : List ℕ
+    mine = ks st (at n) (g .live) (g .keeps)
+
+    cut-spares : Spares c [] (cut-fat st (at n) (g .live) (g .keeps) m) (truncates-as st (at n) (g .live) (g .keeps) m) (at n)
+    unfolding chain-of clusters-of file-at
+    cut-spares = record {
+      slot = λ s less file ne. uncut-slot st (at n) (g .live) (g .keeps) m shorter end s ne;
+      fat = spared-fat (at n) (cut-fat st (at n) (g .live) (g .keeps) m) (g .live .in-root) (g .file)
+          (λ k u off. shorten-other (take (needed l m) mine) (drop (needed l m) mine) fat k (all-take (λ j. k ≡ j → ⊥) (needed l m) mine off) (all-drop (λ j. k ≡ j → ⊥) (needed l m) mine off));
+      bytes = no-data st sound;
+    }
+
+    cut-owned : (s : ℕ) → s < l .entries → is-file (slot-at l t s) ≡ true → (s ≡ at n) ⊎ (s ≡ at n → ⊥) → Owned st sound cut-spares end (λ r. r) z s
+    unfolding chain-of clusters-of file-at
+    cut-owned s less file (inl e) = subst (λ s. Owned st sound cut-spares end (λ r. r) z s) (sym e)
+        (owned-by st sound cut-spares end (λ r. r) z (at n) (take (needed l m) mine) (cut-chain st (at n) (g .live) (g .keeps) m shorter end)
+        (all-take (Owner c (λ r. r) z (at n)) (needed l m) mine (owned-old st sound (λ r. r) z (at n) (at n) (g .live .in-root) (g .file) refl)))
+    cut-owned s less file (inr ne) =
+        other-owned st sound cut-spares end (λ r. r) z s less (file-by st sound cut-spares end (λ r. r) z s less (d s) (uncut-slot st (at n) (g .live) (g .keeps) m shorter end s ne) file) ne refl
+
+    cut-keeps : Keeping v c (truncates n m) t
+    cut-keeps = record {
+      others = other-same st sound cut-spares end;
+      means = λ name less ne. resized-means st is end name (at n) _ (cut-slot st (at n) (g .live) (g .keeps) m shorter end) (cut-head st (at n) (g .live) (g .keeps) m shorter end)
+          (uncut-slot st (at n) (g .live) (g .keeps) m shorter end);
+      sound = sound-then st sound cut-spares end (λ r. r) z (λ s less file. cut-owned s less file (same? s (at n)));
+    }
+
+  module _ (n b : Span) (g : Named st is n) (room : Room st is (at n) b) (some : b .size ≡ 0 → ⊥) {t : Card}
+      (end : Ended size c (Appends.ds st (at n) (g .live) (g .keeps) b room) (longer-fat st (at n) (g .live) (g .keeps) b room) (updates-as st (at n) (g .live) (g .keeps) b room) t) where
+    abbrev old : List ℕ
+    old = ks st (at n) (g .live) (g .keeps)
+
+    abbrev new : List ℕ
+    new = Appends.new st (at n) (g .live) (g .keeps) b room
+
+    fresh : All (Fresh l fat) new
+    fresh = Appends.fresh st (at n) (g .live) (g .keeps) b room
+
+    append-spares : Spares c (Appends.ds st (at n) (g .live) (g .keeps) b room) (longer-fat st (at n) (g .live) (g .keeps) b room) (updates-as st (at n) (g .live) (g .keeps) b room) (at n)
+    unfolding chain-of clusters-of file-at
+    append-spares = record {
+      slot = λ s less file ne. other-slot st (at n) (g .live) (g .keeps) b room some end s ne;
+      fat = spared-fat (at n) (longer-fat st (at n) (g .live) (g .keeps) b room) (g .live .in-root) (g .file)
+          (λ k u off. extend-other old new fat k off (all-map (Fresh l fat) (λ j. k ≡ j → ⊥) (λ j q e. u .busy (ap (entry fat) e ∙ q .none)) new fresh));
+      bytes = λ s i less file small. Appends.append-spared st (at n) (g .live) (g .keeps) b room sound (g .file) s i less file small;
+    }
+
+    append-owned : (s : ℕ) → s < l .entries → is-file (slot-at l t s) ≡ true → (s ≡ at n) ⊎ (s ≡ at n → ⊥) → Owned st sound append-spares end (λ r. r) (at n) s
+    unfolding chain-of clusters-of file-at
+    append-owned s less file (inl e) = subst (λ s. Owned st sound append-spares end (λ r. r) (at n) s) (sym e)
+        (owned-by st sound append-spares end (λ r. r) (at n) (at n) (old ++ new) (grown-chain st (at n) (g .live) (g .keeps) b room some end)
+        (all-append (Owner c (λ r. r) (at n) (at n)) old new (owned-old st sound (λ r. r) (at n) (at n) (at n) (g .live .in-root) (g .file) refl)
+        (all-map (Fresh l fat) (Owner c (λ r. r) (at n) (at n)) (λ k q. Owner.new (q .none) refl) new fresh)))
+    append-owned s less file (inr ne) =
+        other-owned st sound append-spares end (λ r. r) (at n) s less
+        (file-by st sound append-spares end (λ r. r) (at n) s less (d s) (other-slot st (at n) (g .live) (g .keeps) b room some end s ne) file) ne refl
+
+    append-keeps : Keeping v c (appends n b) t
+    append-keeps = record {
+      others = other-same st sound append-spares end;
+      means = λ name less ne. resized-means st is end name (at n) _ (grown-slot st (at n) (g .live) (g .keeps) b room some end) (grown-head st (at n) (g .live) (g .keeps) b room some end)
+          (other-slot st (at n) (g .live) (g .keeps) b room some end);
+      sound = sound-then st sound append-spares end (λ r. r) (at n) (λ s less file. append-owned s less file (same? s (at n)));
+    }
+
+  -- ---- every call
+
+  granted-keeps : (k : Call) (p : Program) → plan k w ≡ granted p → Kept k (left largest k w)
+  granted-keeps (creates n) p h =
+      let g : Created st is n p = create-granted st is n p h in
+      finish-with st is (Kept (creates n)) (creates n) p _ h (g .same) (create-keeps n p g (ended st [] fat (creates-as st n) (create-supplies st n (g .ok) (g .room))))
+  granted-keeps (renames n m) p h =
+      let g : Renamed st is n m p = rename-granted st is n m p h in
+      finish-with st is (Kept (renames n m)) (renames n m) p _ h (g .same) (rename-keeps n m p g (rename-end st is n m p g))
+  granted-keeps (deletes n) p h =
+      let g : Deleted st is n p = delete-granted st is n p h in
+      finish-with st is (Kept (deletes n)) (deletes n) p _ h (g .same) (delete-keeps n p g (delete-end st is n p g))
+  granted-keeps (truncates n m) p h =
+      let g : Truncated st is n m p = truncate-granted st is n m p h in
+      let f : Named st is n = g .it in
+      let le : m ≤ file-size (d (at n)) = g .less in
+      ⊎-elim
+      (λ a. finish-with st is (Kept (truncates n m)) (truncates n m) p (ending []) h (sym (a .1)) (none-keeps (truncates n m)))
+      (λ a. let some : file-size (d (at n)) - m ≡ 0 → ⊥ = a .0 in
+      finish-with st is (Kept (truncates n m)) (truncates n m) p _ h (a .1)
+      (cut-keeps n m f (omega arith) (ended st [] _ (truncates-as st (at n) (f .live) (f .keeps) m) (truncate-supplies st (at n) (f .live) (f .keeps) m le))))
+      (g .same)
+  granted-keeps (appends n b) p h =
+      let g : Appended st is n b p = append-granted st is n b p h in
+      let f : Named st is n = g .it in
+      ⊎-elim
+      (λ a. finish-with st is (Kept (appends n b)) (appends n b) p (ending []) h (sym (a .1)) (none-keeps (appends n b)))
+      (λ a. finish-with st is (Kept (appends n b)) (appends n b) p _ h (a .1)
+      (append-keeps n b f (g .room) (a .0) (ended st _ _ (updates-as st (at n) (f .live) (f .keeps) b (g .room)) (append-supplies st (at n) (f .live) (f .keeps) b (g .room)))))
+      (g .same)
+  granted-keeps recovers p h =
+      let e : granted (ending []) ≡ granted p = sym (start-rests st) ∙ h in
+      let same : ending [] ≡ p = cc in
+      finish-with st is (Kept recovers) recovers p (ending []) h same (none-keeps recovers)
+
+  call-keeps : (k : Call) (a : Answer Program) → plan k w ≡ a → Kept k (left largest k w)
+  unfolding left made
+  call-keeps k (refused g) h = rw h (none-keeps k)
+  call-keeps k (granted p) h = granted-keeps k p h
+
+  -- Another name is read as before.
+  read-keeps : (k : Call) (x : Window) → clean x ≡ granted v → Kept k x → (n : Span) (size′ : ℕ) (content : Bytes) → Holds w n size′ content → (Names v c k (at n) → ⊥) → Holds x n size′ content
+  read-keeps k x cleans h n size′ content holds ne =
+      let r : Read w v is n size′ content = holds-read w v is n size′ content holds in
+      let less : at n < l .entries = r .found .in-root in
+      let file : is-file (d (at n)) ≡ true = file-at-name st is n less (r .found .plain) in
+      let same : SameFile l c (x .card) (at n) = h .others (at n) less file ne in
+      let new : Bytes = slot-at l (x .card) (at n) in
+      let head : SameHead new (d (at n)) = λ j small. same .slot j (omega arith) in
+      holds-of x v cleans n (at n)
+      (record {
+        ok = r .found .ok;
+        at = h .means n less ne;
+        in-root = less;
+        plain = same-directory new (d (at n)) head ∙ r .found .plain;
+        keeps = h .sound .chains (at n) less (same-is-file new (d (at n)) head ∙ file);
+      })
+      size′ content (same-size new (d (at n)) (same .slot) ∙ r .sized) (λ i small. same .bytes i (omega (arith, r .sized)) ∙ r .same i small)
+
+pub all-keep : AllKeep
+all-keep k w v real is sound =
+    let same : v ≡ volume-of (w .card) Pending.Nothing = volume-is w v is in
+    let st : Start (w .size) (w .card) = started w v real is in
+    let now : clean w ≡ granted (volume-of (w .card) Pending.Nothing) = is ∙ ap granted same in
+    let sound′ : Sound (layout-of (w .card)) (w .card) = subst (λ v. Sound (v .layout) (w .card)) same sound in
+    let h : Keeping (volume-of (w .card) Pending.Nothing) (w .card) k (left largest k w .card) = call-keeps st now sound′ k (plan k w) refl in
+    let cleans : clean (left largest k w) ≡ granted (volume-of (w .card) Pending.Nothing) = after-calls k w v real is .clean-again ∙ ap granted same in
+    rw same (record { others = h .others; reads = read-keeps st now sound′ k (left largest k w) cleans h; sound = h .sound })

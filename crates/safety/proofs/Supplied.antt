@@ -1,0 +1,132 @@
+-- What each operation supplies, and so the card that it leaves.
+use Prim.Native.Nat.{ℕ, _-_, _≤_, _<_}
+use native.Mathlib.Omega.{arith}
+use mathlib.Core.Path.{_≡_, refl}
+use mathlib.Core.List.{List, []}
+use mathlib.Core.Bool.{true}
+use lib.ListN.{getD, take, drop, length}
+use Rattle.model.specs.Bytes.{Bytes, Span}
+use Rattle.model.specs.Sector.{Card}
+use Rattle.model.specs.Fat.{Fat, entry, release, free-clusters}
+use Rattle.model.specs.Chain.{keeps-chain, needed}
+use Rattle.model.specs.Root.{slot-at, name-ok, free-slot, name-in, entry-at, first-cluster, file-size, file-at}
+use Rattle.model.specs.Promises.{Shape}
+use Rattle.model.specs.declared.Entry.{Entry}
+use Rattle.model.specs.declared.Layout.{Layout}
+use Rattle.model.specs.declared.Operation.{Operation}
+use Rattle.model.specs.declared.Operation.the-variants.{Create, Update, Rename, Delete, Truncate}
+use Rattle.operations.specs.Plan.{shorten, extend, last-cluster, added}
+use Rattle.model.proofs.All.{All, all-take, all-drop}
+use Rattle.model.proofs.Names.{name-starts, name-fits, free-low, Live, live-not-free}
+use Rattle.model.proofs.Volumes.{layout-of, first-fat}
+use Rattle.safety.proofs.Start.{Start, shape-of, entries-few}
+use Rattle.safety.proofs.Operate.{Supplies}
+use Rattle.safety.proofs.Clusters.{Plain, released-marks, plain-fits, shorten-marks, extend-marks}
+use Rattle.safety.proofs.Operations.{entry-fits, slot-seat, slot-named, slot-lives, first-fits, size-fits, the-chain, old-plain, old-busy}
+use Rattle.safety.proofs.Appends.{new, ds, total, new-plain, total-fits, outside}
+
+module _ {size : ℕ} {c : Card} (st : Start size c) where
+  abbrev l : Layout
+  l = layout-of c
+
+  abbrev fat : Fat
+  fat = first-fat c
+
+  sh : Shape l
+  sh = shape-of st
+
+  abbrev pub creates-as : Span → Operation
+  creates-as n = Create (record { slot = free-slot l c; name = name-in (n .byte); attributes = 0x20 })
+
+  pub create-supplies : (n : Span) → name-ok n ≡ true → free-slot l c < l .entries → Supplies c [] fat (creates-as n)
+  create-supplies n ok room = record {
+    outside = tt;
+    marks = λ k low high. refl;
+    named = name-starts n ok;
+    fits = record { slot = omega (arith, entries-few st, room); name = name-fits n ok; attributes = omega arith };
+    recorded = (room, free-low l c);
+    lives = name-starts n ok;
+  }
+
+  module _ (s : ℕ) (live : Live l c s) where
+    abbrev b : Bytes
+    b = slot-at l c s
+
+    abbrev e : Entry
+    e = entry-at s b
+
+    abbrev pub renames-as : Span → Operation
+    renames-as n = Rename e (first-cluster b) (file-size b) (free-slot l c) (name-in (n .byte))
+
+    pub rename-supplies : (n : Span) → name-ok n ≡ true → free-slot l c < l .entries → Supplies c [] fat (renames-as n)
+    unfolding entry-at
+    rename-supplies n ok room = record {
+      outside = tt;
+      marks = λ k low high. refl;
+      named = slot-named st s live;
+      fits = (entry-fits st s live, first-fits st s live, size-fits st s live, omega (arith, entries-few st, room), name-fits n ok);
+      recorded = (slot-seat st s live, (room, free-low l c), live-not-free l c s live room, name-starts n ok);
+      lives = tt;
+    }
+
+    module _ (whole : keeps-chain l (entry fat) (first-cluster b) (file-size b) ≡ true) where
+      abbrev pub ks : List ℕ
+      ks = the-chain st s live whole
+
+      abbrev pub deletes-as : Operation
+      deletes-as = Delete e (first-cluster b) (file-size b)
+
+      pub delete-supplies : Supplies c [] (release ks fat) deletes-as
+      unfolding entry-at
+      delete-supplies = record {
+        outside = tt;
+        marks = λ k low high. released-marks l (sh .few) fat ks (old-plain st s live whole) k;
+        named = slot-named st s live;
+        fits = (entry-fits st s live, first-fits st s live, size-fits st s live);
+        recorded = slot-seat st s live;
+        lives = tt;
+      }
+
+      abbrev pub cut-fat : ℕ → Fat
+      cut-fat n = shorten (take (needed l n) ks) (drop (needed l n) ks) fat
+
+      abbrev pub truncates-as : ℕ → Operation
+      truncates-as n = Truncate e (first-cluster b) (getD (drop (needed l n) ks) 0 0) n
+
+      pub truncate-supplies : (n : ℕ) → n ≤ file-size b → Supplies c [] (cut-fat n) (truncates-as n)
+      unfolding entry-at
+      truncate-supplies n less =
+          let m : ℕ = needed l n in
+          let plain : All (Plain l fat) (take m ks) = all-take (Plain l fat) m ks (old-plain st s live whole) in
+          let busy : All (λ k. entry fat k ≡ 0 → ⊥) (take m ks) = all-take (λ k. entry fat k ≡ 0 → ⊥) m ks (old-busy st s live whole) in
+          let freed : All (Plain l fat) (drop m ks) = all-drop (Plain l fat) m ks (old-plain st s live whole) in
+          let from : getD (drop m ks) 0 0 < 65536 = plain-fits l (sh .few) fat (drop m ks) freed 0 in
+          record {
+            outside = tt;
+            marks = λ k low high. shorten-marks l (sh .few) fat (take m ks) plain busy (drop m ks) freed k;
+            named = slot-named st s live;
+            fits = (entry-fits st s live, first-fits st s live, omega arith, omega (arith, size-fits st s live));
+            recorded = (slot-seat st s live, from);
+            lives = slot-lives st s live;
+          }
+
+      module _ (d : Span) (room : added l (file-at l c s) (d .size) ≤ length (free-clusters l fat)) where
+        abbrev pub longer-fat : Fat
+        longer-fat = extend ks (new st s live whole d room) fat
+
+        abbrev pub updates-as : Operation
+        updates-as = Update e (last-cluster ks) (getD (new st s live whole d room) 0 0) (total st s live whole d room)
+
+        pub append-supplies : Supplies c (ds st s live whole d room) longer-fat updates-as
+        unfolding entry-at
+        append-supplies =
+            let few : l .clusters ≤ 65524 = sh .few in
+            let from : getD (new st s live whole d room) 0 0 < 65536 = plain-fits l few fat (new st s live whole d room) (new-plain st s live whole d room) 0 in
+            record {
+              outside = outside st s live whole d room;
+              marks = λ k low high. extend-marks l few fat ks (old-plain st s live whole) (old-busy st s live whole) (new st s live whole d room) (new-plain st s live whole d room) k;
+              named = slot-named st s live;
+              fits = (entry-fits st s live, plain-fits l few fat ks (old-plain st s live whole) (length ks - 1), omega arith, total-fits st s live whole d room);
+              recorded = (slot-seat st s live, from);
+              lives = slot-lives st s live;
+            }

@@ -1,0 +1,6 @@
+pub mod Sound
+pub mod Cuts
+pub mod Demand3
+pub mod AfterCall
+pub mod Saved
+pub mod Restored

@@ -1,0 +1,5 @@
+pub mod Compute
+pub mod Flat
+pub mod Rows
+pub mod Instance
+pub mod SavedK

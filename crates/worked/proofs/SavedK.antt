@@ -1,0 +1,46 @@
+-- The premises of what is promised of saved paths hold of card K: it is sound, and a path can be saved on it.
+use Prim.Native.Nat.{ℕ, _+_, _/_}
+use native.Mathlib.Omega.{arith}
+use mathlib.Core.Path.{_≡_, refl}
+use mathlib.Core.Bool.{false}
+use borrow.Author.Tests.{ne-eqb}
+use Rattle.model.specs.Bytes.{Bytes}
+use Rattle.model.specs.Root.{slot-at, is-file, listed, vacant}
+use Rattle.model.specs.Ground.{granted}
+use Rattle.operations.specs.Calls.{Call, creates, appends, plan}
+use Rattle.operations.specs.Outcome.{left, largest}
+use Rattle.safety.specs.Cuts.{program-of}
+use Rattle.safety.specs.Sound.{Sound}
+use Rattle.safety.specs.Saved.{Holds, KeepsOthers}
+use Rattle.worked.specs.CardK.{card-k, route, span}
+use Rattle.worked.specs.Worked.{volume-k}
+use Rattle.model.proofs.Tests.{clash}
+use Rattle.worked.proofs.Compute.{compute}
+use Rattle.worked.proofs.Instance.{k-window, k-clean, k-genuine}
+use Rattle.safety.proofs.Saved.{path-saved}
+use Rattle.safety.proofs.Sounds.{all-keep}
+
+-- No slot of it is a file.
+no-file : (s : ℕ) → is-file (slot-at (volume-k .layout) (k-window .card) s) ≡ false
+unfolding slot-at card-k is-file listed vacant
+no-file s = rw (ne-eqb (33 + s / 16) 0 (λ e. omega arith), ne-eqb (33 + s / 16) 1 (λ e. omega arith), ne-eqb (33 + s / 16) 17 (λ e. omega arith))
+
+k-sound : Sound (volume-k .layout) (k-window .card)
+k-sound = record { chains = λ s less h. clash h (no-file s); apart = λ s t less more h. clash h (no-file s) }
+
+pub keeps-at-k : (k : Call) → KeepsOthers k k-window volume-k
+keeps-at-k k = all-keep k k-window volume-k k-genuine k-clean k-sound
+
+k-creates : plan (creates route) k-window ≡ granted (program-of (plan (creates route) k-window))
+unfolding compute
+k-creates = refl
+
+k-appends : (d : Bytes) → plan (appends route (span 1300 d)) (left largest (creates route) k-window)
+    ≡ granted (program-of (plan (appends route (span 1300 d)) (left largest (creates route) k-window)))
+unfolding compute
+k-appends d = refl
+
+-- So the path of M4, saved on it, is read again.
+pub saved-at-k : (d : Bytes) → Holds (left largest (appends route (span 1300 d)) (left largest (creates route) k-window)) route 1300 d
+saved-at-k d = path-saved k-window volume-k k-genuine k-clean route (span 1300 d) (program-of (plan (creates route) k-window))
+    (program-of (plan (appends route (span 1300 d)) (left largest (creates route) k-window))) k-creates (k-appends d)

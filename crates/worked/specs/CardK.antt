@@ -1,0 +1,94 @@
+-- Card K of the worked example, and what is observed of the cards that calls on it leave.
+use Prim.Native.Nat.{ℕ, _*_, _%_}
+use mathlib.Core.List.{List, [], _∷_, map}
+use mathlib.Core.Bool.{_&&_, _||_}
+use lib.Dec.{leb, ltb, eqb}
+use Rattle.model.specs.Bytes.{Bytes, Span, view, pick, patch, zeros}
+use Rattle.model.specs.Sector.{Card, Window, Store, after}
+use Rattle.model.specs.Boot.{layout}
+use Rattle.model.specs.Fat.{fat1-of}
+use Rattle.model.specs.Root.{find, file-at}
+use Rattle.model.specs.Record.{r-from}
+use Rattle.model.specs.declared.Layout.{Layout}
+use Rattle.model.specs.declared.File.{File}
+use Rattle.operations.specs.Plan.{clusters-of}
+use Rattle.operations.specs.Calls.{Call, plan, name-of}
+use Rattle.operations.specs.Outcome.{made, largest}
+
+-- A boot sector with 1 reserved sector, 512 root entries and 1 sector per cluster: sectors per FAT, total sectors at 19 and at 32.
+unfoldable pub boot-sector : ℕ → ℕ → ℕ → Bytes
+boot-sector per-fat small large =
+    patch 2 512 11 (patch 1 1 13 (patch 2 1 14 (patch 1 2 16 (patch 2 512 17
+    (patch 2 small 19 (patch 2 per-fat 22 (patch 4 large 32 (patch 2 0xAA55 510 zeros))))))))
+
+-- A FAT sector in which clusters 2 to 9 are the log.
+unfoldable pub log-fat : Bytes
+log-fat j = pick (leb 4 j && ltb j 20) (pick (eqb (j % 2) 0) 0xF6 0xFF) 0
+
+-- "Card K: 1 reserved sector, 1 sector per cluster, 16 per FAT, 512 root entries, 4,150 sectors; FAT1 at sector 1, FAT2 at 17, root at
+-- 33, data at 65; log clusters 2 to 9; otherwise empty." The number of sectors is left open.
+unfoldable pub card-k : ℕ → Card
+card-k total s = pick (eqb s 0) (boot-sector 16 total 0) (pick (eqb s 1 || eqb s 17) log-fat zeros)
+
+unfoldable pub window-k : ℕ → Window
+window-k total = record { size = 512 * total; card = card-k total }
+
+unfoldable pub k : Window
+k = window-k 4150
+
+-- ROUTE.CUT, and a name of one letter.
+unfoldable pub route : Span
+route = view (82 ∷ 79 ∷ 85 ∷ 84 ∷ 69 ∷ 32 ∷ 32 ∷ 32 ∷ 67 ∷ 85 ∷ 84 ∷ [])
+
+unfoldable pub letter : ℕ → Span
+letter b = view (b ∷ 32 ∷ 32 ∷ 32 ∷ 32 ∷ 32 ∷ 32 ∷ 32 ∷ 32 ∷ 32 ∷ 32 ∷ [])
+
+abbrev pub span : ℕ → Bytes → Span
+span n b = record { size = n; byte = b }
+
+-- ROUTE.CUT as a card has it: its size and its chain.
+pub data Seen : Type 0 where
+  absent : Seen
+  file : (size : ℕ) (chain : List ℕ) → Seen
+
+unfoldable pub seen-file : Layout → Card → File → Seen
+seen-file l c f = file (f .size) (clusters-of l (fat1-of l c) f)
+
+unfoldable pub seen-at : Layout → Card → ℕ → Seen
+seen-at l c s = pick (ltb s (l .entries)) (seen-file l c (file-at l c s)) absent
+
+unfoldable pub seen-in : Layout → Card → Seen
+seen-in l c = seen-at l c (find l c (name-of route))
+
+unfoldable pub seen : Card → Seen
+seen c = seen-in (layout (c 0)) c
+
+-- What a call did: the sectors it stored, DIR_Cluster in the last of them (the log sector), and ROUTE.CUT after it.
+pub record Row : Type 0 where
+  pub sectors : List ℕ
+  pub dir-cluster : ℕ
+  pub seen-after : Seen
+
+abbrev pub row : List ℕ → ℕ → Seen → Row
+row ss k f = record { sectors = ss; dir-cluster = k; seen-after = f }
+
+unfoldable pub last-from : List Store → ℕ
+last-from [] = 0
+last-from (s ∷ []) = r-from (s .bytes)
+last-from (s ∷ (t ∷ ss)) = last-from (t ∷ ss)
+
+unfoldable pub row-of : List Store → Card → Row
+row-of ss c = row (map (λ s. s .sector) ss) (last-from ss) (seen c)
+
+-- A row for each of the calls, made one after the other on cards that `on` gives again, each with the largest limit.
+unfoldable pub step : List Store → ℕ → Card → (Window → List Row) → List Row
+step ss n c rest = row-of ss c ∷ rest (record { size = n; card = c })
+
+unfoldable pub trace-on : (Card → Card) → List Call → Window → List Row
+trace-on on [] w = []
+trace-on on (x ∷ xs) w =
+    let ss = made largest (plan x w) in
+    step ss (w .size) (on (after ss (w .card))) (λ w′. trace-on on xs w′)
+
+unfoldable pub trace : List Call → Window → List Row
+trace xs w = trace-on (λ c. c) xs w

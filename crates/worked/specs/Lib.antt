@@ -1,0 +1,2 @@
+pub mod CardK
+pub mod Worked
