@@ -21,11 +21,11 @@ use Rattle.safety.specs.Cuts.{recovery}
 use Rattle.model.proofs.All.{All}
 use Rattle.model.proofs.Cards.{put-out, put-case}
 use Rattle.model.proofs.Changes.{Clipped, Keeps, put-clipped, after-keeps}
-use Rattle.model.proofs.Fats.{write-all, write-done, write-none}
+use Rattle.model.proofs.Fats.{write-all, write-done, write-none, write-length}
 use Rattle.model.proofs.Pendings.{Quiet, quiet-calm}
 use Rattle.model.proofs.Volumes.{layout-of, area-of, Alike}
 use Rattle.safety.proofs.Journal.{Back, idle}
-use Rattle.safety.proofs.Start.{Clear, Table, Fixed, Start, shape-of, log-quiet, fat2-free, log-low, marks-same, root-kept, recovery-is, fats-same}
+use Rattle.safety.proofs.Start.{Clear, Table, Fixed, Start, shape-of, log-quiet, fat2-free, log-low, marks-same, root-kept, recovery-is, fats-same, fatsize-few}
 use Rattle.model.specs.declared.Pending.the-variants as Pending
 
 -- Byte j of sector n is a data byte outside the log, and the data stores ds leave it as it is in c.
@@ -122,6 +122,7 @@ module _ {size : ℕ} {c : Card} (st : Start size c) (ds : List Store) where
     ys = undo x b;
     says = before-says x b;
     keeps = undo-keeps x b;
+    short = omega (arith, write-length l (l .fat2) (fat1-of l x) (fat2-of l x), fatsize-few st);
     whole = undo-whole x b;
     rests =
         before-says (after (undo x b) x) (undone x b)

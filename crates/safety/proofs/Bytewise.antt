@@ -12,12 +12,12 @@ use borrow.Author.Tests.{ltb-true, ltb-false}
 use Rattle.model.specs.Bytes.{Bytes, Span, pick, patch, overlay, byte-of, zeros}
 use Rattle.model.specs.Scan.{range}
 use Rattle.model.specs.Sector.{Card, Window, Store, after, put}
-use Rattle.model.specs.Fat.{Fat, set-entry, set-wide-entry, link, release}
+use Rattle.model.specs.Fat.{Fat, fat1-of, fat2-of, set-entry, set-wide-entry, link, release}
 use Rattle.model.specs.Chain.{file-sector}
 use Rattle.model.specs.Root.{Directory, slot-at}
 use Rattle.model.specs.Record.{record-of, records, lay, encode, committed, commit}
 use Rattle.model.specs.Ground.{Answer, refused, granted}
-use Rattle.model.specs.Volume.{clean}
+use Rattle.model.specs.Volume.{clean, examine}
 use Rattle.model.specs.declared.Entry.{Entry}
 use Rattle.model.specs.declared.Group.{Group}
 use Rattle.model.specs.declared.Layout.{Layout}
@@ -28,14 +28,18 @@ use Rattle.model.specs.declared.Pending.{Pending}
 use Rattle.model.specs.declared.Volume.{Volume}
 use Rattle.operations.specs.Program.{Program, stores, ending}
 use Rattle.operations.specs.Finish.{Edit, set-slots, set-name, new-entry, edits, effect, root-sector, finish, redo}
-use Rattle.operations.specs.Plan.{prepare, group-store, operate, journal, new-group, last-of, extend, shorten, appended, append-sector, data-stores}
-use Rattle.operations.specs.Calls.{Call, plan, creates, appends, truncates, deletes, renames, recovers}
+use Rattle.operations.specs.Plan.{prepare, group-store, operate, journal, new-group, last-of, extend, shorten, appended, append-sector, data-stores, recover-stores}
+use Rattle.operations.specs.Calls.{Call, plan, creates, appends, truncates, deletes, renames, recovers, recover}
 use Rattle.operations.specs.Outcome.{left, made}
+use Rattle.safety.specs.Demand3.{Genuine, recoveries}
 use Rattle.safety.specs.Saved.{OfBytes, StaysGenuine}
+use Rattle.safety.specs.Restored.{RecoveryGenuine, GenuineAgain}
 use Rattle.model.proofs.Tests.{by-pick}
 use Rattle.model.proofs.All.{All, all-append, all-image, all-take, all-map}
 use Rattle.model.proofs.Indices.{indices-all}
 use Rattle.model.proofs.Cards.{put-case}
+use Rattle.model.proofs.Fats.{write-all}
+use Rattle.model.proofs.Grounds.{bound}
 use Rattle.model.proofs.Changes.{Clipped, Keeps, after-keeps, put-clipped}
 use Rattle.model.proofs.Volumes.{window, layout-of, first-fat, volume-of, cleaned}
 use Rattle.safety.proofs.Start.{Start}
@@ -229,3 +233,38 @@ stays-genuine k w v real is b limit =
     let st : Start (w .size) (w .card) = record { clean = h .0; clipped = real .sectors; small = real .bytes } in
     let fine : All SmallStore (made limit (plan k w)) = made-fine st (is ∙ ap granted (h .1)) k limit (plan k w) b refl in
     record { sectors = after-clipped (made limit (plan k w)) (w .card) (real .sectors); bytes = after-small (made limit (plan k w)) (w .card) fine (real .bytes) }
+
+-- ---- recovery, on any card of bytes
+
+recover-small : (l : Layout) (x : Card) (p : Pending) → SmallCard x → All SmallStore (stores (recover-stores l x p))
+unfolding recover-stores redo commit root-sector slot-at
+recover-small l x Pending.Nothing h = write-all l (l .fat2) (fat1-of l x) (fat2-of l x) SmallStore (λ s less j. h (l .fat1 + s) (j % 512))
+recover-small l x Pending.Broken h = tt
+recover-small l x (Pending.Held g) h =
+    let rest : All SmallStore (finish l (g .operation) x) = finish-all l (g .operation) x SmallStore (λ s less j. h _ (j % 512))
+    (λ r less j. effect-small (g .operation) (slot-at l x) (λ k i. h _ (32 * (k % 16) + i)) (16 * r + j % 512 / 32) (j % 512 % 32)) in
+    let mark : SmallStore (commit x g) = λ j. committed-small (g .records) (x (g .sector)) (h (g .sector)) (j % 512) in
+    all-append SmallStore (finish l (g .operation) x) _ rest (mark, tt)
+
+recovery-small : (w : Window) (a : Answer Program) → plan recovers w ≡ a → SmallCard (w .card) → (limit : ℕ) → All SmallStore (made limit a)
+unfolding made plan recover
+recovery-small w (refused g) e h limit = tt
+recovery-small w (granted p) e h limit =
+    let b = bound (examine w) _ p e in
+    let same : granted (recover-stores (b .0 .layout) (w .card) (b .0 .pending)) ≡ granted p = b .2 in
+    let is : recover-stores (b .0 .layout) (w .card) (b .0 .pending) ≡ p = cc in
+    all-take SmallStore limit (stores p) (subst (λ p. All SmallStore (stores p)) is (recover-small (b .0 .layout) (w .card) (b .0 .pending) h))
+
+pub recovery-genuine : RecoveryGenuine
+unfolding left
+recovery-genuine w real limit = record {
+  sectors = after-clipped (made limit (plan recovers w)) (w .card) (real .sectors);
+  bytes = after-small (made limit (plan recovers w)) (w .card) (recovery-small w (plan recovers w) refl (real .bytes) limit) (real .bytes);
+}
+
+recoveries-genuine : (limits : List ℕ) (w : Window) → Genuine w → Genuine (recoveries limits w)
+recoveries-genuine [] w real = real
+recoveries-genuine (limit ∷ limits) w real = recoveries-genuine limits (left limit recovers w) (recovery-genuine w real limit)
+
+pub genuine-again : GenuineAgain
+genuine-again k w v real is b limit limits = recoveries-genuine limits (left limit k w) (stays-genuine k w v real is b limit)

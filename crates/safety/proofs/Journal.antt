@@ -5,12 +5,13 @@ use mathlib.Core.Path.{_≡_, refl, sym, ap, _∙_}
 use mathlib.Core.Logic.{_⊎_, inl, inr}
 use mathlib.Core.List.{List, [], _∷_, _++_, Sublistᴰ·eq-nil, Sublistᴰ, Sublistᴰ·slnil, Sublistᴰ·nil-sublist, Sublistᴰ·cons-cons}
 use mathlib.Core.Bool.{Bool, true, false}
-use lib.ListN.{take, length}
+use lib.ListN.{take, length, length-append}
 use borrow.Author.Tests.{le-ltb, lt-ltb}
 use Rattle.model.specs.Sector.{Card, Store, after, put}
 use Rattle.model.specs.Fat.{same}
 use Rattle.model.specs.Ground.{Answer, granted, refused}
 use Rattle.operations.specs.Program.{Program, ending, segment, stores}
+use Rattle.operations.specs.Outcome.{largest}
 use Rattle.safety.specs.Cuts.{recovery, Cut, passes-group, program-of, Later, now, next, reaches-group}
 use Rattle.model.proofs.All.{All}
 use Rattle.model.proofs.Cards.{after-append, after-nil, after-snoc}
@@ -27,6 +28,7 @@ pub record Back (size : ℕ) (Want : ℕ → ℕ → Type 0) (Before : Card → 
   pub ys : List Store
   pub says : recovery size x ≡ granted (ending ys)
   pub keeps : All (Keeps Before) ys
+  pub short : length ys < largest
   pub whole : (n j : ℕ) → Want n j → after ys x n j ≡ c n j
   pub rests : recovery size (after ys x) ≡ idle
 
@@ -35,6 +37,7 @@ pub record Forth (size : ℕ) (After : Card → Type 0) (v : Card) (m : Store) (
   pub ys : List Store
   pub says : recovery size x ≡ granted (segment ys m (ending []))
   pub keeps : All (Keeps After) ys
+  pub short : length ys < largest
   pub whole : after ys x ≡ v
 
 -- The program of an operation: what stands before the group, the group, steps 4 and 5, the mark.
@@ -62,10 +65,10 @@ abbrev pub Goal : (ℕ → ℕ → Type 0) → Card → Card → Bool → Card �
 Goal Want c t false z = (n j : ℕ) → Want n j → z n j ≡ c n j
 Goal Want c t true z = z ≡ t
 
--- Recovery is not refused, and at its end the goal is met and a further recovery stores nothing.
+-- Recovery is not refused, and at its end the goal is met and a further recovery stores nothing. The largest limit lets it end.
 abbrev pub Ends : ℕ → (Card → Type 0) → Answer Program → Card → Type 0
 Ends size Good (refused g) y = ⊥
-Ends size Good (granted q) y = Good (after (stores q) y) × (recovery size (after (stores q) y) ≡ idle)
+Ends size Good (granted q) y = Good (after (stores q) y) × (recovery size (after (stores q) y) ≡ idle) × (length (stores q) ≤ largest)
 
 module _ (size : ℕ) (Want : ℕ → ℕ → Type 0) (Before After : Card → Type 0) (c : Card)
     (prep : List Store) (g : Store) (fin : List Store) (m : Store) (u v : Card)
@@ -110,12 +113,12 @@ module _ (size : ℕ) (Want : ℕ → ℕ → Type 0) (Before After : Card → T
 
   -- A recovery, left to end.
   ends : (b : Bool) (y : Card) → Inv b y → Ends size (Goal Want c (put v m) b) (recovery size y) y
-  ends false y h = let r : Back size Want Before c y = laws .back y h in rw (r .says) (r .whole, r .rests)
+  ends false y h = let r : Back size Want Before c y = laws .back y h in rw (r .says) (r .whole, r .rests, omega (arith, r .short))
   ends true y (inl h) =
       let r : Forth size After v m y = laws .forth y h in
       let e : after (r .ys ++ m ∷ []) y ≡ put v m = after-snoc (r .ys) m y ∙ ap (λ x. put x m) (r .whole) in
-      rw (r .says) (e, rw (e, laws .rests))
-  ends true y (inr h) = rw (h, laws .rests) (rw (after-nil (put v m)) (refl, laws .rests))
+      rw (r .says) (e, rw (e, laws .rests), rw (length-append (r .ys) (m ∷ [])) (omega (arith, r .short)))
+  ends true y (inr h) = rw (h, laws .rests) (rw (after-nil (put v m)) (refl, laws .rests, omega arith))
 
   -- Cut the operation anywhere, then any number of recoveries anywhere, on a card that may hold stores back: recovery is not refused;
   -- left to end, it makes the card the finished run's if the group's store was there at the first cut, and else as it was; and then it
@@ -143,7 +146,7 @@ pub every-run : (size : ℕ) (Want : ℕ → ℕ → Type 0) (c : Card) (q : Pro
     → Ends size (Goal Want c (after (stores q) c) (passes-group q zs k)) (recovery size y) y
 every-run size Want c q (Kept.none h) zs k y l =
     let e : y ≡ c = rest-later size c y h (rw (Sublistᴰ·eq-nil k, after-nil c) at l) in
-    rw (e, h) (rw (after-nil c) ((λ n j w. refl), h))
+    rw (e, h) (rw (after-nil c) ((λ n j w. refl), h, omega arith))
 every-run size Want c q (Kept.group {prep} {g} {fin} {m} {u} {v} {Before = B} {After = A} laws) zs k y l = two-run size Want B A c prep g fin m u v laws zs k y l
 
 -- ---- the cut of a card that holds nothing back

@@ -30,7 +30,8 @@ use Rattle.model.proofs.Order.{Ordered, ordered-end, ordered-ok, ordered-same}
 use Rattle.model.proofs.Pendings.{Stored, Quiet, Recorded, recorded-up, pending-is, committed-quiet, rest-quiet, quiet-calm}
 use Rattle.model.proofs.Volumes.{layout-of, area-of, Alike, first-fat, window, volume-of, clean-same}
 use Rattle.safety.proofs.Journal.{Forth, idle}
-use Rattle.safety.proofs.Start.{Start, shape-of, Fixed, root-order, log-low, recovery-is, marks-same, slots-same}
+use Rattle.safety.proofs.Start.{Start, shape-of, Fixed, root-order, log-low, recovery-is, marks-same, slots-same, fatsize-few, entries-few}
+use Rattle.safety.proofs.Steps.{finish-length}
 use Rattle.safety.proofs.Effect.{begins, Near, Begins}
 use Rattle.safety.proofs.After.{Entered, last-slot, Mixed, still-kept, still-boot, fat1-near, slot-near, new-root, still-data, grp, complete, finish-keeps, finish-whole, done-mixed, start-mixed, done-fat1, still-fat2, done-root}
 use Rattle.model.specs.declared.Pending.the-variants as Pending
@@ -100,7 +101,13 @@ module _ {size : ℕ} {c : Card} (st : Start size c) {u : Card} {i : ℕ} {o : O
         ∙ ap (λ (b : Bytes). granted (segment (finish l o y) (store (log .sector + i) (committed (length (records o)) b)) (ending []))) (log-kept i)
 
   pub goes-forth : (y : Card) → Mixed st h y → Forth size (Mixed st h) (complete st h) (commit u (grp st h)) y
-  goes-forth y m = record { ys = finish l o y; says = says y m; keeps = finish-keeps st h y m; whole = finish-whole st h y m }
+  goes-forth y m = record {
+    ys = finish l o y;
+    says = says y m;
+    keeps = finish-keeps st h y m;
+    short = omega (arith, finish-length l o y, fatsize-few st, entries-few st);
+    whole = finish-whole st h y m;
+  }
 
   -- ---- the card at the end
 

@@ -2,6 +2,7 @@
 use Prim.Native.Nat.{ℕ}
 use mathlib.Core.Path.{_≡_, refl, sym, ap, _∙_, subst, fun-ext}
 use mathlib.Core.Logic.{_⊎_, inl, inr}
+use mathlib.Core.List.{[], _∷_, List·Memᴰ·head, List·Memᴰ·tail}
 use mathlib.Core.Bool.{Bool, true, false}
 use lib.ListN.{take}
 use Rattle.model.specs.Bytes.{Bytes, Span}
@@ -19,13 +20,14 @@ use Rattle.safety.specs.Sound.{Sound}
 use Rattle.safety.specs.Cuts.{program-of, Later, recovery, passes-group, now}
 use Rattle.safety.specs.Demand3.{recoveries, Genuine, finished, group-stored}
 use Rattle.safety.specs.Saved.{Holds}
-use Rattle.safety.specs.Restored.{ReadsAs, settles-on, Restores, Restored, RestoredBack, OldOrNew}
+use Rattle.safety.specs.Restored.{ReadsAs, settles-on, Restores, Restored, RestoredBack, OldOrNew, StaysInOrder}
 use Rattle.model.proofs.Volumes.{window, layout-of, volume-of}
 use Rattle.safety.proofs.Journal.{prefix-cut, Ends, idle, Goal, every-run}
 use Rattle.safety.proofs.Start.{Table}
 use Rattle.safety.proofs.Before.{Wanted}
-use Rattle.safety.proofs.Theorem.{limit-made, limits-later, same-window, ends-done, Kind, all-made, most-finishes, volume, the-start, fair, good-files, after-calls}
+use Rattle.safety.proofs.Theorem.{limit-made, limits-later, same-window, ends-done, ends-at-last, Kind, all-made, most-finishes, volume, the-start, fair, good-files, after-calls}
 use Rattle.safety.proofs.Sounds.{all-keep}
+use Rattle.safety.proofs.Bytewise.{recovery-genuine, genuine-again}
 use Rattle.safety.proofs.Same.{clean-kept, sound-kept, reads-kept}
 use Rattle.model.specs.declared.Pending.the-variants as Pending
 
@@ -76,6 +78,7 @@ module _ (k : Call) (w : Window) (v : Volume) (real : Genuine w) (is : clean w �
       let at : (n : ℕ) → outcome once (recovery (w .size) x) ≡ Done n → Back b (after (made once (recovery (w .size) x)) x) =
       λ n e. let d = ends-done (w .size) (Goal (Kind k w v real is) c (all-made k w v real is) b) x once (recovery (w .size) x) h n e in back b _ (d .0) (d .1) in
       record {
+        ends = ends-at-last (w .size) (Goal (Kind k w v real is) c (all-made k w v real is) b) x (recovery (w .size) x) h;
         clean-again = λ n e. at n e .cleans;
         sound-again = λ n e. at n e .sounds;
         reads = λ n e sound name. at n e .reads sound name;
@@ -108,3 +111,14 @@ old-or-new k w v real is sound limit limits once n e = go (group-stored limit k 
         ⊎ ((name : Span) → ReadsAs (left once recovers (recoveries limits (left limit k w))) (left largest k w) name)
     go true r = inr (r .reads n e sound)
     go false r = inl (r .reads n e sound)
+
+-- Call after call.
+pub stays-in-order : StaysInOrder
+stays-in-order [] small w v h = h
+stays-in-order (s ∷ ss) small w v h = stays-in-order ss (λ t m. small t (List·Memᴰ·tail m)) _ v (
+    let r = restored (s .call) w v (h .genuine) (h .cleans) (s .limit) (s .limits) largest in
+    record {
+      genuine = recovery-genuine _ (genuine-again (s .call) w v (h .genuine) (h .cleans) (small s (List·Memᴰ·head refl)) (s .limit) (s .limits)) largest;
+      cleans = r .clean-again (r .ends .0) (r .ends .1);
+      sound = r .sound-again (r .ends .0) (r .ends .1) (h .sound);
+    })

@@ -82,8 +82,14 @@ module _ (size : ℕ) (Good : Card → Type 0) (x : Card) (once : ℕ) where
     where
       go : (t : Bool) → leb (length (stores p)) once ≡ t → pick t (Done (length (stores p))) (Stopped once) ≡ Done n
           → Good (after (take once (stores p)) x) × (recovery size (after (take once (stores p)) x) ≡ idle)
-      go true t r = rw (take-all once (stores p) (leb-true (length (stores p)) once t)) h
+      go true t r = rw (take-all once (stores p) (leb-true (length (stores p)) once t)) (h .0, h .1)
       go false t r = let z : _≡_ {A = ℕ} 0 1 = cc in absurd (omega arith)
+
+-- Under the largest limit it ends.
+pub ends-at-last : (size : ℕ) (Good : Card → Type 0) (x : Card) (a : Answer Program) → Ends size Good a x → (n : ℕ) × (outcome largest a ≡ Done n)
+unfolding outcome
+ends-at-last size Good x (refused f) h = absurd h
+ends-at-last size Good x (granted p) h = (length (stores p), rw (le-leb (length (stores p)) largest (h .2)))
 
 -- Bytes of a file along its chain.
 pub along : (l : Layout) (x : Card) (s : ℕ) (ks : List ℕ) (i : ℕ) → chain-of l x s ≡ ks → file-byte l x (file-at l x s) i ≡ x (file-sector l ks (i / 512)) (i % 512)

@@ -3,7 +3,7 @@
 use Prim.Native.Nat.{ℕ}
 use mathlib.Core.Path.{_≡_}
 use mathlib.Core.Logic.{_⊎_}
-use mathlib.Core.List.{List}
+use mathlib.Core.List.{List, [], _∷_, List·Memᴰ}
 use mathlib.Core.Bool.{Bool, true, false}
 use Rattle.model.specs.Bytes.{Bytes, Span}
 use Rattle.model.specs.Sector.{Window, Card, Store, after}
@@ -17,6 +17,7 @@ use Rattle.operations.specs.Reading.{read, filled-outcome, buffer-after}
 use Rattle.safety.specs.Sound.{Sound}
 use Rattle.safety.specs.Cuts.{program-of, Cut, Later, passes-group}
 use Rattle.safety.specs.Demand3.{Genuine, group-stored, recoveries}
+use Rattle.safety.specs.Saved.{OfBytes}
 
 -- Read says the same of a name in two windows: the same ground or count, and the same bytes of the lent buffer, from every offset on.
 pub record ReadsAs (y z : Window) (n : Span) : Type 0 where
@@ -30,6 +31,8 @@ settles-on false k w = w
 
 -- A recovery, under a limit, of the window x that the calls before it have left. v is the volume at the start.
 pub record Restores (stored : Bool) (k : Call) (w : Window) (v : Volume) (limit : ℕ) (x : Window) : Type 0 where
+  -- Left alone, it ends.
+  pub ends : (n : ℕ) × (outcome largest (plan recovers x) ≡ Done n)
   -- If it ends, the card is clean, and its log where it was,
   pub clean-again : (n : ℕ) → outcome limit (plan recovers x) ≡ Done n → clean (left limit recovers x) ≡ granted v
   -- sound, if it was sound at the start,
@@ -37,6 +40,14 @@ pub record Restores (stored : Bool) (k : Call) (w : Window) (v : Volume) (limit 
   -- and every name is then read as on the finished run's card, or every name as on the one at the start.
   pub reads : (n : ℕ) → outcome limit (plan recovers x) ≡ Done n → Sound (v .layout) (w .card)
       → (name : Span) → ReadsAs (left limit recovers x) (settles-on stored k w) name
+
+-- A window of bytes stays one in a recovery, cut or not, whatever the card; and so after a call of bytes that is cut and any recoveries.
+abbrev pub RecoveryGenuine : Type 0
+RecoveryGenuine = (w : Window) → Genuine w → (limit : ℕ) → Genuine (left limit recovers w)
+
+abbrev pub GenuineAgain : Type 0
+GenuineAgain = (k : Call) (w : Window) (v : Volume) → Genuine w → clean w ≡ granted v → OfBytes k
+    → (limit : ℕ) (limits : List ℕ) → Genuine (recoveries limits (left limit k w))
 
 -- For all that demand 3 speaks of, and on a card that holds stores back.
 abbrev pub Restored : Type 0
@@ -55,3 +66,24 @@ OldOrNew = (k : Call) (w : Window) (v : Volume) → Genuine w → clean w ≡ gr
     → (limit : ℕ) (limits : List ℕ) (once n : ℕ) → outcome once (plan recovers (recoveries limits (left limit k w))) ≡ Done n
     → ((name : Span) → ReadsAs (left once recovers (recoveries limits (left limit k w))) w name)
     ⊎ ((name : Span) → ReadsAs (left once recovers (recoveries limits (left limit k w))) (left largest k w) name)
+
+-- An episode: a call, cut by a limit or not, recoveries after it, and one that is left alone.
+pub record Episode : Type 0 where
+  pub call : Call
+  pub limit : ℕ
+  pub limits : List ℕ
+
+abbrev pub episodes : List Episode → Window → Window
+episodes [] w = w
+episodes (s ∷ ss) w = episodes ss (left largest recovers (recoveries (s .limits) (left (s .limit) (s .call) w)))
+
+-- A clean, sound card of bytes, with the volume v.
+pub record InOrder (w : Window) (v : Volume) : Type 0 where
+  pub genuine : Genuine w
+  pub cleans : clean w ≡ granted v
+  pub sound : Sound (v .layout) (w .card)
+
+-- Whatever is called and wherever the power goes, call after call, the card stays in order. So all that is promised of a call on a
+-- clean and sound card holds of every one.
+abbrev pub StaysInOrder : Type 0
+StaysInOrder = (ss : List Episode) → ((s : Episode) → List·Memᴰ s ss → OfBytes (s .call)) → (w : Window) (v : Volume) → InOrder w v → InOrder (episodes ss w) v

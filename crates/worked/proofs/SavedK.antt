@@ -2,16 +2,18 @@
 use Prim.Native.Nat.{ℕ, _+_, _/_}
 use native.Mathlib.Omega.{arith}
 use mathlib.Core.Path.{_≡_, refl}
-use mathlib.Core.Bool.{false}
+use mathlib.Core.Bool.{Bool, true, false}
 use borrow.Author.Tests.{ne-eqb}
 use Rattle.model.specs.Bytes.{Bytes}
 use Rattle.model.specs.Root.{slot-at, is-file, listed, vacant}
-use Rattle.model.specs.Ground.{granted}
+use Rattle.model.specs.Ground.{Answer, refused, granted}
+use Rattle.operations.specs.Program.{Program}
 use Rattle.operations.specs.Calls.{Call, creates, appends, plan}
 use Rattle.operations.specs.Outcome.{left, largest}
 use Rattle.safety.specs.Cuts.{program-of}
 use Rattle.safety.specs.Sound.{Sound}
 use Rattle.safety.specs.Saved.{Holds, KeepsOthers}
+use Rattle.safety.specs.Restored.{InOrder}
 use Rattle.worked.specs.CardK.{card-k, route, span}
 use Rattle.worked.specs.Worked.{volume-k}
 use Rattle.model.proofs.Tests.{clash}
@@ -28,19 +30,30 @@ no-file s = rw (ne-eqb (33 + s / 16) 0 (λ e. omega arith), ne-eqb (33 + s / 16)
 k-sound : Sound (volume-k .layout) (k-window .card)
 k-sound = record { chains = λ s less h. clash h (no-file s); apart = λ s t less more h. clash h (no-file s) }
 
+-- So whatever is called on it and wherever the power goes, call after call, it stays in order.
+pub k-in-order : InOrder k-window volume-k
+k-in-order = record { genuine = k-genuine; cleans = k-clean; sound = k-sound }
+
 pub keeps-at-k : (k : Call) → KeepsOthers k k-window volume-k
 keeps-at-k k = all-keep k k-window volume-k k-genuine k-clean k-sound
 
-k-creates : plan (creates route) k-window ≡ granted (program-of (plan (creates route) k-window))
-unfolding compute
-k-creates = refl
+abbrev passes : Answer Program → Bool
+passes (refused g) = false
+passes (granted p) = true
 
-k-appends : (d : Bytes) → plan (appends route (span 1300 d)) (left largest (creates route) k-window)
-    ≡ granted (program-of (plan (appends route (span 1300 d)) (left largest (creates route) k-window)))
+granted-of : (a : Answer Program) → passes a ≡ true → a ≡ granted (program-of a)
+granted-of (refused g) h = clash h refl
+granted-of (granted p) h = refl
+
+creates-passes : passes (plan (creates route) k-window) ≡ true
 unfolding compute
-k-appends d = refl
+creates-passes = refl
+
+appends-passes : (d : Bytes) → passes (plan (appends route (span 1300 d)) (left largest (creates route) k-window)) ≡ true
+unfolding compute
+appends-passes d = refl
 
 -- So the path of M4, saved on it, is read again.
 pub saved-at-k : (d : Bytes) → Holds (left largest (appends route (span 1300 d)) (left largest (creates route) k-window)) route 1300 d
 saved-at-k d = path-saved k-window volume-k k-genuine k-clean route (span 1300 d) (program-of (plan (creates route) k-window))
-    (program-of (plan (appends route (span 1300 d)) (left largest (creates route) k-window))) k-creates (k-appends d)
+    (program-of (plan (appends route (span 1300 d)) (left largest (creates route) k-window))) (granted-of _ creates-passes) (granted-of _ (appends-passes d))
