@@ -16,10 +16,10 @@ ghost use Rattle.model.specs.Bytes.{view};
 ghost use Rattle.model.specs.Sector.{card-of, window-of};
 ghost use Rattle.model.specs.Root.{name-ok};
 ghost use Rattle.model.specs.Ground.{granted};
+ghost use Rattle.operations.specs.Finish.{Slots};
 ghost use Rattle.operations.specs.Plan.{operate, old-fat};
 ghost use Rattle.operations.specs.Calls.{create, rename};
 ghost use Rattle.volume.specs.Ready.{Ready};
-ghost use Rattle.slots.specs.Slots.{Slots};
 ghost use Rattle.operate.specs.Did.{Did};
 ghost use Rattle.directory.specs.Calls.{create-at, create-on, rename-to, rename-as, rename-on};
 

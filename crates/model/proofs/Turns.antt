@@ -11,6 +11,7 @@ use Rattle.model.specs.Scan.{indices, indices-from, range, walk}
 use Rattle.model.specs.Sector.{Store}
 use Rattle.model.specs.Promises.{up-to}
 use Rattle.model.proofs.Scan.{indices-none, indices-step}
+use Rattle.model.proofs.All.{All, all-append}
 use Rattle.model.proofs.Cards.{Away}
 use Rattle.model.proofs.Runs.{upto-away}
 
@@ -19,6 +20,12 @@ pub upto-same : (st ut : ℕ → List Store) (n : ℕ) → ((k : ℕ) → k < n 
 unfolding up-to
 upto-same st ut zero h = refl
 upto-same st ut (suc n) h = rw (upto-same st ut n (λ k l. h k (omega arith)), h n (omega arith))
+
+-- What holds of the stores of each turn holds of all.
+pub upto-all : (P : Store → Type 0) (st : ℕ → List Store) (n : ℕ) → ((k : ℕ) → k < n → All P (st k)) → All P (up-to st n)
+unfolding up-to
+upto-all P st zero h = tt
+upto-all P st (suc n) h = all-append P (up-to st n) (st n) (upto-all P st n (λ k l. h k (omega arith))) (h n (omega arith))
 
 -- A store for each number that a test holds of, rising: the turn of a number is its store, or nothing.
 module _ (f : ℕ → Store) (p : ℕ → Bool) where

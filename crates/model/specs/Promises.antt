@@ -3,12 +3,17 @@
 use Prim.Native.Nat.{ℕ, zero, suc, _+_, _*_, _/_, _%_, _^_, _<_, _≤_, min}
 use mathlib.Core.Path.{_≡_}
 use mathlib.Core.Bool.{Bool}
-use mathlib.Core.List.{List, [], _++_}
+use mathlib.Core.List.{List, [], _∷_, _++_}
 use lib.ListN.{length, take}
 use lib.Dec.{leb}
 use Rattle.model.specs.Bytes.{Bytes, le}
 use Rattle.model.specs.Sector.{card-of, Store, after}
 use Rattle.model.specs.declared.Layout.{Layout}
+
+-- What holds of all of a list.
+abbrev pub All {ℓ} : {A : Type ℓ} → (A → Type 0) → List A → Type 0
+All P [] = Unit {0}
+All P (x ∷ xs) = P x × All P xs
 
 -- r is the number in the n bytes at an offset, and fits them.
 pub record Number (n : ℕ) (b : Bytes) (at r : ℕ) : Type 0 where

@@ -11,7 +11,7 @@ ghost use lib.ListN.{length};
 ghost use Rattle.model.specs.Sector.{card-of};
 ghost use Rattle.model.specs.Record.{records};
 ghost use Rattle.model.specs.Promises.{Held, Ran};
-ghost use Rattle.slots.specs.Slots.{Slots};
+ghost use Rattle.operations.specs.Finish.{Slots};
 ghost use Rattle.operate.specs.Steps.{group-steps, log-steps};
 ghost use Rattle.operate.specs.Did.{ended-as};
 

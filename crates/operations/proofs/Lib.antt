@@ -3,6 +3,7 @@ pub mod Small
 pub mod Appends
 pub mod Clearing
 pub mod Roots
+pub mod Edits
 pub mod Lasts
 pub mod Added
 pub mod DataStores

@@ -1,10 +1,11 @@
 -- Steps 4 to 6: what is left of an operation once its group is on the card. An operation and the recovery of its group share it.
-use Prim.Native.Nat.{ℕ, _+_, _*_, _/_, _%_}
+use Prim.Native.Nat.{ℕ, _+_, _*_, _/_, _%_, _<_}
 use mathlib.Core.List.{List, [], _∷_, _++_, map}
 use mathlib.Core.Bool.{Bool}
 use lib.Dec.{eqb}
 use Rattle.model.specs.Bytes.{Bytes, pick, patch, zeros}
 use Rattle.model.specs.Scan.{any, indices}
+use Rattle.model.specs.Promises.{All}
 use Rattle.model.specs.Sector.{Card, Store, store}
 use Rattle.model.specs.Fat.{fat1-of, fat2-of, write-fat}
 use Rattle.model.specs.Root.{Directory, root-place, slot-at}
@@ -16,17 +17,22 @@ use Rattle.model.specs.declared.Operation.{Operation}
 use Rattle.model.specs.declared.Operation.the-variants.{Create, Update, Delete, Truncate, Rename}
 use Rattle.operations.specs.Program.{Program, ending, segment}
 
--- An edit gives a slot new bytes; the directory after a list of edits.
+-- An edit gives a slot what it makes of a slot's bytes: of its own, or of another's. The directory after a list of edits, each made
+-- of the directory as it was.
 pub record Edit : Type 0 where
   pub slot : ℕ
-  pub bytes : Bytes
+  pub source : ℕ
+  pub change : Bytes → Bytes
 
-abbrev pub edit : ℕ → Bytes → Edit
-edit s b = record { slot = s; bytes = b }
+abbrev pub edit : ℕ → (Bytes → Bytes) → Edit
+edit s f = record { slot = s; source = s; change = f }
+
+abbrev pub edit-from : ℕ → ℕ → (Bytes → Bytes) → Edit
+edit-from from s f = record { slot = s; source = from; change = f }
 
 unfoldable pub set-slots : List Edit → Directory → Directory
 set-slots [] d k = d k
-set-slots (e ∷ es) d k = pick (eqb k (e .slot)) (e .bytes) (set-slots es d k)
+set-slots (e ∷ es) d k = pick (eqb k (e .slot)) (e .change (d (e .source))) (set-slots es d k)
 
 -- Fields of an entry, set.
 abbrev pub set-name : Name → Bytes → Bytes
@@ -48,27 +54,27 @@ new-entry n = set-name n (patch 1 0x20 11 (patch 2 0x21 16 (patch 2 0x21 18 (pat
 -- "Root effect. Create: a new slot .. Update: size; first cluster becomes DIR_Cluster if the last was 0. Truncate: size; first
 -- cluster 0 if size is 0. Delete: first byte 0xE5. Rename: the new slot gets the new name and bytes 11 to 31 of the old, the old
 -- gets 0xE5."
-unfoldable pub edits : Operation → Directory → List Edit
-edits (Create e) d = edit (e .slot) (new-entry (e .name)) ∷ []
-edits (Update e last from size) d =
-    let b = d (e .slot) in
-    edit (e .slot) (set-size size (pick (eqb last 0) (set-first from b) b)) ∷ []
-edits (Delete e first size) d = edit (e .slot) (mark-deleted (d (e .slot))) ∷ []
-edits (Truncate e first from size) d =
-    let b = d (e .slot) in
-    edit (e .slot) (set-size size (pick (eqb size 0) (set-first 0 b) b)) ∷ []
-edits (Rename e first size to renamed) d =
-    edit (e .slot) (mark-deleted (d (e .slot))) ∷ edit to (set-name renamed (d (e .slot))) ∷ []
+unfoldable pub edits : Operation → List Edit
+edits (Create e) = edit (e .slot) (λ b. new-entry (e .name)) ∷ []
+edits (Update e last from size) = edit (e .slot) (λ b. set-size size (pick (eqb last 0) (set-first from b) b)) ∷ []
+edits (Delete e first size) = edit (e .slot) (λ b. mark-deleted b) ∷ []
+edits (Truncate e first from size) = edit (e .slot) (λ b. set-size size (pick (eqb size 0) (set-first 0 b) b)) ∷ []
+edits (Rename e first size to renamed) =
+    edit (e .slot) (λ b. mark-deleted b) ∷ edit-from (e .slot) to (λ b. set-name renamed b) ∷ []
 
 unfoldable pub effect : Operation → Directory → Directory
-effect o d = set-slots (edits o d) d
+effect o d = set-slots (edits o) d
+
+-- An operation's edits are of slots below n, and made of such.
+abbrev pub Slots : ℕ → Operation → Type 0
+Slots n o = All (λ e. (e .slot < n) × (e .source < n)) (edits o)
 
 -- Root sector r of a directory, and whether an operation edits a slot in it.
 unfoldable pub root-sector : Directory → ℕ → Bytes
 root-sector d r j = d (16 * r + j / 32) (j % 32)
 
 unfoldable pub concerns : Operation → ℕ → Bool
-concerns o r = any (map (λ e. eqb (e .slot / 16) r) (edits o (λ k. zeros)))
+concerns o r = any (map (λ e. eqb (e .slot / 16) r) (edits o))
 
 -- "5. Root sectors concerned, rising, one store each."
 unfoldable pub root-stores : Layout → Operation → Card → List Store

@@ -28,7 +28,7 @@ use Rattle.model.proofs.Tests.{told, every-at, and-left, by-pick, between-true}
 use Rattle.model.proofs.Volumes.{examined}
 use Rattle.operations.specs.Plan.{recover-stores}
 use Rattle.operations.specs.Calls.{recover}
-use Rattle.slots.specs.Slots.{Slots}
+use Rattle.operations.specs.Finish.{Slots, edits}
 use Rattle.recovery.specs.Found.{Found}
 
 -- ---- RECORD
@@ -80,14 +80,14 @@ above : (n k : ℕ) → k ≤ n → eqb n k ≡ false → k + 1 ≤ n
 above n k h e = let ne = eqb-false n k e in omega arith
 
 pub group-slots : (n z : ℕ) (b : Bytes) → group-ok n z b ≡ true → Slots n (decode b)
-unfolding decode entry-at
+unfolding decode entry-at edits
 group-slots n z b h =
     let s : r-slot b < n = first-slot n z b h in
-    by-pick (λ (o : Operation). Slots n o) (eqb (r-number b) 1) _ _ (λ _. s) (λ n1.
-    by-pick (λ (o : Operation). Slots n o) (eqb (r-number b) 2) _ _ (λ _. s) (λ n2.
-    by-pick (λ (o : Operation). Slots n o) (eqb (r-number b) 3) _ _ (λ _. s) (λ n3.
-    by-pick (λ (o : Operation). Slots n o) (eqb (r-number b) 4) _ _ (λ _. s) (λ n4.
-    (s, second-slot n z b h (five n1 n2 n3 n4))))))
+    by-pick (λ (o : Operation). Slots n o) (eqb (r-number b) 1) _ _ (λ _. ((s, s), tt)) (λ n1.
+    by-pick (λ (o : Operation). Slots n o) (eqb (r-number b) 2) _ _ (λ _. ((s, s), tt)) (λ n2.
+    by-pick (λ (o : Operation). Slots n o) (eqb (r-number b) 3) _ _ (λ _. ((s, s), tt)) (λ n3.
+    by-pick (λ (o : Operation). Slots n o) (eqb (r-number b) 4) _ _ (λ _. ((s, s), tt)) (λ n4.
+    ((s, s), ((second-slot n z b h (five n1 n2 n3 n4), s), tt))))))
   where
     five : eqb (r-number b) 1 ≡ false → eqb (r-number b) 2 ≡ false → eqb (r-number b) 3 ≡ false → eqb (r-number b) 4 ≡ false → eqb (r-number b) 5 ≡ true
     five n1 n2 n3 n4 =

@@ -17,10 +17,8 @@ use Rattle.model.proofs.All.{all-append}
 use Rattle.model.proofs.Cards.{Away}
 use Rattle.model.proofs.Copies.{write-fat-away}
 use Rattle.model.proofs.Runs.{ran-away}
-use Rattle.operations.specs.Finish.{root-stores, finish}
-use Rattle.operations.proofs.Roots.{root-stores-away}
-use Rattle.slots.specs.Slots.{Slots}
-use Rattle.slots.proofs.Roots.{root-same}
+use Rattle.operations.specs.Finish.{Slots, root-stores, finish}
+use Rattle.operations.proofs.Roots.{root-stores-same, root-stores-away}
 
 -- The commit mark is told by the group's sector alone.
 pub commit-same : (c d : Card) (g : Group) → c (g .sector) ≡ d (g .sector) → commit c g ≡ commit d g
@@ -32,7 +30,7 @@ module _ (l : Layout) (sh : Shape l) (limit : ℕ) (e x : List ℕ) (m : ℕ) (w
   pub root-kept : (o : Operation) → Slots (l .entries) o → Ran limit (write-fat l (l .fat1) (fat2-of l (card-of e)) (fat1-of l (card-of e))) e x m whole
       → root-stores l o (card-of x) ≡ root-stores l o (card-of e)
   root-kept o fit so =
-      root-same l o (card-of x) (card-of e) (sh .whole-sectors) fit
+      root-stores-same l o (card-of x) (card-of e) (sh .whole-sectors) fit
       (λ r less. ran-away limit (write-fat l (l .fat1) (fat2-of l (card-of e)) (fat1-of l (card-of e))) e x m whole so (root-place l r)
       (write-fat-away l (l .fat1) (fat2-of l (card-of e)) (fat1-of l (card-of e)) (root-place l r) (λ lo hi. omega (arith, sh))))
 

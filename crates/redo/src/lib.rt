@@ -12,8 +12,7 @@ ghost use Rattle.model.specs.Sector.{card-of};
 ghost use Rattle.model.specs.Record.{committed, commit};
 ghost use Rattle.model.specs.Promises.{Held, Ran};
 ghost use Rattle.operations.specs.Program.{stores};
-ghost use Rattle.operations.specs.Finish.{finish, redo};
-ghost use Rattle.slots.specs.Slots.{Slots};
+ghost use Rattle.operations.specs.Finish.{Slots, finish, redo};
 
 // The first n records of a log sector start 0xE5.
 fn mark(buf: [u8; 512], n: u32) -> [u8; 512]

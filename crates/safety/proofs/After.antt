@@ -23,7 +23,9 @@ use Rattle.model.proofs.Records.{Fits}
 use Rattle.model.proofs.Pendings.{Stored, Named, Recorded, group-of}
 use Rattle.model.proofs.Volumes.{layout-of, SameMarks, first-fat, area-of}
 use Rattle.safety.proofs.Start.{Fixed, Start, shape-of}
-use Rattle.safety.proofs.Effect.{Lives, Near, effect-mix, unconcerned}
+use Rattle.operations.proofs.Edits.{Near, unconcerned, sector-mix}
+use Rattle.operations.proofs.Edits as Edits
+use Rattle.safety.proofs.Effect.{Lives, recorded-slots}
 use Rattle.safety.proofs.Steps.{finish-all, finish-fat, finish-root}
 
 -- The lowest slot beginning 0 of a card.
@@ -145,18 +147,11 @@ module _ {size : ℕ} {c : Card} (st : Start size c) {u : Card} {i : ℕ} {o : O
         go b (Target.root r k e is) = rw is (clip-clip (root-sector new-root r))
 
     pub slot-near : (j : ℕ) → j < 32 → (k : ℕ) → k < l .entries → Near old new-root (slot-at l y) k j
-    unfolding slot-at root-sector
-    slot-near j small k less =
-        let row : 16 * (k / 16) + (32 * (k % 16) + j) / 32 ≡ k = omega (arith, sh) in
-        let col : (32 * (k % 16) + j) % 32 ≡ j = omega (arith, sh) in
-        ⊎-elim (λ e. inl (λ t. e t (32 * (k % 16) + j)))
-        (λ e. inr ((λ t. e t (32 * (k % 16) + j)) ∙ clip-at (root-sector new-root (k / 16)) (32 * (k % 16) + j) (omega (arith, sh)) ∙ (λ t. new-root (row t) (col t))))
-        (root-near (k / 16) (omega (arith, sh)))
+    slot-near = Edits.slot-near l c y new-root (sh .whole-sectors) root-near
 
     effect-same : (r : ℕ) → r < l .entries / 16 → clip (root-sector (effect o (slot-at l y)) r) ≡ clip (root-sector new-root r)
-    unfolding root-sector
     effect-same r less = clip-same (root-sector (effect o (slot-at l y)) r) (root-sector new-root r)
-        (λ j small. effect-mix (l .entries) z o old (slot-at l y) (h .recorded) (j % 32) (slot-near (j % 32) (omega (arith, sh))) (16 * r + j / 32) (omega (arith, sh)))
+        (sector-mix l c y o (sh .whole-sectors) (recorded-slots (l .entries) z o (h .recorded)) root-near r less)
 
     -- A root sector that is not concerned is as it is to become.
     byte-kept : (r : ℕ) → concerns o r ≡ false → (j : ℕ) → j < 512 → root-sector new-root r j ≡ c (root-place l r) j

@@ -104,22 +104,26 @@ committed-small n b h j = by-pick (λ x. x < 256) (eqb (j % 32) 0 && ltb j (32 *
 
 -- ---- slots
 
-edits-small : (o : Operation) (d : Directory) → ((k : ℕ) → Small (d k)) → All (λ e. Small (e .bytes)) (edits o d)
-unfolding edits new-entry
-edits-small (Create e) d h = (named (e .name) _ (patched 1 0x20 11 _ (patched 2 0x21 16 _ (patched 2 0x21 18 _ (patched 2 0x21 24 zeros none)))), tt)
-edits-small (Update e last from size) d h = (patched 4 size 28 _ (if-small (eqb last 0) _ (d (e .slot)) (patched 2 from 26 (d (e .slot)) (h (e .slot))) (h (e .slot))), tt)
-edits-small (Delete e first size) d h = (patched 1 0xE5 0 (d (e .slot)) (h (e .slot)), tt)
-edits-small (Truncate e first from size) d h = (patched 4 size 28 _ (if-small (eqb size 0) _ (d (e .slot)) (patched 2 0 26 (d (e .slot)) (h (e .slot))) (h (e .slot))), tt)
-edits-small (Rename e first size to renamed) d h = (patched 1 0xE5 0 (d (e .slot)) (h (e .slot)), (named renamed (d (e .slot)) (h (e .slot)), tt))
+-- An edit makes bytes of bytes.
+abbrev Makes : Edit → Type 0
+Makes e = (b : Bytes) → Small b → Small (e .change b)
 
-set-small : (es : List Edit) (d : Directory) → All (λ e. Small (e .bytes)) es → ((k : ℕ) → Small (d k)) → (k : ℕ) → Small (set-slots es d k)
+edits-small : (o : Operation) → All Makes (edits o)
+unfolding edits new-entry
+edits-small (Create e) = ((λ b h. named (e .name) _ (patched 1 0x20 11 _ (patched 2 0x21 16 _ (patched 2 0x21 18 _ (patched 2 0x21 24 zeros none))))), tt)
+edits-small (Update e last from size) = ((λ b h. patched 4 size 28 _ (if-small (eqb last 0) _ b (patched 2 from 26 b h) h)), tt)
+edits-small (Delete e first size) = ((λ b h. patched 1 0xE5 0 b h), tt)
+edits-small (Truncate e first from size) = ((λ b h. patched 4 size 28 _ (if-small (eqb size 0) _ b (patched 2 0 26 b h) h)), tt)
+edits-small (Rename e first size to renamed) = ((λ b h. patched 1 0xE5 0 b h), ((λ b h. named renamed b h), tt))
+
+set-small : (es : List Edit) (d : Directory) → All Makes es → ((k : ℕ) → Small (d k)) → (k : ℕ) → Small (set-slots es d k)
 unfolding set-slots
 set-small [] d a h k = h k
-set-small (e ∷ es) d a h k = if-small (eqb k (e .slot)) (e .bytes) (set-slots es d k) (a .0) (set-small es d (a .1) h k)
+set-small (e ∷ es) d a h k = if-small (eqb k (e .slot)) (e .change (d (e .source))) (set-slots es d k) (a .0 (d (e .source)) (h (e .source))) (set-small es d (a .1) h k)
 
 effect-small : (o : Operation) (d : Directory) → ((k : ℕ) → Small (d k)) → (k : ℕ) → Small (effect o d k)
 unfolding effect
-effect-small o d h = set-small (edits o d) d (edits-small o d h) h
+effect-small o d h = set-small (edits o) d (edits-small o) h
 
 -- ---- FATs
 

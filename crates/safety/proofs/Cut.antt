@@ -45,7 +45,8 @@ use Rattle.safety.proofs.Ended.{Ended, ended, SameHead, same-directory}
 use Rattle.model.proofs.Needed.{needed-none}
 use Rattle.safety.proofs.Chained.{HasChain, ranged, head-is, size-is, empty-then, linked-then}
 use Rattle.safety.proofs.Readings.{Found, Read, holds-of, holds-read}
-use Rattle.safety.proofs.Slots.{resized, resized-size, resized-first, resized-head, one-in, one-out}
+use Rattle.operations.proofs.Edits.{one-in, one-out}
+use Rattle.safety.proofs.Slots.{resized, resized-size, resized-first, resized-head}
 use Rattle.safety.proofs.Supplied.{truncates-as, cut-fat, truncate-supplies, ks}
 use Rattle.safety.proofs.Granted.{Named, Truncated, truncate-granted}
 use Rattle.safety.proofs.Moved.{proper-clear, finish-with}
@@ -112,11 +113,11 @@ module _ {size : ℕ} {c : Card} (st : Start size c) (s : ℕ) (live : Live (lay
 
     pub cut-slot : effect (truncates-as st s live keeps n) d s ≡ new
     unfolding edits entry-at
-    cut-slot = one-in (truncates-as st s live keeps n) d s new refl
+    cut-slot = one-in (truncates-as st s live keeps n) d s (λ b. resized (eqb n 0) 0 n b) refl
 
     pub uncut-slot : (k : ℕ) → (k ≡ s → ⊥) → effect (truncates-as st s live keeps n) d k ≡ d k
     unfolding edits entry-at
-    uncut-slot k ne = one-out (truncates-as st s live keeps n) d s new refl k ne
+    uncut-slot k ne = one-out (truncates-as st s live keeps n) d s (λ b. resized (eqb n 0) 0 n b) refl k ne
 
     pub cut-size : file-size new ≡ n
     cut-size = resized-size (eqb n 0) 0 n b (omega (arith, size-fits st s live))

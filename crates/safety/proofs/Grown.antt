@@ -46,7 +46,8 @@ use Rattle.safety.proofs.Ended.{Ended, ended, SameHead, same-directory}
 use Rattle.model.proofs.Needed.{needed-none}
 use Rattle.safety.proofs.Chained.{HasChain, ranged, head-is, size-is, linked-then}
 use Rattle.safety.proofs.Readings.{Found, Read, holds-of, holds-read}
-use Rattle.safety.proofs.Slots.{resized, resized-size, resized-first, resized-head, one-in, one-out}
+use Rattle.operations.proofs.Edits.{one-in, one-out}
+use Rattle.safety.proofs.Slots.{resized, resized-size, resized-first, resized-head}
 use Rattle.safety.proofs.Supplied.{updates-as, longer-fat, append-supplies, ks}
 use Rattle.safety.proofs.Granted.{Named, Room, Appended, append-granted}
 use Rattle.safety.proofs.Moved.{finish-with}
@@ -169,11 +170,11 @@ module _ {size : ℕ} {c : Card} (st : Start size c) (s : ℕ) (live : Live (lay
 
     pub grown-slot : effect (updates-as st s live keeps d room) dir s ≡ grown
     unfolding edits entry-at
-    grown-slot = one-in (updates-as st s live keeps d room) dir s grown refl
+    grown-slot = one-in (updates-as st s live keeps d room) dir s (λ b. resized (eqb (last-cluster own) 0) (getD new 0 0) total b) refl
 
     pub other-slot : (k : ℕ) → (k ≡ s → ⊥) → effect (updates-as st s live keeps d room) dir k ≡ dir k
     unfolding edits entry-at
-    other-slot k ne = one-out (updates-as st s live keeps d room) dir s grown refl k ne
+    other-slot k ne = one-out (updates-as st s live keeps d room) dir s (λ b. resized (eqb (last-cluster own) 0) (getD new 0 0) total b) refl k ne
 
     pub grown-size : file-size grown ≡ total
     grown-size = resized-size (eqb (last-cluster own) 0) (getD new 0 0) total b (Appends.total-fits st s live keeps d room)

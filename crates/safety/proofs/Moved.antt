@@ -39,7 +39,8 @@ use Rattle.safety.proofs.Theorem.{along}
 use Rattle.safety.proofs.Ended.{Ended, ended, same-bears, same-directory}
 use Rattle.safety.proofs.Chained.{HasChain, head-is, size-is, empty-then, kept-then}
 use Rattle.safety.proofs.Readings.{Found, Read, holds-of, holds-read, gone-of}
-use Rattle.safety.proofs.Slots.{one-in, one-out, two-first, two-second, two-out, new-size, new-first, new-directory, new-bears, named-size, named-first, named-directory, named-bears, named-only, deleted-bears, means, means-none, lower-not, bearer}
+use Rattle.operations.proofs.Edits.{one-in, one-out, two-first, two-second, two-out}
+use Rattle.safety.proofs.Slots.{new-size, new-first, new-directory, new-bears, named-size, named-first, named-directory, named-bears, named-only, deleted-bears, means, means-none, lower-not, bearer}
 use Rattle.safety.proofs.Supplied.{creates-as, renames-as, deletes-as, create-supplies, rename-supplies, delete-supplies, ks}
 use Rattle.safety.proofs.Calls.{left-is}
 use Rattle.safety.proofs.Granted.{Created, create-granted, Renamed, rename-granted, Deleted, delete-granted}
@@ -90,11 +91,11 @@ module _ {size : ℕ} {c : Card} (st : Start size c) (is : clean (window size c)
   module _ (n : Span) (p : Program) (g : Created st is n p) {t : Card} (end : Ended size c [] fat (creates-as st n) t) where
     pub new-slot : effect (creates-as st n) d z ≡ new-entry (name-of n)
     unfolding edits
-    new-slot = one-in (creates-as st n) d z (new-entry (name-of n)) refl
+    new-slot = one-in (creates-as st n) d z (λ _. new-entry (name-of n)) refl
 
     pub old-slot : (k : ℕ) → (k ≡ z → ⊥) → effect (creates-as st n) d k ≡ d k
     unfolding edits
-    old-slot k ne = one-out (creates-as st n) d z (new-entry (name-of n)) refl k ne
+    old-slot k ne = one-out (creates-as st n) d z (λ _. new-entry (name-of n)) refl k ne
 
     create-found : Found v t n z
     create-found = record {
@@ -131,15 +132,15 @@ module _ {size : ℕ} {c : Card} (st : Start size c) (is : clean (window size c)
 
     pub left-slot : effect (renames-as st x (g .live) m) d x ≡ mark-deleted (d x)
     unfolding edits entry-at
-    left-slot = two-first (renames-as st x (g .live) m) d x z (mark-deleted (d x)) b refl
+    left-slot = two-first (renames-as st x (g .live) m) d x z (λ b. mark-deleted b) (λ b. set-name (name-of m) b) refl
 
     pub named-slot : effect (renames-as st x (g .live) m) d z ≡ b
     unfolding edits entry-at
-    named-slot = two-second (renames-as st x (g .live) m) d x z (mark-deleted (d x)) b refl apart
+    named-slot = two-second (renames-as st x (g .live) m) d x z (λ b. mark-deleted b) (λ b. set-name (name-of m) b) refl apart
 
     pub rest-slot : (k : ℕ) → (k ≡ x → ⊥) → (k ≡ z → ⊥) → effect (renames-as st x (g .live) m) d k ≡ d k
     unfolding edits entry-at
-    rest-slot k ne other = two-out (renames-as st x (g .live) m) d x z (mark-deleted (d x)) b refl k ne other
+    rest-slot k ne other = two-out (renames-as st x (g .live) m) d x z (λ b. mark-deleted b) (λ b. set-name (name-of m) b) refl k ne other
 
     x-listed : listed (d x) ≡ true
     unfolding slot-of
@@ -238,11 +239,11 @@ module _ {size : ℕ} {c : Card} (st : Start size c) (is : clean (window size c)
       (end : Ended size c [] (release (ks st (at n) (g .it .live) (g .it .keeps)) fat) (deletes-as st (at n) (g .it .live) (g .it .keeps)) t) where
     pub gone-slot : effect (deletes-as st (at n) (g .it .live) (g .it .keeps)) d (at n) ≡ mark-deleted (d (at n))
     unfolding edits entry-at
-    gone-slot = one-in (deletes-as st (at n) (g .it .live) (g .it .keeps)) d (at n) (mark-deleted (d (at n))) refl
+    gone-slot = one-in (deletes-as st (at n) (g .it .live) (g .it .keeps)) d (at n) (λ b. mark-deleted b) refl
 
     pub kept-slot : (k : ℕ) → (k ≡ at n → ⊥) → effect (deletes-as st (at n) (g .it .live) (g .it .keeps)) d k ≡ d k
     unfolding edits entry-at
-    kept-slot k ne = one-out (deletes-as st (at n) (g .it .live) (g .it .keeps)) d (at n) (mark-deleted (d (at n))) refl k ne
+    kept-slot k ne = one-out (deletes-as st (at n) (g .it .live) (g .it .keeps)) d (at n) (λ b. mark-deleted b) refl k ne
 
     not-there : bears (name-of n) (slot-at l t (at n)) ≡ false
     not-there = same-bears (slot-at l t (at n)) (mark-deleted (d (at n))) (head-is st end (at n) (g .it .live .in-root) (mark-deleted (d (at n))) gone-slot) (name-of n)

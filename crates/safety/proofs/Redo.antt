@@ -32,7 +32,8 @@ use Rattle.model.proofs.Volumes.{layout-of, area-of, Alike, first-fat, window, 
 use Rattle.safety.proofs.Journal.{Forth, idle}
 use Rattle.safety.proofs.Start.{Start, shape-of, Fixed, root-order, log-low, recovery-is, marks-same, slots-same, fatsize-few, entries-few}
 use Rattle.safety.proofs.Steps.{finish-length}
-use Rattle.safety.proofs.Effect.{begins, Near, Begins}
+use Rattle.operations.proofs.Edits.{Near}
+use Rattle.safety.proofs.Effect.{begins, Begins}
 use Rattle.safety.proofs.After.{Entered, last-slot, Mixed, still-kept, still-boot, fat1-near, slot-near, new-root, still-data, grp, complete, finish-keeps, finish-whole, done-mixed, start-mixed, done-fat1, still-fat2, done-root}
 use Rattle.model.specs.declared.Pending.the-variants as Pending
 

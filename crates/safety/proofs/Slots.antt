@@ -2,7 +2,6 @@
 use Prim.Native.Nat.{ℕ, _^_, _≤_, _<_}
 use native.Mathlib.Omega.{arith}
 use mathlib.Core.Path.{_≡_, refl, sym, ap, _∙_}
-use mathlib.Core.List.{[], _∷_}
 use mathlib.Core.Bool.{Bool, true, false, not}
 use lib.Dec.{eqb}
 use borrow.Author.Tests.{eq-eqb, eqb-true}
@@ -10,10 +9,9 @@ use Rattle.model.specs.Bytes.{Bytes, Span, pick, le, byte-of, overlay, patch}
 use Rattle.model.specs.Sector.{Card}
 use Rattle.model.specs.Root.{Directory, slot-at, name-in, file-size, first-cluster, is-file, is-directory, is-label, listed, vacant, bears, same-name, find, lowest-slot}
 use Rattle.model.specs.declared.Name.{Name}
-use Rattle.model.specs.declared.Operation.{Operation}
 use Rattle.model.specs.declared.Volume.{Volume}
 use Rattle.operations.specs.Calls.{slot-of, name-of}
-use Rattle.operations.specs.Finish.{set-name, set-size, set-first, mark-deleted, new-entry, edit, edits, set-slots, effect}
+use Rattle.operations.specs.Finish.{set-name, set-size, set-first, mark-deleted, new-entry}
 use Rattle.model.proofs.Tests.{and-both, and-left, and-right}
 use Rattle.model.proofs.Scan.{first-same, first-is0, first-before0, first-has0, first-above0}
 use Rattle.model.proofs.Overlays.{overlay-below}
@@ -21,7 +19,6 @@ use Rattle.model.proofs.Numbers.{read-back, le-over-below, le-over-above}
 use Rattle.model.proofs.Records.{NameFits}
 use Rattle.model.proofs.Pendings.{starts}
 use Rattle.model.proofs.Names.{vacant-starts}
-use Rattle.safety.proofs.Effect.{set-in, set-out}
 use Rattle.safety.proofs.Ended.{SameHead}
 
 -- ---- a slot with a new size, and a first cluster if a test holds
@@ -132,30 +129,6 @@ named-only n m b fits h = sym (same-names (name-in (set-name m b)) m (name-back 
 pub new-named : (n m : Name) → NameFits m → bears n (new-entry m) ≡ true → m ≡ n
 unfolding new-entry
 new-named n m fits h = named-only n m _ fits h
-
--- ---- edits
-
-module _ (o : Operation) (d : Directory) where
-  pub one-in : (x : ℕ) (b : Bytes) → edits o d ≡ edit x b ∷ [] → effect o d x ≡ b
-  unfolding effect
-  one-in x b e = ap (λ es. set-slots es d x) e ∙ set-in (edit x b) [] d x refl
-
-  pub one-out : (x : ℕ) (b : Bytes) → edits o d ≡ edit x b ∷ [] → (k : ℕ) → (k ≡ x → ⊥) → effect o d k ≡ d k
-  unfolding effect set-slots
-  one-out x b e k ne = ap (λ es. set-slots es d k) e ∙ set-out (edit x b) [] d k ne
-
-  module _ (x y : ℕ) (a b : Bytes) (e : edits o d ≡ edit x a ∷ edit y b ∷ []) where
-    pub two-first : effect o d x ≡ a
-    unfolding effect
-    two-first = ap (λ es. set-slots es d x) e ∙ set-in (edit x a) (edit y b ∷ []) d x refl
-
-    pub two-second : (y ≡ x → ⊥) → effect o d y ≡ b
-    unfolding effect
-    two-second ne = ap (λ es. set-slots es d y) e ∙ set-out (edit x a) (edit y b ∷ []) d y ne ∙ set-in (edit y b) [] d y refl
-
-    pub two-out : (k : ℕ) → (k ≡ x → ⊥) → (k ≡ y → ⊥) → effect o d k ≡ d k
-    unfolding effect set-slots
-    two-out k ne other = ap (λ es. set-slots es d k) e ∙ set-out (edit x a) (edit y b ∷ []) d k ne ∙ set-out (edit y b) [] d k other
 
 -- ---- the slot that a name means
 

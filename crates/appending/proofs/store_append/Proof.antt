@@ -2,6 +2,7 @@ use mathlib.Core.Path.{refl}
 use borrow.Author.Tests.{not-true, not-false}
 use Rattle.model.specs.Bytes.{view}
 use Rattle.appending.proofs.Laws.{append-cut, append-ran}
+use Rattle.operations.specs.Finish.{edits}
 use borrow.Author.Needs.{needs}
 use Rattle.appending.proofs.store_append.Statement.{statement}
 use Rattle.appending.proofs.store_append.Tie as tie
@@ -38,6 +39,7 @@ sub-log-steps : tie.Need-sub-log-steps
 sub-log-steps c = search needs
 
 log-steps-requires : tie.Need-log-steps-requires
+unfolding edits
 log-steps-requires c κs = search needs
 
 add-t22 : tie.Need-add-t22

@@ -4,6 +4,7 @@ use native.Mathlib.Omega.{arith}
 use borrow.Author.Tests.{eqb-true}
 use Rattle.model.specs.Root.{name-ok}
 use Rattle.model.proofs.Tests.{every-at}
+use Rattle.operations.specs.Finish.{edits}
 use borrow.Author.Needs.{needs}
 use Rattle.directory.proofs.rename_to.Statement.{statement}
 use Rattle.directory.proofs.rename_to.Tie as tie
@@ -17,6 +18,7 @@ unfolding name-ok
 name-of-requires c κs = let e : length (c .before .before .before .args .name .now) ≡ 11 = eqb-true _ _ (every-at _ (c .before .before .before .pre .1 .2) 0) in omega arith
 
 record-change-requires : tie.Need-record-change-requires
+unfolding edits
 record-change-requires c κs = search needs
 
 same-length : tie.Need-same-length

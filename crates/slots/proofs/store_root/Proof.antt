@@ -1,181 +1,75 @@
-use Rattle.model.specs.Bytes.{bytes-of}
+use mathlib.Core.Path.{_≡_, refl}
+use mathlib.Core.Bool.{true}
+use Prim.Native.Nat.{_-_, _/_, _≤_}
+use native.Mathlib.Omega.{arith}
+use lib.ListN.{length}
+use borrow.Author.Tests.{not-true, not-false}
 use Rattle.model.specs.Sector.{card-of}
-use Rattle.slots.proofs.Roots.{root-create, root-update, root-delete, root-truncate, root-rename}
+use Rattle.model.specs.Promises.{Ran, up-to}
+use Rattle.model.proofs.Runs.{turns-none, turns-more, turns-cut}
+use Rattle.slots.specs.Slots.{root-turn}
+use Rattle.slots.proofs.Laws.{root-turns, turn-same}
+use borrow.Author.Needs.{needs}
 use borrow.Author.Needs.{needs}
 use Rattle.slots.proofs.store_root.Statement.{statement}
 use Rattle.slots.proofs.store_root.Tie as tie
 use Rattle.slots.proofs.store_root.Reads as reads
 use Rattle.slots.proofs.store_root.Lts as lts
-use Rattle.build.proofs.new_entry.Reads as new-entry-reads
-use Rattle.build.proofs.set.Reads as set-reads
-use Rattle.build.proofs.set_name.Reads as set-name-reads
-use Rattle.slots.proofs.load_slot.Reads as load-slot-reads
-use Rattle.slots.proofs.resize.Reads as resize-reads
-use Rattle.slots.proofs.store_pair.Reads as store-pair-reads
-use Rattle.slots.proofs.store_slot.Reads as store-slot-reads
+use Rattle.slots.proofs.store_concerned.Reads as store-concerned-reads
 
-enum-known-o : tie.Need-enum-known-o
-enum-known-o c = search needs
+abbrev Inv-loop : tie.InvT-loop
+Inv-loop w₀ l o limit made₀ r₀ w made r = (r ≤ l .entries / 16) × (length w ≡ length w₀) × Ran limit (up-to (root-turn l o (card-of w₀)) r) w₀ w made true
 
-new-entry-requires : tie.Need-new-entry-requires
-new-entry-requires c κs = search needs
+abbrev μ-loop : tie.MeasureT-loop
+μ-loop w₀ l o limit made₀ r₀ w made r = l .entries / 16 - r
 
-store-slot-requires : tie.Need-store-slot-requires
-store-slot-requires c κs = (c .before .before .before .before .before .before .pre .0, rw (c .before .before .before .o .given .1) at (c .before .before .before .before .before .before .pre .1))
+loop-holds : tie.Need-loop-holds Inv-loop μ-loop
+loop-holds c = (search needs, refl, turns-none _ _ _)
 
-enum-known-o-2 : tie.Need-enum-known-o-2
-enum-known-o-2 c = search needs
+sub-store-concerned : tie.Need-sub-store-concerned Inv-loop μ-loop
+sub-store-concerned c = search needs
 
-load-slot-requires : tie.Need-load-slot-requires
-load-slot-requires c κs = (c .before .before .before .before .before .pre .0, rw (c .before .before .o2 .given .1) at (c .before .before .before .before .before .pre .1))
+store-concerned-requires : tie.Need-store-concerned-requires Inv-loop μ-loop
+store-concerned-requires c κs = search needs
 
-resize-requires : tie.Need-resize-requires
-resize-requires c κs = search needs
+add-made : tie.Need-add-made Inv-loop μ-loop
+add-made c = search needs
 
-store-slot-requires-2 : tie.Need-store-slot-requires-2
-store-slot-requires-2 c κs = (c .before .before .before .before .before .before .before .before .pre .0, rw (c .before .before .before .before .before .o2 .given .1) at (c .before .before .before .before .before .before .before .before .pre .1))
-
-enum-known-o-3 : tie.Need-enum-known-o-3
-enum-known-o-3 c = search needs
-
-load-slot-requires-2 : tie.Need-load-slot-requires-2
-load-slot-requires-2 c κs = (c .before .before .before .before .before .pre .0, rw (c .before .before .o3 .given .1) at (c .before .before .before .before .before .pre .1))
-
-set-requires : tie.Need-set-requires
-set-requires c κs = search needs
-
-store-slot-requires-3 : tie.Need-store-slot-requires-3
-store-slot-requires-3 c κs = (c .before .before .before .before .before .before .before .before .pre .0, rw (c .before .before .before .before .before .o3 .given .1) at (c .before .before .before .before .before .before .before .before .pre .1))
-
-enum-known-o-4 : tie.Need-enum-known-o-4
-enum-known-o-4 c = search needs
-
-load-slot-requires-3 : tie.Need-load-slot-requires-3
-load-slot-requires-3 c κs = (c .before .before .before .before .before .pre .0, rw (c .before .before .o4 .given .1) at (c .before .before .before .before .before .pre .1))
-
-resize-requires-2 : tie.Need-resize-requires-2
-resize-requires-2 c κs = search needs
-
-store-slot-requires-4 : tie.Need-store-slot-requires-4
-store-slot-requires-4 c κs = (c .before .before .before .before .before .before .before .before .pre .0, rw (c .before .before .before .before .before .o4 .given .1) at (c .before .before .before .before .before .before .before .before .pre .1))
-
-enum-known-o-5 : tie.Need-enum-known-o-5
-enum-known-o-5 c = search needs
-
-load-slot-requires-4 : tie.Need-load-slot-requires-4
-load-slot-requires-4 c κs = (c .before .before .before .before .before .pre .0, (rw (c .before .before .o5 .given .1) at (c .before .before .before .before .before .pre .1)) .0)
-
-set-requires-2 : tie.Need-set-requires-2
-set-requires-2 c κs = search needs
-
-set-name-requires : tie.Need-set-name-requires
-set-name-requires c κs = search needs
-
-store-pair-requires : tie.Need-store-pair-requires
-store-pair-requires c κs = let fit = rw (c .before .before .before .before .before .before .o5 .given .1) at (c .before .before .before .before .before .before .before .before .before .pre .1) in (c .before .before .before .before .before .before .before .before .before .pre .0, fit .0, fit .1)
-
-same-length : tie.Need-same-length
+same-length : tie.Need-same-length Inv-loop μ-loop
 same-length c = search needs
 
-returns : tie.Need-returns
-returns c =
-    let a = c .before .before .before .before .before .before .before .before .before .args in
-    let v = c .before .before .before .before .before .before .o .given .0 in
-    let fit = rw (c .before .before .before .before .before .before .o .given .1) at (c .before .before .before .before .before .before .before .before .before .pre .1) in
-    rw (c .before .before .before .before .before .before .o .given .1, root-create (a .l) (card-of (a .w .now)) (c .before .before .before .before .before .before .before .before .before .pre .0 .fits .shape .whole-sectors) (v .0) fit (bytes-of (c .before .before .before .new-entry .result)) (c .before .before .before .new-entry .ensures))
-    (c .before .before .store-slot .ensures)
+returns : tie.Need-returns Inv-loop μ-loop
+returns c = rw (← root-turns (c .before .before .before .before .before .before .before .before .before .before .before .args .l) (c .before .before .before .before .before .before .before .before .before .before .before .args .o) (card-of (c .before .before .before .before .before .before .before .before .before .before .before .args .w .now))) (turns-cut (root-turn (c .before .before .before .before .before .before .before .before .before .before .before .args .l) (c .before .before .before .before .before .before .before .before .before .before .before .args .o) (card-of (c .before .before .before .before .before .before .before .before .before .before .before .args .w .now))) (c .before .before .before .before .before .before .before .before .before .before .before .args .limit) (c .before .before .before .before .before .before .before .before .before .loop .r) (c .before .before .before .before .before .before .before .before .before .before .before .args .w .now) (c .before .before .before .before .before .before .before .before .before .loop .w) _ (c .before .before .before .before .before .before .before .before .before .loop .made) _ (c .before .before .before .before .before .before .before .before .before .loop .inv .2) (c .before .before .before .before .before .before .before .before .before .before .before .args .l .entries / 16) (omega arith) (rw (turn-same (c .before .before .before .before .before .before .before .before .before .before .before .args .l) (c .before .before .before .before .before .before .before .before .before .before .before .args .o) (c .before .before .before .before .before .before .before .before .before .before .before .pre .0 .fits .shape .whole-sectors) (c .before .before .before .before .before .before .before .before .before .before .before .pre .1) (card-of (c .before .before .before .before .before .before .before .before .before .before .before .args .w .now)) (c .before .before .before .before .before .before .before .before .before .before .before .args .limit) (c .before .before .before .before .before .before .before .before .before .loop .r) (c .before .before .before .before .before .before .before .before .before .before .before .args .w .now) (c .before .before .before .before .before .before .before .before .before .loop .w) (c .before .before .before .before .before .before .before .before .before .loop .made) refl (c .before .before .before .before .before .before .before .before .before .loop .inv .2) (omega arith), not-true (c .before .before .before .before .before .store-concerned .result .whole) (c .if2 .taken)) at (c .before .before .before .before .before .store-concerned .ensures)))
 
-same-length-2 : tie.Need-same-length-2
+add-r : tie.Need-add-r Inv-loop μ-loop
+add-r c = search needs
+
+loop-less : tie.Need-loop-less Inv-loop μ-loop
+loop-less c = search needs
+
+loop-again : tie.Need-loop-again Inv-loop μ-loop
+loop-again c = (search needs, search needs, turns-more (root-turn (c .before .before .before .before .before .before .before .before .before .before .before .args .l) (c .before .before .before .before .before .before .before .before .before .before .before .args .o) (card-of (c .before .before .before .before .before .before .before .before .before .before .before .args .w .now))) (c .before .before .before .before .before .before .before .before .before .before .before .args .limit) (c .before .before .before .before .before .before .before .before .before .loop .r) (c .before .before .before .before .before .before .before .before .before .before .before .args .w .now) (c .before .before .before .before .before .before .before .before .before .loop .w) _ (c .before .before .before .before .before .before .before .before .before .loop .made) _ (c .before .before .before .before .before .before .before .before .before .loop .inv .2) (rw (turn-same (c .before .before .before .before .before .before .before .before .before .before .before .args .l) (c .before .before .before .before .before .before .before .before .before .before .before .args .o) (c .before .before .before .before .before .before .before .before .before .before .before .pre .0 .fits .shape .whole-sectors) (c .before .before .before .before .before .before .before .before .before .before .before .pre .1) (card-of (c .before .before .before .before .before .before .before .before .before .before .before .args .w .now)) (c .before .before .before .before .before .before .before .before .before .before .before .args .limit) (c .before .before .before .before .before .before .before .before .before .loop .r) (c .before .before .before .before .before .before .before .before .before .before .before .args .w .now) (c .before .before .before .before .before .before .before .before .before .loop .w) (c .before .before .before .before .before .before .before .before .before .loop .made) refl (c .before .before .before .before .before .before .before .before .before .loop .inv .2) (omega arith), not-false (c .before .before .before .before .before .store-concerned .result .whole) (c .if2 .left)) at (c .before .before .before .before .before .store-concerned .ensures)))
+
+same-length-2 : tie.Need-same-length-2 Inv-loop μ-loop
 same-length-2 c = search needs
 
-returns-2 : tie.Need-returns-2
-returns-2 c =
-    let a = c .before .before .before .before .before .before .before .before .before .before .before .args in
-    let v = c .before .before .before .before .before .before .before .before .o2 .given .0 in
-    let fit = rw (c .before .before .before .before .before .before .before .before .o2 .given .1) at (c .before .before .before .before .before .before .before .before .before .before .before .pre .1) in
-    rw (
-      c .before .before .before .before .before .before .before .before .o2 .given .1,
-      root-update (a .l) (card-of (a .w .now)) (c .before .before .before .before .before .before .before .before .before .before .before .pre .0 .fits .shape .whole-sectors) (v .0) fit (bytes-of (c .before .before .before .before .before .load-slot .result)) (c .before .before .before .before .before .load-slot .ensures)
-          (v .1 .0) (v .1 .1 .0) (v .1 .1 .1 .0) (bytes-of (c .before .before .before .resize .result)) (c .before .before .before .resize .ensures),
-    )
-    (c .before .before .store-slot2 .ensures)
-
-same-length-3 : tie.Need-same-length-3
-same-length-3 c = search needs
-
-returns-3 : tie.Need-returns-3
-returns-3 c =
-    let a = c .before .before .before .before .before .before .before .before .before .before .before .args in
-    let v = c .before .before .before .before .before .before .before .before .o3 .given .0 in
-    let fit = rw (c .before .before .before .before .before .before .before .before .o3 .given .1) at (c .before .before .before .before .before .before .before .before .before .before .before .pre .1) in
-    rw (
-      c .before .before .before .before .before .before .before .before .o3 .given .1,
-      root-delete (a .l) (card-of (a .w .now)) (c .before .before .before .before .before .before .before .before .before .before .before .pre .0 .fits .shape .whole-sectors) (v .0) fit (bytes-of (c .before .before .before .before .before .load-slot2 .result)) (c .before .before .before .before .before .load-slot2 .ensures)
-          (v .1 .0) (v .1 .1 .0) (bytes-of (c .before .before .before .set .result)) (c .before .before .before .set .ensures),
-    )
-    (c .before .before .store-slot3 .ensures)
-
-same-length-4 : tie.Need-same-length-4
-same-length-4 c = search needs
-
-returns-4 : tie.Need-returns-4
-returns-4 c =
-    let a = c .before .before .before .before .before .before .before .before .before .before .before .args in
-    let v = c .before .before .before .before .before .before .before .before .o4 .given .0 in
-    let fit = rw (c .before .before .before .before .before .before .before .before .o4 .given .1) at (c .before .before .before .before .before .before .before .before .before .before .before .pre .1) in
-    rw (
-      c .before .before .before .before .before .before .before .before .o4 .given .1,
-      root-truncate (a .l) (card-of (a .w .now)) (c .before .before .before .before .before .before .before .before .before .before .before .pre .0 .fits .shape .whole-sectors) (v .0) fit (bytes-of (c .before .before .before .before .before .load-slot3 .result)) (c .before .before .before .before .before .load-slot3 .ensures)
-          (v .1 .0) (v .1 .1 .0) (v .1 .1 .1 .0) (bytes-of (c .before .before .before .resize2 .result)) (c .before .before .before .resize2 .ensures),
-    )
-    (c .before .before .store-slot4 .ensures)
-
-same-length-5 : tie.Need-same-length-5
-same-length-5 c = search needs
-
-returns-5 : tie.Need-returns-5
-returns-5 c =
-    let a = c .before .before .before .before .before .before .before .before .before .before .before .before .args in
-    let v = c .before .before .before .before .before .before .before .before .before .o5 .given .0 in
-    let fit = rw (c .before .before .before .before .before .before .before .before .before .o5 .given .1) at (c .before .before .before .before .before .before .before .before .before .before .before .before .pre .1) in
-    rw (
-      c .before .before .before .before .before .before .before .before .before .o5 .given .1,
-      root-rename (a .l) (card-of (a .w .now)) (c .before .before .before .before .before .before .before .before .before .before .before .before .pre .0 .fits .shape .whole-sectors) (v .0) (fit .0) (bytes-of (c .before .before .before .before .before .before .load-slot4 .result)) (c .before .before .before .before .before .before .load-slot4 .ensures)
-          (v .1 .0) (v .1 .1 .0) (v .1 .1 .1 .0) (v .1 .1 .1 .1 .0) (bytes-of (c .before .before .before .before .set2 .result)) (bytes-of (c .before .before .before .set-name .result)) (fit .1) (c .before .before .before .before .set2 .ensures) (c .before .before .before .set-name .ensures),
-    )
-    (c .before .before .store-pair .ensures)
+returns-2 : tie.Need-returns-2 Inv-loop μ-loop
+returns-2 c = let end : c .before .before .loop .r ≡ c .before .before .before .before .args .l .entries / 16 = omega arith in rw (← root-turns (c .before .before .before .before .args .l) (c .before .before .before .before .args .o) (card-of (c .before .before .before .before .args .w .now))) (rw end at (c .before .before .loop .inv .2))
 
 pub store-root-spec : {M : Type 1} → statement M
 store-root-spec =
     tie.close
     (tie.spec
-    enum-known-o
-    new-entry-requires
-    store-slot-requires
-    enum-known-o-2
-    load-slot-requires
-    resize-requires
-    store-slot-requires-2
-    enum-known-o-3
-    load-slot-requires-2
-    set-requires
-    store-slot-requires-3
-    enum-known-o-4
-    load-slot-requires-3
-    resize-requires-2
-    store-slot-requires-4
-    enum-known-o-5
-    load-slot-requires-4
-    set-requires-2
-    set-name-requires
-    store-pair-requires
+    Inv-loop
+    μ-loop
+    loop-holds
+    sub-store-concerned
+    store-concerned-requires
+    add-made
     same-length
     returns
+    add-r
+    loop-less
+    loop-again
     same-length-2
-    returns-2
-    same-length-3
-    returns-3
-    same-length-4
-    returns-4
-    same-length-5
-    returns-5)
+    returns-2)

@@ -1,6 +1,7 @@
 use Rattle.model.specs.Sector.{card-of}
 use Rattle.operations.specs.Plan.{old-fat}
 use Rattle.truncation.proofs.Cuts.{all-inside, delete-is}
+use Rattle.operations.specs.Finish.{edits}
 use borrow.Author.Needs.{needs}
 use Rattle.truncation.proofs.delete_file.Statement.{statement}
 use Rattle.truncation.proofs.delete_file.Tie as tie
@@ -13,9 +14,10 @@ clusters-for-requires : tie.Need-clusters-for-requires
 clusters-for-requires c κs = search needs
 
 shorten-requires : tie.Need-shorten-requires
+unfolding edits
 shorten-requires c κs =
     let a = c .before .before .before .before .before .args in
-    (c .before .before .before .before .before .pre .0, (rw (c .before .before .clusters-for .ensures) (all-inside (a .v .layout) (c .before .before .before .before .before .pre .0 .0 .fits) (old-fat (a .v) (card-of (a .w .now))) (a .f) (c .before .before .before .before .before .pre .1 .chain)), c .before .before .before .before .before .pre .1 .seated .slot))
+    (c .before .before .before .before .before .pre .0, (rw (c .before .before .clusters-for .ensures) (all-inside (a .v .layout) (c .before .before .before .before .before .pre .0 .0 .fits) (old-fat (a .v) (card-of (a .w .now))) (a .f) (c .before .before .before .before .before .pre .1 .chain)), ((c .before .before .before .before .before .pre .1 .seated .slot, c .before .before .before .before .before .pre .1 .seated .slot), tt)))
 
 same-length : tie.Need-same-length
 same-length c = search needs

@@ -1,6 +1,7 @@
 use native.Mathlib.Omega.{arith}
 use Rattle.model.specs.Sector.{card-of}
 use Rattle.truncation.proofs.Cuts.{truncate-is}
+use Rattle.operations.specs.Finish.{edits}
 use borrow.Author.Needs.{needs}
 use Rattle.truncation.proofs.truncate_file.Statement.{statement}
 use Rattle.truncation.proofs.truncate_file.Tie as tie
@@ -13,7 +14,8 @@ cut-at-requires : tie.Need-cut-at-requires
 cut-at-requires c κs = (c .before .before .before .pre .0 .0, c .before .before .before .pre .1 .0 .chain, omega arith)
 
 shorten-requires : tie.Need-shorten-requires
-shorten-requires c κs = (c .before .before .before .before .before .before .pre .0, (c .before .before .cut-at .ensures .inside, c .before .before .before .before .before .before .pre .1 .0 .seated .slot))
+unfolding edits
+shorten-requires c κs = (c .before .before .before .before .before .before .pre .0, (c .before .before .cut-at .ensures .inside, ((c .before .before .before .before .before .before .pre .1 .0 .seated .slot, c .before .before .before .before .before .before .pre .1 .0 .seated .slot), tt)))
 
 same-length : tie.Need-same-length
 same-length c = search needs

@@ -1,0 +1,238 @@
+-- Edits of the root directory may be begun, cut and begun again: made of a mixture of the old directory and the new one they make the
+-- new one. So the code may store root sectors one by one, and read slots that it has stored already.
+use Prim.Native.Nat.{ℕ, _+_, _-_, _*_, _/_, _%_, _≤_, _<_}
+use native.Mathlib.Omega.{arith}
+use mathlib.Core.Path.{_≡_, refl, sym, ap, _∙_}
+use mathlib.Core.Logic.{_⊎_, inl, inr, ⊎-elim}
+use mathlib.Core.List.{List, [], _∷_, map}
+use mathlib.Core.Bool.{Bool, true, false, _&&_}
+use lib.Dec.{leb, ltb, eqb}
+use borrow.Author.Tests.{eq-eqb, ne-eqb, eqb-false}
+use Rattle.model.specs.Bytes.{Bytes, overlay, pick, byte-of, patch}
+use Rattle.model.specs.Scan.{any}
+use Rattle.model.specs.Sector.{Card, clip}
+use Rattle.model.specs.Root.{Directory, root-place, slot-at}
+use Rattle.model.specs.declared.Layout.{Layout}
+use Rattle.model.specs.declared.Name.{Name}
+use Rattle.model.specs.declared.Operation.{Operation}
+use Rattle.model.specs.declared.Operation.the-variants.{Create, Update, Delete, Truncate, Rename}
+use Rattle.operations.specs.Finish.{set-size, set-first, mark-deleted, set-name, new-entry, Edit, edit, edit-from, set-slots, edits, effect, Slots, root-sector, concerns}
+use Rattle.model.proofs.Tests.{told, less?, same?, or-false}
+use Rattle.model.proofs.All.{All}
+use Rattle.model.proofs.Cards.{clip-at}
+use Rattle.model.proofs.Overlays.{overlay-in, overlay-above}
+
+-- ---- changes of bytes, one by one
+
+-- A change gives byte j a value of its own, or leaves it.
+abbrev pub Laid : (Bytes → Bytes) → ℕ → Type 0
+Laid h j = ((v : ℕ) × ((b : Bytes) → h b j ≡ v)) ⊎ ((b : Bytes) → h b j ≡ b j)
+
+laid-over : (n : ℕ) (p : Bytes) (at j : ℕ) → Laid (λ b. overlay n p at b) j
+unfolding overlay
+laid-over n p at j = go (told (leb at j && ltb j (at + n)))
+  where
+    go : ((leb at j && ltb j (at + n)) ≡ true) ⊎ ((leb at j && ltb j (at + n)) ≡ false) → Laid (λ b i. pick (leb at i && ltb i (at + n)) (p (i - at)) (b i)) j
+    go (inl e) = inl (p (j - at), λ b. rw e)
+    go (inr e) = inr (λ b. rw e)
+
+laid-then : (g h : Bytes → Bytes) (j : ℕ) → Laid g j → Laid h j → Laid (λ b. g (h b)) j
+laid-then g h j (inl k) m = inl (k .0, λ b. k .1 (h b))
+laid-then g h j (inr k) (inl m) = inl (m .0, λ b. k (h b) ∙ m .1 b)
+laid-then g h j (inr k) (inr m) = inr (λ b. k (h b) ∙ m b)
+
+laid-if : (t : Bool) (h : Bytes → Bytes) (j : ℕ) → Laid h j → Laid (λ b. pick t (h b) b) j
+laid-if true h j k = k
+laid-if false h j k = inr (λ b. refl)
+
+-- The change f makes the same of byte j whether g was made before it or not.
+abbrev Over : (Bytes → Bytes) → (Bytes → Bytes) → ℕ → Type 0
+Over f g j = (b x : Bytes) → x j ≡ g b j → f x j ≡ f b j
+
+-- So does a change after itself, and any after none.
+laid-again : (f : Bytes → Bytes) (j : ℕ) → Laid f j → Over f f j
+laid-again f j (inl k) b x e = k .1 x ∙ sym (k .1 b)
+laid-again f j (inr k) b x e = k x ∙ e
+
+laid-local : (f : Bytes → Bytes) (j : ℕ) → Laid f j → Over f (λ b. b) j
+laid-local f j (inl k) b x e = k .1 x ∙ sym (k .1 b)
+laid-local f j (inr k) b x e = k x ∙ e ∙ sym (k b)
+
+-- The entry that is updated or cut: the size, and the first cluster if a test holds.
+pub laid-resized : (t : Bool) (k size j : ℕ) → Laid (λ b. set-size size (pick t (set-first k b) b)) j
+laid-resized t k size j =
+    laid-then (λ b. set-size size b) (λ b. pick t (set-first k b) b) j (laid-over 4 (byte-of size) 28 j)
+    (laid-if t (λ b. set-first k b) j (laid-over 2 (byte-of k) 26 j))
+
+pub laid-name : (n : Name) (j : ℕ) → Laid (λ b. set-name n b) j
+laid-name n j = laid-then (λ b. patch 8 (n .stem) 0 b) (λ b. patch 3 (n .extension) 8 b) j (laid-over 8 (byte-of (n .stem)) 0 j) (laid-over 3 (byte-of (n .extension)) 8 j)
+
+pub laid-mark : (j : ℕ) → Laid (λ b. mark-deleted b) j
+laid-mark j = laid-over 1 (byte-of 0xE5) 0 j
+
+-- A name covers the mark of a deleted slot.
+name-over : (n : Name) (j : ℕ) → Over (λ b. set-name n b) (λ b. mark-deleted b) j
+name-over n j b x e = go (less? j 1)
+  where
+    go : (j < 1) ⊎ (1 ≤ j) → set-name n x j ≡ set-name n b j
+    go (inl h) =
+        overlay-in (byte-of (n .stem)) 0 (patch 3 (n .extension) 8 x) 8 j (omega arith) (omega arith)
+        ∙ sym (overlay-in (byte-of (n .stem)) 0 (patch 3 (n .extension) 8 b) 8 j (omega arith) (omega arith))
+    go (inr h) = laid-local (λ b. set-name n b) j (laid-name n j) b x (e ∙ overlay-above (byte-of 0xE5) 0 b 1 j (omega arith))
+
+-- ---- edits
+
+pub set-in : (e : Edit) (es : List Edit) (d : Directory) (k : ℕ) → k ≡ e .slot → set-slots (e ∷ es) d k ≡ e .change (d (e .source))
+unfolding set-slots
+set-in e es d k h = rw (eq-eqb k (e .slot) h)
+
+pub set-out : (e : Edit) (es : List Edit) (d : Directory) (k : ℕ) → (k ≡ e .slot → ⊥) → set-slots (e ∷ es) d k ≡ set-slots es d k
+unfolding set-slots
+set-out e es d k h = rw (ne-eqb k (e .slot) h)
+
+-- Slot k after edits, by the first edit of it: what the edit makes of bytes b that agree with those that it reads; and by the others.
+pub edit-made : (e : Edit) (es : List Edit) (d : Directory) (k j : ℕ) (b : Bytes) → k ≡ e .slot → Laid (e .change) j → b j ≡ d (e .source) j
+    → e .change b j ≡ set-slots (e ∷ es) d k j
+edit-made e es d k j b h own same = laid-local (e .change) j own (d (e .source)) b same ∙ sym (λ t. set-in e es d k h t j)
+
+pub own-made : (s : ℕ) (f : Bytes → Bytes) (es : List Edit) (d : Directory) (k j : ℕ) (b : Bytes) → k ≡ s → Laid f j → b j ≡ d k j → f b j ≡ set-slots (edit s f ∷ es) d k j
+own-made s f es d k j b h own same = edit-made (edit s f) es d k j b h own (same ∙ ap (λ (i : ℕ). d i j) h)
+
+pub edit-past : (e : Edit) (es : List Edit) (d : Directory) (k j v : ℕ) → (k ≡ e .slot → ⊥) → v ≡ set-slots es d k j → v ≡ set-slots (e ∷ es) d k j
+edit-past e es d k j v ne h = h ∙ sym (λ t. set-out e es d k ne t j)
+
+pub edits-out : (es : List Edit) (d : Directory) (k : ℕ) → All (λ e. k ≡ e .slot → ⊥) es → set-slots es d k ≡ d k
+unfolding set-slots
+edits-out [] d k a = refl
+edits-out (e ∷ es) d k a = set-out e es d k (a .0) ∙ edits-out es d k (a .1)
+
+-- Byte j of slot k of x is as in d or as in e.
+abbrev pub Near : Directory → Directory → Directory → ℕ → ℕ → Type 0
+Near d e x k j = (x k j ≡ d k j) ⊎ (x k j ≡ e k j)
+
+-- What edit e reads has been left alone by the list, or changed by an edit of that slot's own bytes after which e makes the same.
+abbrev pub Bears : List Edit → Edit → ℕ → Type 0
+Bears [] e j = Unit {0}
+Bears (y ∷ ys) e j =
+    (e .source ≡ y .slot → (y .source ≡ e .source) × Over (e .change) (y .change) j) × ((e .source ≡ y .slot → ⊥) → Bears ys e j)
+
+-- Each edit of a list may be made again.
+abbrev pub Again : List Edit → ℕ → Type 0
+Again es j = All (λ e. Laid (e .change) j × Bears es e j) es
+
+reads-same : (es : List Edit) (e : Edit) (d x : Directory) (j : ℕ) → Laid (e .change) j → Bears es e j → Near d (set-slots es d) x (e .source) j
+    → e .change (x (e .source)) j ≡ e .change (d (e .source)) j
+unfolding set-slots
+reads-same [] e d x j own a (inl r) = laid-local (e .change) j own (d (e .source)) (x (e .source)) r
+reads-same [] e d x j own a (inr r) = laid-local (e .change) j own (d (e .source)) (x (e .source)) r
+reads-same (y ∷ ys) e d x j own a (inl r) = laid-local (e .change) j own (d (e .source)) (x (e .source)) r
+reads-same (y ∷ ys) e d x j own a (inr r) = go (same? (e .source) (y .slot)) (λ h. reads-same ys e d x j own (a .1 h))
+  where
+    go : (e .source ≡ y .slot) ⊎ (e .source ≡ y .slot → ⊥)
+        → ((e .source ≡ y .slot → ⊥) → Near d (set-slots ys d) x (e .source) j → e .change (x (e .source)) j ≡ e .change (d (e .source)) j)
+        → e .change (x (e .source)) j ≡ e .change (d (e .source)) j
+    go (inl h) rec =
+        let k = a .0 h in
+        k .1 (d (e .source)) (x (e .source)) (r ∙ (λ t. set-in y ys d (e .source) h t j) ∙ ap (λ (s : ℕ). y .change (d s) j) (k .0))
+    go (inr h) rec = rec h (inr (r ∙ (λ t. set-out y ys d (e .source) h t j)))
+
+-- Edits that make the same of a mixture and of the old directory make the new one of it.
+edits-mix : (es : List Edit) (d x : Directory) (k j : ℕ) → All (λ e. e .change (x (e .source)) j ≡ e .change (d (e .source)) j) es
+    → Near d (set-slots es d) x k j → set-slots es x k j ≡ set-slots es d k j
+unfolding set-slots
+edits-mix [] d x k j a (inl r) = r
+edits-mix [] d x k j a (inr r) = r
+edits-mix (e ∷ es) d x k j a near = go (same? k (e .slot)) (edits-mix es d x k j (a .1))
+  where
+    go : (k ≡ e .slot) ⊎ (k ≡ e .slot → ⊥) → (Near d (set-slots es d) x k j → set-slots es x k j ≡ set-slots es d k j)
+        → set-slots (e ∷ es) x k j ≡ set-slots (e ∷ es) d k j
+    go (inl h) rec = (λ t. set-in e es x k h t j) ∙ a .0 ∙ sym (λ t. set-in e es d k h t j)
+    go (inr h) rec =
+        (λ t. set-out e es x k h t j)
+        ∙ rec (⊎-elim (λ q. inl q) (λ q. inr (q ∙ (λ t. set-out e es d k h t j))) near)
+        ∙ sym (λ t. set-out e es d k h t j)
+
+all-same : (n : ℕ) (whole es : List Edit) (d x : Directory) (j : ℕ) → ((k : ℕ) → k < n → Near d (set-slots whole d) x k j)
+    → All (λ e. (e .slot < n) × (e .source < n)) es → All (λ e. Laid (e .change) j × Bears whole e j) es
+    → All (λ e. e .change (x (e .source)) j ≡ e .change (d (e .source)) j) es
+all-same n whole [] d x j near w a = tt
+all-same n whole (e ∷ es) d x j near w a =
+    (reads-same whole e d x j (a .0 .0) (a .0 .1) (near (e .source) (w .0 .1)), all-same n whole es d x j near (w .1) (a .1))
+
+-- ---- operations
+
+-- What each operation supplies: an edit of a slot's own bytes may be made again, and a rename's new name covers the old slot's mark.
+own-again : (s : ℕ) (f : Bytes → Bytes) (j : ℕ) → Laid f j → Laid f j × ((s ≡ s → (s ≡ s) × Over f f j) × ((s ≡ s → ⊥) → Unit {0}))
+own-again s f j k = (k, ((λ _. (refl, laid-again f j k)), λ _. tt))
+
+pub again : (o : Operation) (j : ℕ) → Again (edits o) j
+unfolding edits
+again (Create e) j = (own-again (e .slot) (λ b. new-entry (e .name)) j (inl (new-entry (e .name) j, λ b. refl)), tt)
+again (Update e last from size) j = (own-again (e .slot) (λ b. set-size size (pick (eqb last 0) (set-first from b) b)) j (laid-resized (eqb last 0) from size j), tt)
+again (Delete e first size) j = (own-again (e .slot) (λ b. mark-deleted b) j (laid-mark j), tt)
+again (Truncate e first from size) j = (own-again (e .slot) (λ b. set-size size (pick (eqb size 0) (set-first 0 b) b)) j (laid-resized (eqb size 0) 0 size j), tt)
+again (Rename e first size to renamed) j =
+    ((laid-mark j, ((λ _. (refl, laid-again (λ b. mark-deleted b) j (laid-mark j))), λ ne. absurd (ne refl))),
+    ((laid-name renamed j, ((λ _. (refl, name-over renamed j)), λ ne. absurd (ne refl))), tt))
+
+-- From a mixture the effect makes the new directory.
+pub effect-mix : (n : ℕ) (o : Operation) (d x : Directory) → Slots n o → (j : ℕ) → ((k : ℕ) → k < n → Near d (effect o d) x k j)
+    → (k : ℕ) → k < n → effect o x k j ≡ effect o d k j
+unfolding effect
+effect-mix n o d x w j near k less = edits-mix (edits o) d x k j (all-same n (edits o) (edits o) d x j near w (again o j)) (near k less)
+
+-- An operation that edits one slot, or two, the second made of the first.
+module _ (o : Operation) (d : Directory) where
+  pub one-in : (x : ℕ) (f : Bytes → Bytes) → edits o ≡ edit x f ∷ [] → effect o d x ≡ f (d x)
+  unfolding effect
+  one-in x f e = ap (λ es. set-slots es d x) e ∙ set-in (edit x f) [] d x refl
+
+  pub one-out : (x : ℕ) (f : Bytes → Bytes) → edits o ≡ edit x f ∷ [] → (k : ℕ) → (k ≡ x → ⊥) → effect o d k ≡ d k
+  unfolding effect set-slots
+  one-out x f e k ne = ap (λ es. set-slots es d k) e ∙ set-out (edit x f) [] d k ne
+
+  module _ (x y : ℕ) (f g : Bytes → Bytes) (e : edits o ≡ edit x f ∷ edit-from x y g ∷ []) where
+    pub two-first : effect o d x ≡ f (d x)
+    unfolding effect
+    two-first = ap (λ es. set-slots es d x) e ∙ set-in (edit x f) (edit-from x y g ∷ []) d x refl
+
+    pub two-second : (y ≡ x → ⊥) → effect o d y ≡ g (d x)
+    unfolding effect
+    two-second ne = ap (λ es. set-slots es d y) e ∙ set-out (edit x f) (edit-from x y g ∷ []) d y ne ∙ set-in (edit-from x y g) [] d y refl
+
+    pub two-out : (k : ℕ) → (k ≡ x → ⊥) → (k ≡ y → ⊥) → effect o d k ≡ d k
+    unfolding effect set-slots
+    two-out k ne other = ap (λ es. set-slots es d k) e ∙ set-out (edit x f) (edit-from x y g ∷ []) d k ne ∙ set-out (edit-from x y g) [] d k other
+
+-- A slot in a root sector that is not concerned keeps its bytes.
+edits-apart : (es : List Edit) (d : Directory) (k : ℕ) → any (map (λ e. eqb (e .slot / 16) (k / 16)) es) ≡ false → set-slots es d k ≡ d k
+unfolding set-slots any
+edits-apart [] d k h = refl
+edits-apart (e ∷ es) d k h =
+    let r = or-false (eqb (e .slot / 16) (k / 16)) (any (map (λ e. eqb (e .slot / 16) (k / 16)) es)) h in
+    set-out e es d k (λ q. eqb-false (e .slot / 16) (k / 16) (r .0) (ap (λ i. i / 16) (sym q))) ∙ edits-apart es d k (r .1)
+
+pub unconcerned : (o : Operation) (d : Directory) (k : ℕ) → concerns o (k / 16) ≡ false → effect o d k ≡ d k
+unfolding effect concerns
+unconcerned o d k h = edits-apart (edits o) d k h
+
+-- ---- root sectors
+
+-- A card each of whose root sectors is as in c or holds the new directory's slots: so are its slots, and the effect on them is the new directory.
+module _ (l : Layout) (c y : Card) (new : Directory) (whole : l .entries % 16 ≡ 0)
+    (near : (r : ℕ) → r < l .entries / 16 → (y (root-place l r) ≡ c (root-place l r)) ⊎ (y (root-place l r) ≡ clip (root-sector new r))) where
+  pub slot-near : (j : ℕ) → j < 32 → (k : ℕ) → k < l .entries → Near (slot-at l c) new (slot-at l y) k j
+  unfolding slot-at root-sector
+  slot-near j small k less =
+      let row : 16 * (k / 16) + (32 * (k % 16) + j) / 32 ≡ k = omega arith in
+      let col : (32 * (k % 16) + j) % 32 ≡ j = omega arith in
+      ⊎-elim (λ e. inl (λ t. e t (32 * (k % 16) + j)))
+      (λ e. inr ((λ t. e t (32 * (k % 16) + j)) ∙ clip-at (root-sector new (k / 16)) (32 * (k % 16) + j) (omega arith) ∙ (λ t. new (row t) (col t))))
+      (near (k / 16) (omega arith))
+
+pub sector-mix : (l : Layout) (c y : Card) (o : Operation) → l .entries % 16 ≡ 0 → Slots (l .entries) o
+    → ((r : ℕ) → r < l .entries / 16 → (y (root-place l r) ≡ c (root-place l r)) ⊎ (y (root-place l r) ≡ clip (root-sector (effect o (slot-at l c)) r)))
+    → (r : ℕ) → r < l .entries / 16 → (j : ℕ) → j < 512 → root-sector (effect o (slot-at l y)) r j ≡ root-sector (effect o (slot-at l c)) r j
+unfolding root-sector
+sector-mix l c y o whole fit near r less j small =
+    effect-mix (l .entries) o (slot-at l c) (slot-at l y) fit (j % 32) (slot-near l c y (effect o (slot-at l c)) whole near (j % 32) (omega arith)) (16 * r + j / 32) (omega arith)
