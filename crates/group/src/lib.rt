@@ -7,8 +7,8 @@ ghost use Prim.Native.Nat.{_+_, _*_, _≤_, _<_};
 ghost use lib.ListN.{length};
 ghost use Rattle.model.specs.Sector.{card-of};
 ghost use Rattle.model.specs.Root.{entry-at};
-ghost use Rattle.model.specs.Record.{r-slot, decode, group-size};
-ghost use Rattle.model.specs.Pending.{empty-from, group-ok, group-in};
+ghost use Rattle.model.specs.Record.{r-slot, decode, group-size, group-in};
+ghost use Rattle.model.specs.Pending.{empty-from, group-ok};
 
 // How many records the group has: 2 for a rename, else 1.
 pub fn group_size(log: &[u8], s: u32) -> u32
@@ -112,15 +112,15 @@ fn decode(log: &[u8], s: u32) -> Operation
     }
 }
 
-// The group in sector s of a log table that begins at sector `at` of the card.
-pub fn group_at(log: &[u8], s: u32, at: u32) -> Group
-    requires { ⌜ (512 * s + 512 ≤ length (now log)) × (at + s < 4294967296) ⌝ }
-    ensures { λ r. ⌜ r ≡ group-in (at + s) (card-of (now (log .entry)) s) ⌝ }
+// The group in sector s of a card.
+pub fn group_at(w: &[u8], s: u32) -> Group
+    requires { ⌜ 512 * s + 512 ≤ length (now w) ⌝ }
+    ensures { λ r. ⌜ r ≡ group-in s (card-of (now (w .entry)) s) ⌝ }
 {
-    let records = group_size(log, s);
-    let operation = decode(log, s);
+    let records = group_size(w, s);
+    let operation = decode(w, s);
     Group {
-        sector: at + s,
+        sector: s,
         records,
         operation,
     }

@@ -6,7 +6,7 @@ use lib.ListN.{length}
 use lib.Dec.{ltb}
 use Rattle.model.specs.Bytes.{pick}
 use Rattle.model.specs.Log.{Log}
-use Rattle.model.specs.Pending.{accepted, group-in}
+use Rattle.model.specs.Pending.{accepted}
 use Rattle.model.specs.declared.Area.{Area}
 use Rattle.model.specs.declared.Pending.{Pending}
 use Rattle.model.specs.declared.Pending.the-variants as Pending
@@ -26,4 +26,4 @@ place-of i n = pick (ltb i (16 * n)) (At (i / 16) (i % 16)) Nowhere
 -- Record i of a table, the first pending one, begins a group or records that RECORD refuses.
 unfoldable pub judged : ℕ → ℕ → Area → Log → ℕ → Pending
 judged entries z a g i =
-    pick (accepted entries z (a .sectors) g i) (Pending.Held (group-in (a .sector + i / 16) (g (i / 16)))) Pending.Broken
+    pick (accepted entries z (a .sectors) g i) (Pending.Held (a .sector + i / 16)) Pending.Broken

@@ -91,7 +91,7 @@ fn judge(log: &[u8], entries: u32, z: u32, a: Area, s: u32, r: u32) -> Pending
     if !is_alone(log, s, group::group_size(log, s)) {
         return Pending::Broken;
     }
-    Pending::Held(group::group_at(log, s, a.sector))
+    Pending::Held(a.sector + s)
 }
 
 // What is pending in a log table that lies at `a`; z is the lowest root slot beginning 0.

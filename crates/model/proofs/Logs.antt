@@ -9,7 +9,7 @@ use borrow.Author.Tests.{ltb-true}
 use Rattle.model.specs.Bytes.{Bytes, pick}
 use Rattle.model.specs.Log.{Log, unused}
 use Rattle.model.specs.Record.{pends, group-size}
-use Rattle.model.specs.Pending.{pending-at, first-pending, alone, accepted, group-in, pending-in}
+use Rattle.model.specs.Pending.{pending-at, first-pending, alone, accepted, pending-in}
 use Rattle.model.specs.declared.Area.{Area}
 use Rattle.model.specs.declared.Pending.{Pending}
 use Rattle.model.specs.declared.Pending.the-variants as Pending
@@ -48,11 +48,11 @@ pending-same entries z a g h same = rw (first-pending-same (a .sectors) g h same
     i = first-pending (a .sectors) h
 
     held : Log → Pending
-    held x = pick (accepted entries z (a .sectors) x i) (Pending.Held (group-in (a .sector + i / 16) (x (i / 16)))) Pending.Broken
+    held x = pick (accepted entries z (a .sectors) x i) (Pending.Held (a .sector + i / 16)) Pending.Broken
 
     go : (ltb i (16 * a .sectors) ≡ true) ⊎ (ltb i (16 * a .sectors) ≡ false)
         → pick (ltb i (16 * a .sectors)) (held g) Pending.Nothing ≡ pick (ltb i (16 * a .sectors)) (held h) Pending.Nothing
     go (inl e) =
         let less : i < 16 * a .sectors = ltb-true i (16 * a .sectors) e in
-        rw (e, accepted-same (a .sectors) g h same entries z i less, same (i / 16) (omega arith))
+        rw (e, accepted-same (a .sectors) g h same entries z i less)
     go (inr e) = rw e

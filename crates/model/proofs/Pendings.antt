@@ -6,22 +6,22 @@ use mathlib.Core.Logic.{_⊎_, inl, inr}
 use mathlib.Core.Bool.{Bool, true, false, _&&_, _||_, not}
 use lib.Dec.{eqb, ltb, leb}
 use lib.ListN.{length}
-use borrow.Author.Tests.{eq-eqb, lt-ltb, le-ltb, ltb-false, ltb-true, le-leb, ne-eqb}
+use borrow.Author.Tests.{eq-eqb, eqb-true, lt-ltb, le-ltb, ltb-false, ltb-true, le-leb, ne-eqb}
 use Rattle.model.specs.Bytes.{Bytes, zeros, pick, byte-of, le, overlay, patch}
 use Rattle.model.specs.Scan.{first, between}
 use Rattle.model.specs.Sector.{clip, after}
 use Rattle.model.specs.Fat.{same}
 use Rattle.model.specs.Root.{entry-at}
 use Rattle.model.specs.Log.{Log}
-use Rattle.model.specs.Record.{pends, tells, committed, record-of, encode, lay, records, group-size, record-at, r-slot, decode}
-use Rattle.model.specs.Pending.{pending-in, first-pending, pending-at, accepted, group-in, slot-ok, record-ok, pair-ok, alike, empty-from, group-ok, alone}
+use Rattle.model.specs.Record.{pends, tells, committed, record-of, encode, lay, records, group-size, record-at, r-slot, decode, group-in}
+use Rattle.model.specs.Pending.{pending-in, first-pending, pending-at, accepted, slot-ok, record-ok, pair-ok, alike, empty-from, group-ok, alone}
 use Rattle.model.specs.declared.Area.{Area}
 use Rattle.model.specs.declared.Entry.{Entry}
 use Rattle.model.specs.declared.Group.{Group}
 use Rattle.model.specs.declared.Operation.{Operation}
 use Rattle.model.specs.declared.Pending.{Pending}
 use Rattle.model.specs.declared.Operation.the-variants.{Create, Update, Delete, Truncate, Rename}
-use Rattle.model.proofs.Tests.{clash, less?, told, each-every, _also_, same?, or-right, or-left, and-both}
+use Rattle.model.proofs.Tests.{clash, less?, told, each-every, every-at, _also_, same?, or-right, or-left, and-both}
 use Rattle.model.proofs.Scan.{first-before0, first-above0, all-same, all-of, first-is0, all-of0}
 use Rattle.model.proofs.Lists.{back}
 use Rattle.model.proofs.Numbers.{read-back}
@@ -63,6 +63,11 @@ committed-quiet m b h r less =
     go (inl k) = rw (eq-eqb (32 * r % 32) 0 zero, lt-ltb (32 * r) (32 * m) (omega arith))
     go (inr k) = rw (eq-eqb (32 * r % 32) 0 zero, le-ltb (32 * r) (32 * m) (omega arith)) (sym (pends-starts b r) ∙ h r k less)
 
+-- "A group is record 0 of a sector"
+accepted-first : (entries z n : ℕ) (g : Log) (i : ℕ) → accepted entries z n g i ≡ true → i % 16 ≡ 0
+unfolding accepted
+accepted-first entries z n g i h = eqb-true (i % 16) 0 (every-at _ h 0)
+
 module _ (entries z : ℕ) (a : Area) (g : Log) where
   -- Where nothing is pending no record is,
   pub calm-quiet : pending-in entries z a g ≡ Pending.Nothing → (i : ℕ) → i < a .sectors → Quiet (g i)
@@ -72,7 +77,7 @@ module _ (entries z : ℕ) (a : Area) (g : Log) where
       let col : (16 * i + r) % 16 ≡ r = omega arith in
       rw (row, col) at (first-before0 (pending-at g) (16 * a .sectors) (16 * i + r) (let past = go (told (ltb (first (pending-at g) (16 * a .sectors)) (16 * a .sectors))) in omega arith))
     where
-      never : (t : Bool) (x : Group) → pick t (Pending.Held x) Pending.Broken ≡ Pending.Nothing → ⊥
+      never : (t : Bool) (x : ℕ) → pick t (Pending.Held x) Pending.Broken ≡ Pending.Nothing → ⊥
       never true x e = let z : _≡_ {A = ℕ} 0 1 = cc in omega arith
       never false x e = let z : _≡_ {A = ℕ} 0 1 = cc in omega arith
 
@@ -80,7 +85,7 @@ module _ (entries z : ℕ) (a : Area) (g : Log) where
           → 16 * a .sectors ≤ first (pending-at g) (16 * a .sectors)
       go (inl e) =
           let j : ℕ = first (pending-at g) (16 * a .sectors) in
-          absurd (never (accepted entries z (a .sectors) g j) (group-in (a .sector + j / 16) (g (j / 16))) (rw e at h))
+          absurd (never (accepted entries z (a .sectors) g j) (a .sector + j / 16) (rw e at h))
       go (inr e) = ltb-false (first (pending-at g) (16 * a .sectors)) (16 * a .sectors) e
 
   -- and where no record is pending nothing is.
@@ -92,19 +97,26 @@ module _ (entries z : ℕ) (a : Area) (g : Log) where
       rw (le-ltb (first (pending-at g) (16 * a .sectors)) (16 * a .sectors) past)
 
   -- A pending group stands in a sector of the log.
-  pub group-place : (x : Group) → pending-in entries z a g ≡ Pending.Held x → (i : ℕ) × (i < a .sectors) × (x .sector ≡ a .sector + i)
-  unfolding pending-in group-in
+  pub group-place : (x : ℕ) → pending-in entries z a g ≡ Pending.Held x → (i : ℕ) × (i < a .sectors) × (x ≡ a .sector + i) × (accepted entries z (a .sectors) g (16 * i) ≡ true)
+  unfolding pending-in
   group-place x h = go (told (ltb j (16 * a .sectors)))
     where
       j : ℕ
       j = first-pending (a .sectors) g
 
-      here : (t : Bool) → pick t (Pending.Held (group-in (a .sector + j / 16) (g (j / 16)))) Pending.Broken ≡ Pending.Held x → x .sector ≡ a .sector + j / 16
-      here true e = let r : group-in (a .sector + j / 16) (g (j / 16)) ≡ x = cc in ap (λ y. y .sector) (sym r)
-      here false e = let z : _≡_ {A = ℕ} 0 1 = cc in absurd (omega arith)
+      here : (t : Bool) → accepted entries z (a .sectors) g j ≡ t → pick t (Pending.Held (a .sector + j / 16)) Pending.Broken ≡ Pending.Held x
+          → (x ≡ a .sector + j / 16) × (accepted entries z (a .sectors) g j ≡ true)
+      here true q e = let r : a .sector + j / 16 ≡ x = cc in (sym r, q)
+      here false q e = let z : _≡_ {A = ℕ} 0 1 = cc in absurd (omega arith)
 
-      go : (ltb j (16 * a .sectors) ≡ true) ⊎ (ltb j (16 * a .sectors) ≡ false) → (i : ℕ) × (i < a .sectors) × (x .sector ≡ a .sector + i)
-      go (inl e) = let less : j < 16 * a .sectors = ltb-true j (16 * a .sectors) e in (j / 16, omega arith, here (accepted entries z (a .sectors) g j) (rw e at h))
+      go : (ltb j (16 * a .sectors) ≡ true) ⊎ (ltb j (16 * a .sectors) ≡ false)
+          → (i : ℕ) × (i < a .sectors) × (x ≡ a .sector + i) × (accepted entries z (a .sectors) g (16 * i) ≡ true)
+      go (inl e) =
+          let less : j < 16 * a .sectors = ltb-true j (16 * a .sectors) e in
+          let k = here (accepted entries z (a .sectors) g j) refl (rw e at h) in
+          let zero : j % 16 ≡ 0 = accepted-first entries z (a .sectors) g j (k .1) in
+          let at : j ≡ 16 * (j / 16) = omega arith in
+          (j / 16, omega arith, k .0, ap (λ (i : ℕ). accepted entries z (a .sectors) g i) (sym at) ∙ k .1)
       go (inr e) = let r : Pending.Nothing ≡ Pending.Held x = rw e at h in let z : _≡_ {A = ℕ} 0 1 = cc in absurd (omega arith)
 
 -- ---- a group
@@ -204,7 +216,7 @@ named-pends (Rename e k size to renamed) h = h
 abbrev pub group-of : ℕ → Operation → Group
 group-of s o = record { sector = s; records = length (records o); operation = o }
 
-group-read : (s : ℕ) (o : Operation) → Fits o → group-in s (clip (encode o)) ≡ group-of s o
+pub group-read : (s : ℕ) (o : Operation) → Fits o → group-in s (clip (encode o)) ≡ group-of s o
 unfolding group-in group-size decode entry-at le
 group-read s o h = λ i. record { sector = s; records = size-encode o i; operation = decode-encode o h i }
 
@@ -256,10 +268,10 @@ module _ (entries z : ℕ) (a : Area) (g : Log) (u : ℕ) (o : Operation) (h : S
       let here : g (16 * u / 16) ≡ clip (encode o) = ap g back ∙ h .bytes in
       rw here (each-every _ (eq-eqb (16 * u % 16) 0 (omega arith) also clip-ok entries z (encode o) ∙ group-fine entries z o fits fine also sizes also tt))
 
-  -- What is pending is the group.
-  pub pending-is : pending-in entries z a g ≡ Pending.Held (group-of (a .sector + u) o)
+  -- What is pending is the group in that sector.
+  pub pending-is : pending-in entries z a g ≡ Pending.Held (a .sector + u)
   unfolding pending-in
   pending-is =
       let less : u < a .sectors = h .in-log in
       let back : 16 * u / 16 ≡ u = omega arith in
-      rw (found-at, lt-ltb (16 * u) (16 * a .sectors) (omega arith), accepted-at, back, h .bytes, group-read (a .sector + u) o fits)
+      rw (found-at, lt-ltb (16 * u) (16 * a .sectors) (omega arith), accepted-at, back)

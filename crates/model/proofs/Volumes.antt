@@ -121,7 +121,7 @@ pub record Clean (size : ℕ) (c : Card) : Type 0 where
 calm-is : (p : Pending) → is-broken p ≡ false → is-held p ≡ false → p ≡ Pending.Nothing
 calm-is Pending.Nothing b h = refl
 calm-is Pending.Broken b h = clash refl b
-calm-is (Pending.Held g) b h = clash refl h
+calm-is (Pending.Held s) b h = clash refl h
 
 settles : (c : Card) (u v : Volume) → settled c u ≡ granted v → (is-held (u .pending) ≡ false) × (fats-agree (u .layout) c ≡ true) × (v ≡ u)
 unfolding settled

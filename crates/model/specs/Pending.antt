@@ -8,10 +8,9 @@ use Rattle.model.specs.Scan.{every, between, first, all, all-from}
 use Rattle.model.specs.Sector.{Card}
 use Rattle.model.specs.Root.{attributes, first-bytes, end-slot}
 use Rattle.model.specs.Log.{Log, log-of}
-use Rattle.model.specs.Record.{r-count, r-number, r-directory, r-slot, r-high, r-from, r-cluster, r-size, record-at, decode, group-size, pends}
+use Rattle.model.specs.Record.{r-count, r-number, r-directory, r-slot, r-high, r-from, r-cluster, r-size, record-at, group-size, pends}
 use Rattle.model.specs.declared.Layout.{Layout}
 use Rattle.model.specs.declared.Area.{Area}
-use Rattle.model.specs.declared.Group.{Group}
 use Rattle.model.specs.declared.Pending.{Pending}
 use Rattle.model.specs.declared.Pending.the-variants as Pending
 
@@ -66,15 +65,11 @@ accepted entries z n g i =
     let b = g (i / 16) in
     every (eqb (i % 16) 0 ∷ group-ok entries z b ∷ alone n g i (group-size b) ∷ [])
 
--- The group in a log sector.
-unfoldable pub group-in : ℕ → Bytes → Group
-group-in s b = record { sector = s; records = group-size b; operation = decode b }
-
--- What the log table g of an area tells: nothing pending, a group, or records that RECORD refuses.
+-- What the log table g of an area tells: nothing pending, the sector of a group, or records that RECORD refuses.
 unfoldable pub pending-in : ℕ → ℕ → Area → Log → Pending
 pending-in entries z a g =
     let i = first-pending (a .sectors) g in
-    let held = pick (accepted entries z (a .sectors) g i) (Pending.Held (group-in (a .sector + i / 16) (g (i / 16)))) Pending.Broken in
+    let held = pick (accepted entries z (a .sectors) g i) (Pending.Held (a .sector + i / 16)) Pending.Broken in
     pick (ltb i (16 * a .sectors)) held Pending.Nothing
 
 unfoldable pub pending : Layout → Area → Card → Pending
@@ -83,9 +78,9 @@ pending l a c = pending-in (l .entries) (end-slot (l .entries) (first-bytes l c)
 abbrev pub is-broken : Pending → Bool
 is-broken Pending.Nothing = false
 is-broken Pending.Broken = true
-is-broken (Pending.Held g) = false
+is-broken (Pending.Held s) = false
 
 abbrev pub is-held : Pending → Bool
 is-held Pending.Nothing = false
 is-held Pending.Broken = false
-is-held (Pending.Held g) = true
+is-held (Pending.Held s) = true

@@ -88,6 +88,10 @@ decode b =
 unfoldable pub group-size : Bytes → ℕ
 group-size b = pick (eqb (r-number b) 5) 2 1
 
+-- The group in a log sector.
+unfoldable pub group-in : ℕ → Bytes → Group
+group-in s b = record { sector = s; records = group-size b; operation = decode b }
+
 -- "First byte 0 is an unused record, 0xE5 a committed one, anything else pending." Record r of a sector tells something; it is
 -- pending.
 unfoldable pub tells : Bytes → ℕ → Bool

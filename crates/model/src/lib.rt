@@ -103,11 +103,11 @@ pub struct Group {
     pub operation: Operation,
 }
 
-// What is pending in the log.
+// What is pending in the log: nothing, records that are no group, or the group in a sector.
 pub enum Pending {
     Nothing,
     Broken,
-    Held(Group),
+    Held(u32),
 }
 
 // A card that passes grounds 1 to 6.

@@ -10,7 +10,7 @@ use Rattle.model.specs.Fat.{Fat, entry, fat1-of, fat2-of, free-clusters, link, 
 use Rattle.model.specs.Chain.{needed, chain, file-sector}
 use Rattle.model.specs.Root.{free-slot}
 use Rattle.model.specs.Log.{Log, log-of, unused}
-use Rattle.model.specs.Record.{records, encode}
+use Rattle.model.specs.Record.{records, encode, group-in}
 use Rattle.model.specs.declared.Layout.{Layout}
 use Rattle.model.specs.declared.Area.{Area}
 use Rattle.model.specs.declared.Name.{Name}
@@ -136,4 +136,4 @@ rename-stores v c f name =
 unfoldable pub recover-stores : Layout → Card → Pending → Program
 recover-stores l c Pending.Nothing = ending (write-fat l (l .fat2) (fat1-of l c) (fat2-of l c))
 recover-stores l c Pending.Broken = ending []
-recover-stores l c (Pending.Held g) = redo l g c
+recover-stores l c (Pending.Held s) = redo l (group-in s (c s)) c

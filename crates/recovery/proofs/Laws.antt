@@ -1,7 +1,7 @@
 -- A pending group that RECORD accepts can be redone: its slots are the root's, its sector is the log's.
 use Prim.Native.Nat.{ℕ, _+_, _*_, _/_, _≤_, _<_}
 use native.Mathlib.Omega.{arith}
-use mathlib.Core.Path.{_≡_, refl, sym, ap, subst}
+use mathlib.Core.Path.{_≡_, sym, ap, _∙_, subst}
 use mathlib.Core.Logic.{_⊎_, inl, inr}
 use mathlib.Core.Bool.{Bool, true, false}
 use mathlib.Core.List.{List}
@@ -13,8 +13,8 @@ use Rattle.model.specs.Scan.{between}
 use Rattle.model.specs.Sector.{Card, Window, card-of}
 use Rattle.model.specs.Root.{first-bytes, end-slot, entry-at}
 use Rattle.model.specs.Log.{Log, log-of}
-use Rattle.model.specs.Record.{decode, group-size, record-at, r-slot, r-number}
-use Rattle.model.specs.Pending.{pending-in, pending, first-pending, accepted, group-in, group-ok, record-ok, pair-ok, slot-ok}
+use Rattle.model.specs.Record.{decode, group-size, group-in, record-at, r-slot, r-number}
+use Rattle.model.specs.Pending.{pending, accepted, group-ok, record-ok, pair-ok, slot-ok}
 use Rattle.model.specs.Ground.{refused, granted, _>>=_}
 use Rattle.model.specs.Volume.{examine}
 use Rattle.model.specs.declared.Area.{Area}
@@ -25,6 +25,7 @@ use Rattle.model.specs.declared.Pending.{Pending}
 use Rattle.model.specs.declared.Volume.{Volume}
 use Rattle.model.specs.declared.Pending.the-variants as Pending
 use Rattle.model.proofs.Tests.{told, every-at, and-left, by-pick, between-true}
+use Rattle.model.proofs.Pendings.{group-place}
 use Rattle.model.proofs.Volumes.{examined}
 use Rattle.operations.specs.Plan.{recover-stores}
 use Rattle.operations.specs.Calls.{recover}
@@ -33,31 +34,10 @@ use Rattle.recovery.specs.Found.{Found}
 
 -- ---- RECORD
 
-group-of : (entries z n : ℕ) (g : Log) (j : ℕ) → accepted entries z n g j ≡ true → group-ok entries z (g (j / 16)) ≡ true
-unfolding accepted
-group-of entries z n g j h = every-at _ h 1
-
 -- The sector of a pending group, which RECORD has accepted.
-pub held-in : (entries z : ℕ) (a : Area) (g : Log) (x : Group) → pending-in entries z a g ≡ Pending.Held x
-    → (i : ℕ) × (i < a .sectors) × (group-ok entries z (g i) ≡ true) × (x ≡ group-in (a .sector + i) (g i))
-unfolding pending-in
-held-in entries z a g x h = go (told (ltb j (16 * a .sectors)))
-  where
-    j : ℕ
-    j = first-pending (a .sectors) g
-
-    here : (t : Bool) → accepted entries z (a .sectors) g j ≡ t → pick t (Pending.Held (group-in (a .sector + j / 16) (g (j / 16)))) Pending.Broken ≡ Pending.Held x
-        → (accepted entries z (a .sectors) g j ≡ true) × (x ≡ group-in (a .sector + j / 16) (g (j / 16)))
-    here true q e = let r : group-in (a .sector + j / 16) (g (j / 16)) ≡ x = cc in (q, sym r)
-    here false q e = let z : _≡_ {A = ℕ} 0 1 = cc in absurd (omega arith)
-
-    go : (ltb j (16 * a .sectors) ≡ true) ⊎ (ltb j (16 * a .sectors) ≡ false)
-        → (i : ℕ) × (i < a .sectors) × (group-ok entries z (g i) ≡ true) × (x ≡ group-in (a .sector + i) (g i))
-    go (inl e) =
-        let less : j < 16 * a .sectors = ltb-true j (16 * a .sectors) e in
-        let k = here (accepted entries z (a .sectors) g j) refl (rw e at h) in
-        (j / 16, omega arith, group-of entries z (a .sectors) g j (k .0), k .1)
-    go (inr e) = let r : Pending.Nothing ≡ Pending.Held x = rw e at h in let z : _≡_ {A = ℕ} 0 1 = cc in absurd (omega arith)
+held-ok : (entries z n : ℕ) (g : Log) (i : ℕ) → accepted entries z n g (16 * i) ≡ true → group-ok entries z (g i) ≡ true
+unfolding accepted
+held-ok entries z n g i h = let back : 16 * i / 16 ≡ i = omega arith in ap (λ (s : ℕ). group-ok entries z (g s)) (sym back) ∙ every-at _ h 1
 
 -- The slots of an accepted group are below the root entries.
 slot-below : (n z s : ℕ) → slot-ok n z s ≡ true → s < n
@@ -113,21 +93,37 @@ pub record Redoable (v : Volume) (g : Group) : Type 0 where
   pub high : g .sector < v .layout .total
   pub few : g .records ≤ 16
 
-pub redoable : (v : Volume) (xs : List ℕ) → Found v xs → (g : Group) → v .pending ≡ Pending.Held g → Redoable v g
-unfolding pending group-in
-redoable v xs h g held =
-    let c : Card = card-of xs in
-    let e = examined (length xs) c v (h .passes) .1 in
-    let p : pending (v .layout) (v .log) c ≡ Pending.Held g = subst (λ (u : Volume). u .pending ≡ Pending.Held g → pending (u .layout) (u .log) c ≡ Pending.Held g) (sym e) (λ q. q) held in
-    let i = held-in (v .layout .entries) (end-slot (v .layout .entries) (first-bytes (v .layout) c)) (v .log) (log-of (v .log) c) g p in
-    let b : Bytes = log-of (v .log) c (i .0) in
-    let at : g .sector ≡ v .log .sector + i .0 = ap (λ (x : Group). x .sector) (i .3) in
-    record {
-      slots = subst (λ (x : Group). Slots (v .layout .entries) (x .operation)) (sym (i .3)) (group-slots (v .layout .entries) (end-slot (v .layout .entries) (first-bytes (v .layout) c)) b (i .2));
-      low = omega (arith, h .lies .above);
-      high = omega (arith, h .lies .inside, i .1);
-      few = subst (λ (x : Group). x .records ≤ 16) (sym (i .3)) (group-few b);
-    }
+-- The group in sector s, which is pending.
+module _ (v : Volume) (xs : List ℕ) (h : Found v xs) (s : ℕ) (held : v .pending ≡ Pending.Held s) where
+  abbrev z : ℕ
+  z = end-slot (v .layout .entries) (first-bytes (v .layout) (card-of xs))
+
+  place : (i : ℕ) × (i < v .log .sectors) × (s ≡ v .log .sector + i) × (accepted (v .layout .entries) z (v .log .sectors) (log-of (v .log) (card-of xs)) (16 * i) ≡ true)
+  unfolding pending
+  place =
+      let e = examined (length xs) (card-of xs) v (h .passes) .1 in
+      let p : pending (v .layout) (v .log) (card-of xs) ≡ Pending.Held s =
+      subst (λ (u : Volume). u .pending ≡ Pending.Held s → pending (u .layout) (u .log) (card-of xs) ≡ Pending.Held s) (sym e) (λ q. q) held in
+      group-place (v .layout .entries) z (v .log) (log-of (v .log) (card-of xs)) s p
+
+  pub sector-low : v .layout .start ≤ s
+  sector-low = omega (arith, h .lies .above, place .2)
+
+  pub sector-high : s < v .layout .total
+  sector-high = omega (arith, h .lies .inside, place .1, place .2)
+
+  pub redoable : Redoable v (group-in s (card-of xs s))
+  unfolding group-in
+  redoable =
+      let b : Bytes = log-of (v .log) (card-of xs) (place .0) in
+      let at : b ≡ card-of xs s = ap (card-of xs) (sym (place .2)) in
+      let ok = held-ok (v .layout .entries) z (v .log .sectors) (log-of (v .log) (card-of xs)) (place .0) (place .3) in
+      record {
+        slots = subst (λ (x : Bytes). Slots (v .layout .entries) (decode x)) at (group-slots (v .layout .entries) z b ok);
+        low = sector-low;
+        high = sector-high;
+        few = group-few (card-of xs s);
+      }
 
 module _ (w : Window) where
   pub recover-refused : (g : Ground) → examine w ≡ refused g → recover w ≡ refused g

@@ -20,7 +20,10 @@ fn recover_on(w: &mut [u8], v: Volume, limit: u32) -> Outcome
     match p {
         Pending::Nothing => operate::ended(mirror::to_fat2(w, l, limit)),
         Pending::Broken => Outcome::Done(0),
-        Pending::Held(g) => operate::ended(redo::redo(w, l, g, limit)),
+        Pending::Held(s) => {
+            let g = group::group_at(w, s);
+            operate::ended(redo::redo(w, l, g, limit))
+        }
     }
 }
 

@@ -15,7 +15,7 @@ use Rattle.model.specs.Sector.{Card, Window, Store, after, put}
 use Rattle.model.specs.Fat.{Fat, fat1-of, fat2-of, set-entry, set-wide-entry, link, release}
 use Rattle.model.specs.Chain.{file-sector}
 use Rattle.model.specs.Root.{Directory, slot-at}
-use Rattle.model.specs.Record.{record-of, records, lay, encode, committed, commit}
+use Rattle.model.specs.Record.{record-of, records, lay, encode, committed, commit, group-in}
 use Rattle.model.specs.Ground.{Answer, refused, granted}
 use Rattle.model.specs.Volume.{clean, examine}
 use Rattle.model.specs.declared.Entry.{Entry}
@@ -244,7 +244,8 @@ recover-small : (l : Layout) (x : Card) (p : Pending) → SmallCard x → All Sm
 unfolding recover-stores redo commit root-sector slot-at
 recover-small l x Pending.Nothing h = write-all l (l .fat2) (fat1-of l x) (fat2-of l x) SmallStore (λ s less j. h (l .fat1 + s) (j % 512))
 recover-small l x Pending.Broken h = tt
-recover-small l x (Pending.Held g) h =
+recover-small l x (Pending.Held n) h =
+    let g : Group = group-in n (x n) in
     let rest : All SmallStore (finish l (g .operation) x) = finish-all l (g .operation) x SmallStore (λ s less j. h _ (j % 512))
     (λ r less j. effect-small (g .operation) (slot-at l x) (λ k i. h _ (32 * (k % 16) + i)) (16 * r + j % 512 / 32) (j % 512 % 32)) in
     let mark : SmallStore (commit x g) = λ j. committed-small (g .records) (x (g .sector)) (h (g .sector)) (j % 512) in

@@ -6,11 +6,12 @@ use Rattle.model.specs.Sector.{Card}
 use Rattle.model.specs.Fat.{fat1-of, fat2-of, same}
 use Rattle.model.specs.Root.{end-slot, first-bytes}
 use Rattle.model.specs.Log.{log-of}
-use Rattle.model.specs.Record.{commit}
+use Rattle.model.specs.Record.{commit, group-in}
 use Rattle.model.specs.Pending.{pending}
 use Rattle.model.specs.Ground.{granted}
 use Rattle.model.specs.Volume.{examine}
 use Rattle.model.specs.Promises.{Shape}
+use Rattle.model.specs.declared.Group.{Group}
 use Rattle.model.specs.declared.Layout.{Layout}
 use Rattle.model.specs.declared.Pending.{Pending}
 use Rattle.operations.specs.Program.{stores}
@@ -36,13 +37,14 @@ module _ (size : ℕ) (c : Card) (h : Examined size c) where
   sh = fit-shape size c (h .fit)
 
   pub recovery-inside : (p : Pending) → pending-of c ≡ p → All (Inside c) (stores (recover-stores l c p))
-  unfolding recover-stores redo commit pending
+  unfolding recover-stores redo commit pending group-in
   recovery-inside Pending.Nothing e = write-all l (l .fat2) (fat1-of l c) (fat2-of l c) (Inside c) (λ s less. omega (arith, sh))
   recovery-inside Pending.Broken e = tt
-  recovery-inside (Pending.Held g) e =
-      let p = group-place (l .entries) (end-slot (l .entries) (first-bytes l c)) (area-of c) (log-of (area-of c) c) g e in
+  recovery-inside (Pending.Held n) e =
+      let g : Group = group-in n (c n) in
+      let p = group-place (l .entries) (end-slot (l .entries) (first-bytes l c)) (area-of c) (log-of (area-of c) c) n e in
       let less : p .0 < area-of c .sectors = p .1 in
-      let at : g .sector ≡ area-of c .sector + p .0 = p .2 in
+      let at : n ≡ area-of c .sector + p .0 = p .2 in
       all-append (Inside c) (finish l (g .operation) c) _ (finish-all l (g .operation) c (Inside c) (λ s less. omega (arith, sh)) (λ r less. omega (arith, sh))) (omega (arith, area-high l (first-fat c) sh), tt)
 
 pub recovery-within : RecoveryWithin

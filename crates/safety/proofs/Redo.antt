@@ -11,12 +11,13 @@ use Rattle.model.specs.Sector.{Card, store, put, clip}
 use Rattle.model.specs.Fat.{is-reserved, fat1-of, fat2-of}
 use Rattle.model.specs.Root.{first-bytes, slot-at, end-slot, root-place, root-ok}
 use Rattle.model.specs.Log.{log-of}
-use Rattle.model.specs.Record.{commit, committed, records, encode}
+use Rattle.model.specs.Record.{commit, committed, records, encode, group-in}
 use Rattle.model.specs.Pending.{pending}
 use Rattle.model.specs.Ground.{granted}
 use Rattle.model.specs.Volume.{clean}
 use Rattle.model.specs.Promises.{Shape}
 use Rattle.model.specs.declared.Area.{Area}
+use Rattle.model.specs.declared.Group.{Group}
 use Rattle.model.specs.declared.Layout.{Layout}
 use Rattle.model.specs.declared.Operation.{Operation}
 use Rattle.model.specs.declared.Pending.{Pending}
@@ -27,7 +28,7 @@ use Rattle.safety.specs.Cuts.{recovery}
 use Rattle.model.proofs.Cards.{put-out, put-case, clip-clip}
 use Rattle.model.proofs.Fats.{entry-same, write-none, agree-of}
 use Rattle.model.proofs.Order.{Ordered, ordered-end, ordered-ok, ordered-same}
-use Rattle.model.proofs.Pendings.{Stored, Quiet, Recorded, recorded-up, pending-is, committed-quiet, rest-quiet, quiet-calm}
+use Rattle.model.proofs.Pendings.{Stored, Quiet, Recorded, recorded-up, pending-is, group-read, committed-quiet, rest-quiet, quiet-calm}
 use Rattle.model.proofs.Volumes.{layout-of, area-of, Alike, first-fat, window, volume-of, clean-same}
 use Rattle.safety.proofs.Journal.{Forth, idle}
 use Rattle.safety.proofs.Start.{Start, shape-of, Fixed, root-order, log-low, recovery-is, marks-same, slots-same, fatsize-few, entries-few}
@@ -97,8 +98,9 @@ module _ {size : ℕ} {c : Card} (st : Start size c) {u : Card} {i : ℕ} {o : O
     says : recovery size y ≡ granted (segment (finish l o y) (commit u (grp st h)) (ending []))
     unfolding recover-stores redo pending commit
     says =
-        recovery-is st y mixed-alike (Pending.Held (grp st h)) (ordered-ok (l .entries) (first-bytes l y) z mixed-order)
+        recovery-is st y mixed-alike (Pending.Held (log .sector + i)) (ordered-ok (l .entries) (first-bytes l y) z mixed-order)
         (pending-is (l .entries) _ log (log-of log y) i o mixed-stored (h .named) (h .fits) later-slot) refl
+        ∙ ap (λ (g : Group). granted (redo l g y)) (ap (group-in (log .sector + i)) (log-kept i ∙ h .stored .bytes) ∙ group-read (log .sector + i) o (h .fits))
         ∙ ap (λ (b : Bytes). granted (segment (finish l o y) (store (log .sector + i) (committed (length (records o)) b)) (ending []))) (log-kept i)
 
   pub goes-forth : (y : Card) → Mixed st h y → Forth size (Mixed st h) (complete st h) (commit u (grp st h)) y

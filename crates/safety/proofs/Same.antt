@@ -70,7 +70,7 @@ calm-by : (l : Layout) (y : Card) (p : Pending) → is-broken p ≡ false → gr
 unfolding recover-stores redo
 calm-by l y Pending.Nothing b h = refl
 calm-by l y Pending.Broken b h = clash refl b
-calm-by l y (Pending.Held g) b h = let z : _≡_ {A = ℕ} 0 1 = cc in absurd (omega arith)
+calm-by l y (Pending.Held n) b h = let z : _≡_ {A = ℕ} 0 1 = cc in absurd (omega arith)
 
 rests-calm : (size : ℕ) (y : Card) → recovery size y ≡ idle → pending-of y ≡ Pending.Nothing
 unfolding plan recover

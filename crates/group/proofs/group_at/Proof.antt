@@ -1,5 +1,4 @@
-use Rattle.model.specs.Record.{decode, group-size}
-use Rattle.model.specs.Pending.{group-in}
+use Rattle.model.specs.Record.{decode, group-size, group-in}
 use borrow.Author.Needs.{needs}
 use Rattle.group.proofs.group_at.Statement.{statement}
 use Rattle.group.proofs.group_at.Tie as tie
@@ -10,12 +9,9 @@ group-size-requires c κs = search needs
 decode-requires : tie.Need-decode-requires
 decode-requires c κs = search needs
 
-add-t6 : tie.Need-add-t6
-add-t6 c = search needs
-
 returns : tie.Need-returns
 unfolding group-in
 returns c = rw (c .before .group-size .ensures .0, c .decode .ensures)
 
 pub group-at-spec : {M : Type 1} → statement M
-group-at-spec = tie.close (tie.spec group-size-requires decode-requires add-t6 returns)
+group-at-spec = tie.close (tie.spec group-size-requires decode-requires returns)

@@ -54,8 +54,8 @@ returns-3 c =
       sym (c .before .is-alone .ensures) ∙ not-true _ (c .if3 .taken),
     )
 
-group-at-requires : tie.Need-group-at-requires
-group-at-requires c κs = search needs
+add-t9 : tie.Need-add-t9
+add-t9 c = search needs
 
 returns-4 : tie.Need-returns-4
 returns-4 c =
@@ -71,7 +71,6 @@ returns-4 c =
       ← n,
       sym (c .before .before .is-alone .ensures)
           ∙ not-false _ (c .before .if3 .left),
-      c .group-at .ensures,
     )
 
 pub judge-spec : {M : Type 1} → statement M
@@ -84,5 +83,5 @@ judge-spec =
     group-size-requires
     is-alone-requires
     returns-3
-    group-at-requires
+    add-t9
     returns-4)
