@@ -6,19 +6,35 @@ ghost use mathlib.Core.Path.{_≡_};
 ghost use Prim.Native.Nat.{_+_, _*_, _≤_, _<_};
 ghost use lib.ListN.{length};
 ghost use Rattle.model.specs.Sector.{card-of};
-ghost use Rattle.model.specs.Root.{entry-at};
-ghost use Rattle.model.specs.Record.{r-slot, decode, group-size, group-in};
+ghost use Rattle.model.specs.Scan.{all};
+ghost use Rattle.model.specs.Record.{record-at, operation-of, group-size, group-in, pends};
 ghost use Rattle.model.specs.Pending.{empty-from, group-ok};
 
 // How many records the group has: 2 for a rename, else 1.
 pub fn group_size(log: &[u8], s: u32) -> u32
     requires { ⌜ 512 * s + 512 ≤ length (now log) ⌝ }
-    ensures { λ r. ⌜ (r ≡ group-size (card-of (now (log .entry)) s)) × (1 ≤ r) × (r ≤ 2) ⌝ }
+    ensures { λ r. ⌜ (r ≡ group-size (record-at (card-of (now (log .entry)) s))) × (1 ≤ r) × (r ≤ 16) ⌝ }
 {
-    if sector::byte(log, s, 13) == 5 {
+    let r = record::load(log, s, 0);
+    if r.number == 5 {
         return 2;
     }
     1
+}
+
+// Whether the first m records of the sector are pending.
+fn all_pend(log: &[u8], s: u32, m: u32) -> bool
+    requires { ⌜ (512 * s + 512 ≤ length (now log)) × (m ≤ 16) ⌝ }
+    ensures { λ r. ⌜ r ≡ all (pends (card-of (now (log .entry)) s)) m ⌝ }
+{
+    let mut k = 0;
+    while k < m {
+        if !record::pends(log, s, k) {
+            return false;
+        }
+        k += 1;
+    }
+    true
 }
 
 // Whether the sector has no byte but zero from an offset on.
@@ -41,71 +57,56 @@ pub fn group_ok(log: &[u8], s: u32, entries: u32, z: u32) -> bool
     requires { ⌜ 512 * s + 512 ≤ length (now log) ⌝ }
     ensures { λ r. ⌜ r ≡ group-ok entries z (card-of (now (log .entry)) s) ⌝ }
 {
-    if !record::record_ok(log, s, entries, z) {
+    if !record::records_ok(log, s, entries, z) {
         return false;
     }
     let m = group_size(log, s);
-    if m == 1 {
-        return is_empty(log, s, 32);
-    }
-    if !record::pair_ok(log, s, entries, z) {
+    if !all_pend(log, s, m) {
         return false;
     }
     is_empty(log, s, 32 * m)
 }
 
-// The entry that record 0 tells of.
-fn entry_of(log: &[u8], s: u32) -> Entry
-    requires { ⌜ 512 * s + 512 ≤ length (now log) ⌝ }
-    ensures { λ r. ⌜ r ≡ entry-at (r-slot (card-of (now (log .entry)) s)) (card-of (now (log .entry)) s) ⌝ }
-{
-    let slot = sector::le16(log, s, 18);
-    let name = names::name_at(log, s, 0);
-    let attributes = sector::byte(log, s, 11);
-    Entry {
-        slot,
-        name,
-        attributes,
-    }
-}
-
 // The operation that the records tell of.
 fn decode(log: &[u8], s: u32) -> Operation
     requires { ⌜ 512 * s + 512 ≤ length (now log) ⌝ }
-    ensures { λ r. ⌜ r ≡ decode (card-of (now (log .entry)) s) ⌝ }
+    ensures { λ r. ⌜ r ≡ operation-of (record-at (card-of (now (log .entry)) s)) ⌝ }
 {
-    let entry = entry_of(log, s);
-    let number = sector::byte(log, s, 13);
-    let from = sector::le32(log, s, 22);
-    let cluster = sector::le16(log, s, 26);
-    let size = sector::le32(log, s, 28);
+    let r = record::load(log, s, 0);
+    let name = r.name;
+    let entry = Entry {
+        slot: r.slot,
+        name,
+        attributes: r.attributes,
+    };
+    let number = r.number;
     match number {
         1 => Operation::Create { entry },
         2 => Operation::Update {
             entry,
-            last: cluster,
-            from,
-            size,
+            last: r.cluster,
+            from: r.from,
+            size: r.size,
         },
         3 => Operation::Delete {
             entry,
-            first: cluster,
-            size,
+            first: r.cluster,
+            size: r.size,
         },
         4 => Operation::Truncate {
             entry,
-            first: cluster,
-            from,
-            size,
+            first: r.cluster,
+            from: r.from,
+            size: r.size,
         },
         _ => {
-            let to = sector::le16(log, s, 50);
-            let renamed = names::name_at(log, s, 32);
+            let d = record::load(log, s, 1);
+            let renamed = d.name;
             Operation::Rename {
                 entry,
-                first: cluster,
-                size,
-                to,
+                first: r.cluster,
+                size: r.size,
+                to: d.slot,
                 renamed,
             }
         }

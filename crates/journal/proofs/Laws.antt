@@ -12,7 +12,7 @@ use Rattle.model.specs.Bytes.{pick}
 use Rattle.model.specs.Scan.{every, all-from, first-from}
 use Rattle.model.specs.Sector.{card-of}
 use Rattle.model.specs.Log.{Log, log-of}
-use Rattle.model.specs.Record.{pends, group-size}
+use Rattle.model.specs.Record.{pends, record-at, group-size}
 use Rattle.model.specs.Pending.{pending-at, first-pending, group-ok, alone, accepted, pending-in}
 use Rattle.model.specs.declared.Area.{Area}
 use Rattle.model.specs.declared.Pending.{Pending}
@@ -119,7 +119,7 @@ module _ (n : ℕ) (g : Log) (i m : ℕ) (first : first-pending n g ≡ i) (fits
 -- Record r of sector s begins what is pending.
 pub judged-at : (entries z : ℕ) (a : Area) (g : Log) (s r : ℕ) → r < 16
     → judged entries z a g (16 * s + r)
-    ≡ pick (eqb r 0 && (group-ok entries z (g s) && (alone (a .sectors) g (16 * s + r) (group-size (g s)) && true))) (Pending.Held (a .sector + s)) Pending.Broken
+    ≡ pick (eqb r 0 && (group-ok entries z (g s) && (alone (a .sectors) g (16 * s + r) (group-size (record-at (g s))) && true))) (Pending.Held (a .sector + s)) Pending.Broken
 unfolding judged accepted every
 judged-at entries z a g s r h =
     let e : (16 * s + r) / 16 ≡ s = omega arith in

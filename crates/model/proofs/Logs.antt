@@ -8,7 +8,7 @@ use lib.Dec.{leb, ltb, eqb}
 use borrow.Author.Tests.{ltb-true}
 use Rattle.model.specs.Bytes.{Bytes, pick}
 use Rattle.model.specs.Log.{Log, unused}
-use Rattle.model.specs.Record.{pends, group-size}
+use Rattle.model.specs.Record.{pends, group-size, record-at}
 use Rattle.model.specs.Pending.{pending-at, first-pending, alone, accepted, pending-in}
 use Rattle.model.specs.declared.Area.{Area}
 use Rattle.model.specs.declared.Pending.{Pending}
@@ -37,7 +37,7 @@ module _ (n : ℕ) (g h : Log) (same : (s : ℕ) → s < n → g s ≡ h s) wher
 
   pub accepted-same : (entries z i : ℕ) → i < 16 * n → accepted entries z n g i ≡ accepted entries z n h i
   unfolding accepted
-  accepted-same entries z i less = rw (same (i / 16) (omega arith), alone-same i (group-size (h (i / 16))))
+  accepted-same entries z i less = rw (same (i / 16) (omega arith), alone-same i (group-size (record-at (h (i / 16)))))
 
 -- The scan depends on the log table alone: what a part of the window that holds the log's sectors shows is what the card does.
 pub pending-same : (entries z : ℕ) (a : Area) (g h : Log) → ((s : ℕ) → s < a .sectors → g s ≡ h s) → pending-in entries z a g ≡ pending-in entries z a h

@@ -1,32 +1,32 @@
 -- Laws of what is pending in a log: nothing, or the one group that stands there.
-use Prim.Native.Nat.{ℕ, _+_, _-_, _*_, _/_, _%_, _≤_, _<_}
+use Prim.Native.Nat.{ℕ, zero, suc, _+_, _-_, _*_, _/_, _%_, _≤_, _<_}
 use native.Mathlib.Omega.{arith}
 use mathlib.Core.Path.{_≡_, refl, sym, ap, _∙_}
 use mathlib.Core.Logic.{_⊎_, inl, inr}
+use mathlib.Core.List.{List, [], _∷_, map}
 use mathlib.Core.Bool.{Bool, true, false, _&&_, _||_, not}
 use lib.Dec.{eqb, ltb, leb}
-use lib.ListN.{length}
-use borrow.Author.Tests.{eq-eqb, eqb-true, lt-ltb, le-ltb, ltb-false, ltb-true, le-leb, ne-eqb}
-use Rattle.model.specs.Bytes.{Bytes, zeros, pick, byte-of, le, overlay, patch}
-use Rattle.model.specs.Scan.{first, between}
-use Rattle.model.specs.Sector.{clip, after}
-use Rattle.model.specs.Fat.{same}
-use Rattle.model.specs.Root.{entry-at}
+use lib.ListN.{length, getD, drop}
+use borrow.Author.Tests.{eq-eqb, eqb-true, lt-ltb, le-ltb, ltb-false, ltb-true, le-leb, leb-true, ne-eqb}
+use Rattle.model.specs.Bytes.{Bytes, zeros, pick, byte-of, overlay}
+use Rattle.model.specs.Scan.{every, first, between}
+use Rattle.model.specs.Sector.{clip}
 use Rattle.model.specs.Log.{Log}
-use Rattle.model.specs.Record.{pends, tells, committed, record-of, encode, lay, records, group-size, record-at, r-slot, decode, group-in}
-use Rattle.model.specs.Pending.{pending-in, first-pending, pending-at, accepted, slot-ok, record-ok, pair-ok, alike, empty-from, group-ok, alone}
+use Rattle.model.specs.Record.{pends, tells, committed, record-bytes, record-of, encode, lay, records, group-size, record-at, entry-in, operation-of, group-in}
+use Rattle.model.specs.Pending.{pending-in, first-pending, pending-at, accepted, slot-ok, record-ok, pair-ok, alike, records-ok, empty-from, group-ok, alone}
 use Rattle.model.specs.declared.Area.{Area}
+use Rattle.model.specs.declared.Name.{Name}
 use Rattle.model.specs.declared.Entry.{Entry}
+use Rattle.model.specs.declared.Record.{Record}
 use Rattle.model.specs.declared.Group.{Group}
 use Rattle.model.specs.declared.Operation.{Operation}
 use Rattle.model.specs.declared.Pending.{Pending}
 use Rattle.model.specs.declared.Operation.the-variants.{Create, Update, Delete, Truncate, Rename}
-use Rattle.model.proofs.Tests.{clash, less?, told, each-every, every-at, _also_, same?, or-right, or-left, and-both}
+use Rattle.model.proofs.Tests.{clash, less?, told, each-every, every-at, _also_, same?, or-right, or-left, and-both, and-left, and-right}
 use Rattle.model.proofs.Scan.{first-before0, first-above0, all-same, all-of, first-is0, all-of0}
-use Rattle.model.proofs.Lists.{back}
-use Rattle.model.proofs.Numbers.{read-back}
+use Rattle.model.proofs.All.{All}
 use Rattle.model.proofs.Cards.{clip-at}
-use Rattle.model.proofs.Records.{EntryFits, Fits, zero-after, size-encode, decode-encode}
+use Rattle.model.proofs.Records.{Fits, listed, encode-back, record-clip, operation-back, size-back, encode-after}
 use Rattle.model.specs.declared.Pending.the-variants as Pending
 
 -- A record that begins so is pending, a slot that begins so is live.
@@ -121,104 +121,197 @@ module _ (entries z : ℕ) (a : Area) (g : Log) where
 
 -- ---- a group
 
--- What RECORD asks of an operation's slots, of n and not above z, and of its DIR_Cluster.
+-- What RECORD asks of an operation's records, for n root entries and z the lowest slot beginning 0, and that those after the first are pending.
+abbrev pub Recorded : ℕ → ℕ → Operation → Type 0
+Recorded n z o = (records-ok n z (listed (records o)) ≡ true) × All (λ r. starts (byte-of (r .name .stem) 0) ≡ true) (drop 1 (records o))
+
+-- A slot of n that is not above z.
 abbrev pub Seat : ℕ → ℕ → ℕ → Type 0
 Seat n z s = (s < n) × (s ≤ z)
 
-abbrev pub Recorded : ℕ → ℕ → Operation → Type 0
-Recorded n z (Create e) = Seat n z (e .slot)
-Recorded n z (Update e last from size) = Seat n z (e .slot) × (from < 65536)
-Recorded n z (Delete e k size) = Seat n z (e .slot)
-Recorded n z (Truncate e k from size) = Seat n z (e .slot) × (from < 65536)
-Recorded n z (Rename e k size to renamed) = Seat n z (e .slot) × Seat n z to × (e .slot ≡ to → ⊥) × (starts (byte-of (renamed .stem) 0) ≡ true)
+slot-read : (n z s : ℕ) → Seat n z s → slot-ok n z s ≡ true
+unfolding slot-ok
+slot-read n z s h = rw (lt-ltb s n (h .0), le-leb s z (h .1))
+
+slot-seat : (n z s : ℕ) → slot-ok n z s ≡ true → Seat n z s
+unfolding slot-ok
+slot-seat n z s h = (ltb-true s n (and-left (ltb s n) (leb s z) h), leb-true s z (and-right (ltb s n) (leb s z) h))
 
 -- It asks no more where the lowest slot beginning 0 is higher.
+slot-up : (n z y s : ℕ) → z ≤ y → slot-ok n z s ≡ true → slot-ok n y s ≡ true
+slot-up n z y s le h = let k = slot-seat n z s h in slot-read n y s (k .0, omega (arith, k .1))
+
+module _ (n z : ℕ) (rs : ℕ → Record) (h : records-ok n z rs ≡ true) where
+  -- The first slot, the number, and for a rename the second slot.
+  pub first-seat : Seat n z (rs 0 .slot)
+  unfolding records-ok record-ok
+  first-seat = slot-seat n z (rs 0 .slot) (every-at _ (every-at _ h 0) 5)
+
+  pub first-number : between 1 5 (rs 0 .number) ≡ true
+  unfolding records-ok record-ok
+  first-number = every-at _ (every-at _ h 0) 0
+
+  pair-is : eqb (group-size rs) 1 ≡ false → pair-ok n z (rs 0) (rs 1) ≡ true
+  unfolding records-ok
+  pair-is e = rw e at (every-at _ h 1)
+
+  pub second-seat : eqb (rs 0 .number) 5 ≡ true → Seat n z (rs 1 .slot)
+  unfolding group-size pair-ok
+  second-seat e = slot-seat n z (rs 1 .slot) (every-at _ (pair-is (rw e)) 1)
+
+  records-up : (y : ℕ) → z ≤ y → records-ok n y rs ≡ true
+  unfolding records-ok record-ok pair-ok
+  records-up y le =
+      each-every _ (each-every _ (every-at _ (every-at _ h 0) 0 also every-at _ (every-at _ h 0) 1 also every-at _ (every-at _ h 0) 2 also every-at _ (every-at _ h 0) 3
+      also every-at _ (every-at _ h 0) 4 also slot-up n z y (rs 0 .slot) le (every-at _ (every-at _ h 0) 5) also tt)
+      also go (told (eqb (group-size rs) 1)) also tt)
+    where
+      go : (eqb (group-size rs) 1 ≡ true) ⊎ (eqb (group-size rs) 1 ≡ false)
+          → (eqb (group-size rs) 1 || every (alike (rs 0) (rs 1) ∷ slot-ok n y (rs 1 .slot) ∷ not (eqb (rs 0 .slot) (rs 1 .slot)) ∷ [])) ≡ true
+      go (inl e) = rw e
+      go (inr e) =
+          let k = pair-is e in
+          or-right (eqb (group-size rs) 1) _ (each-every _ (every-at _ k 0 also slot-up n z y (rs 1 .slot) le (every-at _ k 1) also every-at _ k 2 also tt))
+
 pub recorded-up : (n z y : ℕ) (o : Operation) → z ≤ y → Recorded n z o → Recorded n y o
-recorded-up n z y (Create e) le w = (w .0, (let r : e .slot ≤ z = w .1 in omega arith))
-recorded-up n z y (Update e last from size) le w = ((w .0 .0, (let r : e .slot ≤ z = w .0 .1 in omega arith)), w .1)
-recorded-up n z y (Delete e k size) le w = (w .0, (let r : e .slot ≤ z = w .1 in omega arith))
-recorded-up n z y (Truncate e k from size) le w = ((w .0 .0, (let r : e .slot ≤ z = w .0 .1 in omega arith)), w .1)
-recorded-up n z y (Rename e k size to renamed) le w =
-    ((w .0 .0, (let r : e .slot ≤ z = w .0 .1 in omega arith)), (w .1 .0, (let r : to ≤ z = w .1 .1 in omega arith)), w .2, w .3)
+recorded-up n z y o le w = (records-up n z (listed (records o)) (w .0) y le, w .1)
 
-slot-read : (n z s r : ℕ) → r ≡ s → Seat n z s → slot-ok n z r ≡ true
-unfolding slot-ok
-slot-read n z s r e h = rw (e, lt-ltb s n (h .0), le-leb s z (h .1))
+-- What each operation supplies.
+record-fine : (n z : ℕ) (e : Entry) (number k from size : ℕ) → between 1 5 number ≡ true → from < 65536 → Seat n z (e .slot) → record-ok n z (record-of e number k from size) ≡ true
+unfolding record-ok record-of
+record-fine n z e number k from size op small seat =
+    each-every _ (op also refl also refl also refl also lt-ltb from 65536 small also slot-read n z (e .slot) seat also tt)
 
--- A record that is written passes.
-record-read : (n z : ℕ) (e : Entry) (number k from size : ℕ) → between 1 5 (byte-of number 0) ≡ true → EntryFits e → from < 65536 → Seat n z (e .slot)
-    → record-ok n z (record-of e number k from size) ≡ true
-unfolding record-ok record-of overlay byte-of le
-record-read n z e number k from size op h small seat =
-    let low : le 4 (patch 4 from 22 zeros) 22 ≡ from = read-back 4 from 22 zeros (omega arith) in
-    each-every _ (op also refl also refl also refl also rw low (lt-ltb from 65536 small) also slot-read n z (e .slot) _ (read-back 2 (e .slot) 18 zeros (h .slot)) seat also tt)
+pub recorded-create : (n z : ℕ) (e : Entry) → Seat n z (e .slot) → Recorded n z (Create e)
+unfolding records-ok records record-of group-size between
+recorded-create n z e w = (each-every _ (record-fine n z e 1 0 0 0 refl (omega arith) w also refl also tt), tt)
 
-record-fine : (n z : ℕ) (o : Operation) → Fits o → Recorded n z o → record-ok n z (encode o) ≡ true
-unfolding record-ok encode lay records byte-of between le
-record-fine n z (Create e) h w = record-read n z e 1 0 0 0 refl h (omega arith) w
-record-fine n z (Update e last from size) h w = record-read n z e 2 last from size refl (h .0) (w .1) (w .0)
-record-fine n z (Delete e k size) h w = record-read n z e 3 k 0 size refl (h .0) (omega arith) w
-record-fine n z (Truncate e k from size) h w = record-read n z e 4 k from size refl (h .0) (w .1) (w .0)
-record-fine n z (Rename e k size to renamed) h w = record-read n z e 5 k 0 size refl (h .0) (omega arith) (w .0)
+pub recorded-update : (n z : ℕ) (e : Entry) (last from size : ℕ) → Seat n z (e .slot) → from < 65536 → Recorded n z (Update e last from size)
+unfolding records-ok records record-of group-size between
+recorded-update n z e last from size w f = (each-every _ (record-fine n z e 2 last from size refl f w also refl also tt), tt)
 
--- So do the two records of a rename.
-pair-fine : (n z : ℕ) (o : Operation) → Fits o → Recorded n z o → (eqb (group-size (encode o)) 1 || pair-ok n z (encode o)) ≡ true
-unfolding pair-ok alike group-size pends tells encode lay records record-of overlay byte-of le
-pair-fine n z (Create e) h w = refl
-pair-fine n z (Update e last from size) h w = refl
-pair-fine n z (Delete e k size) h w = refl
-pair-fine n z (Truncate e k from size) h w = refl
-pair-fine n z (Rename e k size to renamed) h w =
-    let b : Bytes = encode (Rename e k size to renamed) in
-    let d : Bytes = record-at b 1 in
-    let before : r-slot b ≡ e .slot = read-back 2 (e .slot) 18 zeros (h .0 .slot) in
-    let after : r-slot d ≡ to = read-back 2 to 18 zeros (h .3) in
-    let same = each-every _ (eq-eqb (b 11) (d 11) refl also eq-eqb (b 12) (d 12) refl also eq-eqb (le 4 b 14) (le 4 d 14) refl also eq-eqb (le 2 b 20) (le 2 d 20) refl
-    also eq-eqb (le 4 b 22) (le 4 d 22) refl also eq-eqb (le 2 b 26) (le 2 d 26) refl also eq-eqb (le 4 b 28) (le 4 d 28) refl also tt) in
-    each-every _ (w .3 also same also slot-read n z to _ after (w .1) also ap not (ne-eqb (r-slot b) (r-slot d) (λ q. w .2 (sym before ∙ q ∙ after))) also tt)
+pub recorded-delete : (n z : ℕ) (e : Entry) (k size : ℕ) → Seat n z (e .slot) → Recorded n z (Delete e k size)
+unfolding records-ok records record-of group-size between
+recorded-delete n z e k size w = (each-every _ (record-fine n z e 3 k 0 size refl (omega arith) w also refl also tt), tt)
+
+pub recorded-truncate : (n z : ℕ) (e : Entry) (k from size : ℕ) → Seat n z (e .slot) → from < 65536 → Recorded n z (Truncate e k from size)
+unfolding records-ok records record-of group-size between
+recorded-truncate n z e k from size w f = (each-every _ (record-fine n z e 4 k from size refl f w also refl also tt), tt)
+
+pub recorded-rename : (n z : ℕ) (e : Entry) (k size to : ℕ) (renamed : Name) → Seat n z (e .slot) → Seat n z to → (e .slot ≡ to → ⊥) → starts (byte-of (renamed .stem) 0) ≡ true
+    → Recorded n z (Rename e k size to renamed)
+unfolding records-ok records record-of group-size between pair-ok alike
+recorded-rename n z e k size to renamed w v ne live =
+    let same = each-every _ (eq-eqb (e .attributes) (e .attributes) refl also refl also refl also refl also refl also eq-eqb k k refl also eq-eqb size size refl also tt) in
+    (each-every _ (record-fine n z e 5 k 0 size refl (omega arith) w
+    also each-every _ (same also slot-read n z to v also ap not (ne-eqb (e .slot) to ne) also tt) also tt), (live, tt))
+
+-- An operation is told by the first two records.
+operation-same : (rs qs : ℕ → Record) → rs 0 ≡ qs 0 → rs 1 ≡ qs 1 → operation-of rs ≡ operation-of qs
+unfolding operation-of
+operation-same rs qs p q = λ i.
+    pick (eqb (p i .number) 1) (Create (entry-in (p i)))
+    (pick (eqb (p i .number) 2) (Update (entry-in (p i)) (p i .cluster) (p i .from) (p i .size))
+    (pick (eqb (p i .number) 3) (Delete (entry-in (p i)) (p i .cluster) (p i .size))
+    (pick (eqb (p i .number) 4) (Truncate (entry-in (p i)) (p i .cluster) (p i .from) (p i .size))
+    (Rename (entry-in (p i)) (p i .cluster) (p i .size) (q i .slot) (q i .name)))))
+
+record-first : (r : Record) → record-bytes r 0 ≡ byte-of (r .name .stem) 0
+unfolding record-bytes overlay
+record-first r = refl
 
 -- RECORD reads a sector's 512 bytes alone.
 empty-clip : (i : ℕ) (b : Bytes) → empty-from i (clip b) ≡ empty-from i b
 unfolding empty-from
 empty-clip i b = all-same (λ j. eqb (clip b j) 0) (λ j. eqb (b j) 0) i (512 - i) (λ j lo hi. ap (λ v. eqb v 0) (clip-at b j (omega arith)))
 
-clip-ok : (n z : ℕ) (b : Bytes) → group-ok n z (clip b) ≡ group-ok n z b
-unfolding group-ok record-ok pair-ok alike group-size pends tells le
-clip-ok n z b = rw (empty-clip (32 * group-size b) b)
-
-group-fine : (n z : ℕ) (o : Operation) → Fits o → Recorded n z o → group-ok n z (encode o) ≡ true
-unfolding group-ok empty-from encode
-group-fine n z o h w =
-    let m : ℕ = group-size (encode o) in
-    let rest : (j : ℕ) → 32 * m ≤ j → eqb (encode o j) 0 ≡ true = λ j lo. eq-eqb (encode o j) 0 (zero-after (records o) j (rw (size-encode o) at lo)) in
-    each-every _ (record-fine n z o h w also pair-fine n z o h w also all-of (λ j. eqb (encode o j) 0) (32 * m) (512 - 32 * m) (λ j lo hi. rest j lo) also tt)
-
--- The entry that an operation is about; its name stands first in the group.
-abbrev pub entry-of : Operation → Entry
-entry-of (Create e) = e
-entry-of (Update e last from size) = e
-entry-of (Delete e k size) = e
-entry-of (Truncate e k from size) = e
-entry-of (Rename e k size to renamed) = e
+-- The first byte of a record is its name's.
+pends-record : (o : Operation) (k : ℕ) → k < length (records o) → pends (encode o) k ≡ starts (byte-of (listed (records o) k .name .stem) 0)
+unfolding encode lay
+pends-record o k less =
+    let row : 32 * k / 32 ≡ k = omega arith in
+    let col : 32 * k % 32 ≡ 0 = omega arith in
+    pends-starts (encode o) k ∙ ap starts ((λ i. getD (map record-bytes (records o)) (row i) zeros (col i)) ∙ first-byte (records o) k less)
+  where
+    first-byte : (rs : List Record) (k : ℕ) → k < length rs → getD (map record-bytes rs) k zeros 0 ≡ byte-of (listed rs k .name .stem) 0
+    first-byte [] k less = absurd (omega arith)
+    first-byte (r ∷ rs) zero less = record-first r
+    first-byte (r ∷ rs) (suc k) less = first-byte rs k (omega arith)
 
 abbrev pub Named : Operation → Type 0
-Named o = starts (byte-of (entry-of o .name .stem) 0) ≡ true
+Named o = starts (byte-of (listed (records o) 0 .name .stem) 0) ≡ true
+
+some-record : (o : Operation) → 0 < length (records o)
+unfolding records
+some-record (Create e) = omega arith
+some-record (Update e last from size) = omega arith
+some-record (Delete e k size) = omega arith
+some-record (Truncate e k from size) = omega arith
+some-record (Rename e k size to renamed) = omega arith
+
+pub few-records : (o : Operation) → length (records o) ≤ 16
+unfolding records
+few-records (Create e) = omega arith
+few-records (Update e last from size) = omega arith
+few-records (Delete e k size) = omega arith
+few-records (Truncate e k from size) = omega arith
+few-records (Rename e k size to renamed) = omega arith
+
+-- All records of a group are pending.
+later-starts : (rs : List Record) (k : ℕ) → 1 ≤ k → k < length rs → All (λ r. starts (byte-of (r .name .stem) 0) ≡ true) (drop 1 rs) → starts (byte-of (listed rs k .name .stem) 0) ≡ true
+later-starts [] k lo less a = absurd (omega arith)
+later-starts (r ∷ rs) zero lo less a = absurd (omega arith)
+later-starts (r ∷ rs) (suc k) lo less a = go rs k (omega arith) a
+  where
+    go : (rs : List Record) (k : ℕ) → k < length rs → All (λ r. starts (byte-of (r .name .stem) 0) ≡ true) rs → starts (byte-of (listed rs k .name .stem) 0) ≡ true
+    go [] k less a = absurd (omega arith)
+    go (r ∷ rs) zero less a = a .0
+    go (r ∷ rs) (suc k) less a = go rs k (omega arith) (a .1)
+
+record-pends : (n z : ℕ) (o : Operation) → Named o → Recorded n z o → (k : ℕ) → k < length (records o) → pends (clip (encode o)) k ≡ true
+record-pends n z o named w k less =
+    pends-starts (clip (encode o)) k ∙ ap starts (clip-at (encode o) (32 * k) (omega (arith, few-records o))) ∙ sym (pends-starts (encode o) k)
+    ∙ pends-record o k less ∙ go (same? k 0)
+  where
+    go : (k ≡ 0) ⊎ (k ≡ 0 → ⊥) → starts (byte-of (listed (records o) k .name .stem) 0) ≡ true
+    go (inl e) = ap (λ (i : ℕ). starts (byte-of (listed (records o) i .name .stem) 0)) e ∙ named
+    go (inr ne) = later-starts (records o) k (omega arith) less (w .1)
+
+-- The records of a sector that was stored.
+clip-records : (o : Operation) → Fits o → (k : ℕ) → k < 16 → record-at (clip (encode o)) k ≡ listed (records o) k
+clip-records o h k less = record-clip (encode o) k less ∙ (λ i. encode-back o h i k)
+
+clip-size : (o : Operation) → Fits o → group-size (record-at (clip (encode o))) ≡ length (records o)
+unfolding group-size
+clip-size o h = (λ i. pick (eqb (clip-records o h 0 (omega arith) i .number) 5) 2 1) ∙ size-back o
+
+clip-ok : (n z : ℕ) (o : Operation) → Fits o → records-ok n z (record-at (clip (encode o))) ≡ records-ok n z (listed (records o))
+unfolding records-ok group-size
+clip-ok n z o h = λ i. every (record-ok n z (clip-records o h 0 (omega arith) i)
+    ∷ (eqb (pick (eqb (clip-records o h 0 (omega arith) i .number) 5) 2 1) 1 || pair-ok n z (clip-records o h 0 (omega arith) i) (clip-records o h 1 (omega arith) i)) ∷ [])
+
+group-fine : (n z : ℕ) (o : Operation) → Fits o → Named o → Recorded n z o → group-ok n z (clip (encode o)) ≡ true
+unfolding group-ok empty-from
+group-fine n z o h named w =
+    rw (clip-size o h)
+    (each-every _ (clip-ok n z o h ∙ w .0
+    also all-of0 (pends (clip (encode o))) (length (records o)) (record-pends n z o named w)
+    also empty-clip (32 * length (records o)) (encode o) ∙ all-of (λ j. eqb (encode o j) 0) (32 * length (records o)) (512 - 32 * length (records o)) (λ j lo hi. eq-eqb (encode o j) 0 (encode-after o j lo))
+    also tt))
 
 named-pends : (o : Operation) → Named o → pends (clip (encode o)) 0 ≡ true
-unfolding pends tells encode lay records record-of overlay
-named-pends (Create e) h = h
-named-pends (Update e last from size) h = h
-named-pends (Delete e k size) h = h
-named-pends (Truncate e k from size) h = h
-named-pends (Rename e k size to renamed) h = h
+named-pends o h = pends-starts (clip (encode o)) 0 ∙ sym (pends-starts (encode o) 0) ∙ pends-record o 0 (some-record o) ∙ h
 
 -- The group of an operation, in a sector.
 abbrev pub group-of : ℕ → Operation → Group
 group-of s o = record { sector = s; records = length (records o); operation = o }
 
 pub group-read : (s : ℕ) (o : Operation) → Fits o → group-in s (clip (encode o)) ≡ group-of s o
-unfolding group-in group-size decode entry-at le
-group-read s o h = λ i. record { sector = s; records = size-encode o i; operation = decode-encode o h i }
+unfolding group-in operation-of
+group-read s o h = λ i. record { sector = s; records = clip-size o h i; operation = (operation-clip ∙ operation-back o) i }
+  where
+    operation-clip : operation-of (record-at (clip (encode o))) ≡ operation-of (listed (records o))
+    operation-clip = operation-same (record-at (clip (encode o))) (listed (records o)) (clip-records o h 0 (omega arith)) (clip-records o h 1 (omega arith))
 
 -- The group of operation o stands in log sector u, and no record of the others is pending.
 pub record Stored (n : ℕ) (g : Log) (u : ℕ) (o : Operation) : Type 0 where
@@ -228,9 +321,8 @@ pub record Stored (n : ℕ) (g : Log) (u : ℕ) (o : Operation) : Type 0 where
 
 -- Past its records a group's sector tells nothing.
 pub rest-quiet : (o : Operation) (r : ℕ) → length (records o) ≤ r → r < 16 → pends (clip (encode o)) r ≡ false
-unfolding encode
 rest-quiet o r le less = pends-starts (clip (encode o)) r
-    ∙ ap (λ v. starts v) (clip-at (encode o) (32 * r) (omega arith) ∙ zero-after (records o) (32 * r) (omega arith))
+    ∙ ap (λ v. starts v) (clip-at (encode o) (32 * r) (omega arith) ∙ encode-after o (32 * r) (omega arith))
 
 module _ (entries z : ℕ) (a : Area) (g : Log) (u : ℕ) (o : Operation) (h : Stored (a .sectors) g u o)
     (named : Named o) (fits : Fits o) (fine : Recorded entries z o) where
@@ -257,16 +349,15 @@ module _ (entries z : ℕ) (a : Area) (g : Log) (u : ℕ) (o : Operation) (h : S
       go k less (inl e) (inl t) = or-left (own k) _ (and-both _ _ (le-leb (16 * u) k (omega arith)) (lt-ltb k (16 * u + length (records o)) t))
       go k less (inl e) (inr t) = or-right (own k) _ (ap not (at-sector k e ∙ rest-quiet o (k % 16) (omega arith) (omega arith)))
 
-  sizes : alone (a .sectors) g (16 * u) (group-size (clip (encode o))) ≡ true
-  unfolding group-size
-  sizes = ap (alone (a .sectors) g (16 * u)) (size-encode o) ∙ alone-at
+  sizes : alone (a .sectors) g (16 * u) (group-size (record-at (clip (encode o)))) ≡ true
+  sizes = ap (alone (a .sectors) g (16 * u)) (clip-size o fits) ∙ alone-at
 
   accepted-at : accepted entries z (a .sectors) g (16 * u) ≡ true
   unfolding accepted
   accepted-at =
       let back : 16 * u / 16 ≡ u = omega arith in
       let here : g (16 * u / 16) ≡ clip (encode o) = ap g back ∙ h .bytes in
-      rw here (each-every _ (eq-eqb (16 * u % 16) 0 (omega arith) also clip-ok entries z (encode o) ∙ group-fine entries z o fits fine also sizes also tt))
+      rw here (each-every _ (eq-eqb (16 * u % 16) 0 (omega arith) also group-fine entries z o fits named fine also sizes also tt))
 
   -- What is pending is the group in that sector.
   pub pending-is : pending-in entries z a g ≡ Pending.Held (a .sector + u)

@@ -1,18 +1,21 @@
 -- Laws of log records: what is written into a group's sector is read from it.
-use Prim.Native.Nat.{ℕ, _+_, _*_, _/_, _%_, _^_, _≤_, _<_}
+use Prim.Native.Nat.{ℕ, zero, suc, _+_, _*_, _/_, _%_, _^_, _≤_, _<_}
 use native.Mathlib.Omega.{arith}
 use native.Mathlib.Nat.{div-one, mod-eq-of-lt}
-use mathlib.Core.Path.{_≡_, refl, ap, _∙_}
-use mathlib.Core.List.{List}
-use lib.ListN.{length, List·getD-eq-default}
-use Rattle.model.specs.Bytes.{Bytes, le, overlay, byte-of, patch, zeros}
-use Rattle.model.specs.Root.{entry-at}
-use Rattle.model.specs.Record.{record-of, records, lay, encode, decode, group-size, r-slot}
+use mathlib.Core.Path.{_≡_, refl, sym, ap, _∙_, fun-ext}
+use mathlib.Core.List.{List, [], _∷_, map}
+use lib.ListN.{length, getD, length-map, List·getD-eq-default}
+use Rattle.model.specs.Bytes.{Bytes, le, overlay, byte-of, part, patch, zeros}
+use Rattle.model.specs.Sector.{clip}
+use Rattle.model.specs.Record.{record-bytes, record-in, record-of, records, lay, encode, record-at, operation-of, group-size}
 use Rattle.model.specs.declared.Name.{Name}
 use Rattle.model.specs.declared.Entry.{Entry}
+use Rattle.model.specs.declared.Record.{Record}
 use Rattle.model.specs.declared.Operation.{Operation}
 use Rattle.model.specs.declared.Operation.the-variants.{Create, Update, Delete, Truncate, Rename}
-use Rattle.model.proofs.Numbers.{read-back}
+use Rattle.model.proofs.All.{All}
+use Rattle.model.proofs.Numbers.{read-back, le-local}
+use Rattle.model.proofs.Cards.{clip-at}
 
 -- The numbers that a record can hold.
 pub record NameFits (n : Name) : Type 0 where
@@ -24,52 +27,156 @@ pub record EntryFits (e : Entry) : Type 0 where
   pub name : NameFits (e .name)
   pub attributes : e .attributes < 256
 
+pub record RecordFits (r : Record) : Type 0 where
+  pub name : NameFits (r .name)
+  pub attributes : r .attributes < 256
+  pub count : r .count < 256
+  pub number : r .number < 256
+  pub directory : r .directory < 256 ^ 4
+  pub slot : r .slot < 256 ^ 2
+  pub high : r .high < 256 ^ 2
+  pub from : r .from < 256 ^ 4
+  pub cluster : r .cluster < 256 ^ 2
+  pub size : r .size < 256 ^ 4
+
 abbrev pub Fits : Operation → Type 0
-Fits (Create e) = EntryFits e
-Fits (Update e last from size) = EntryFits e × (last < 256 ^ 2) × (from < 256 ^ 4) × (size < 256 ^ 4)
-Fits (Delete e first size) = EntryFits e × (first < 256 ^ 2) × (size < 256 ^ 4)
-Fits (Truncate e first from size) = EntryFits e × (first < 256 ^ 2) × (from < 256 ^ 4) × (size < 256 ^ 4)
-Fits (Rename e first size to renamed) = EntryFits e × (first < 256 ^ 2) × (size < 256 ^ 4) × (to < 256 ^ 2) × NameFits renamed
+Fits o = All RecordFits (records o)
+
+-- A record about an entry.
+pub entry-record : (e : Entry) (number cluster from size : ℕ) → number < 256 → EntryFits e → cluster < 256 ^ 2 → from < 256 ^ 4 → size < 256 ^ 4
+    → RecordFits (record-of e number cluster from size)
+unfolding record-of
+entry-record e number cluster from size n h c f s = record {
+  name = h .name; attributes = h .attributes; count = omega arith; number = n; directory = omega arith;
+  slot = h .slot; high = omega arith; from = f; cluster = c; size = s;
+}
+
+-- What each operation supplies.
+pub fits-create : (e : Entry) → EntryFits e → Fits (Create e)
+unfolding records
+fits-create e h = (entry-record e 1 0 0 0 (omega arith) h (omega arith) (omega arith) (omega arith), tt)
+
+pub fits-update : (e : Entry) (last from size : ℕ) → EntryFits e → last < 256 ^ 2 → from < 256 ^ 4 → size < 256 ^ 4 → Fits (Update e last from size)
+unfolding records
+fits-update e last from size h c f s = (entry-record e 2 last from size (omega arith) h c f s, tt)
+
+pub fits-delete : (e : Entry) (first size : ℕ) → EntryFits e → first < 256 ^ 2 → size < 256 ^ 4 → Fits (Delete e first size)
+unfolding records
+fits-delete e first size h c s = (entry-record e 3 first 0 size (omega arith) h c (omega arith) s, tt)
+
+pub fits-truncate : (e : Entry) (first from size : ℕ) → EntryFits e → first < 256 ^ 2 → from < 256 ^ 4 → size < 256 ^ 4 → Fits (Truncate e first from size)
+unfolding records
+fits-truncate e first from size h c f s = (entry-record e 4 first from size (omega arith) h c f s, tt)
+
+pub fits-rename : (e : Entry) (first size to : ℕ) (renamed : Name) → EntryFits e → first < 256 ^ 2 → size < 256 ^ 4 → to < 256 ^ 2 → NameFits renamed
+    → Fits (Rename e first size to renamed)
+unfolding records
+fits-rename e first size to renamed h c s t n =
+    (entry-record e 5 first 0 size (omega arith) h c (omega arith) s,
+    (entry-record (record { slot = to; name = renamed; attributes = e .attributes }) 0 first 0 size (omega arith) (record { slot = t; name = n; attributes = h .attributes }) c (omega arith) s, tt))
+
+-- ---- one record
 
 -- A number at an offset of an otherwise empty run is read back.
 back : (n v at : ℕ) → v < 256 ^ n → le n (patch n v at zeros) (at + 0) ≡ v
 back n v at h = read-back n v at zeros h
 
+byte-back : (v : ℕ) → v < 256 → v / 1 % 256 ≡ v
+byte-back v h = ap (λ (y : ℕ). y % 256) (div-one v) ∙ mod-eq-of-lt h
+
 name-back : (n : Name) → NameFits n → record { stem = le 8 (patch 8 (n .stem) 0 zeros) 0; extension = le 3 (patch 3 (n .extension) 8 zeros) 8 } ≡ n
 unfolding overlay byte-of le
 name-back n h = λ i. record { stem = back 8 (n .stem) 0 (h .stem) i; extension = back 3 (n .extension) 8 (h .extension) i }
 
--- The entry that a record tells of.
-pub entry-back : (e : Entry) (number cluster from size : ℕ) → EntryFits e
-    → entry-at (r-slot (record-of e number cluster from size)) (record-of e number cluster from size) ≡ e
-unfolding record-of entry-at overlay byte-of le
-entry-back e number cluster from size h = λ i. record {
-  slot = back 2 (e .slot) 18 (h .slot) i;
-  name = name-back (e .name) (h .name) i;
-  attributes = (ap (λ (y : ℕ). y % 256) (div-one (e .attributes)) ∙ mod-eq-of-lt (h .attributes)) i;
+pub record-back : (r : Record) → RecordFits r → record-in (record-bytes r) ≡ r
+unfolding record-bytes overlay byte-of le
+record-back r h = λ i. record {
+  name = name-back (r .name) (h .name) i;
+  attributes = byte-back (r .attributes) (h .attributes) i;
+  count = byte-back (r .count) (h .count) i;
+  number = byte-back (r .number) (h .number) i;
+  directory = back 4 (r .directory) 14 (h .directory) i;
+  slot = back 2 (r .slot) 18 (h .slot) i;
+  high = back 2 (r .high) 20 (h .high) i;
+  from = back 4 (r .from) 22 (h .from) i;
+  cluster = back 2 (r .cluster) 26 (h .cluster) i;
+  size = back 4 (r .size) 28 (h .size) i;
 }
 
--- Encoding, then decoding, is the identity.
-pub decode-encode : (o : Operation) → Fits o → decode (encode o) ≡ o
-unfolding decode encode lay records record-of entry-at overlay byte-of le
-decode-encode (Create e) h = λ i. Create (entry-back e 1 0 0 0 h i)
-decode-encode (Update e last from size) h =
-    λ i. Update (entry-back e 2 last from size (h .0) i) (back 2 last 26 (h .1) i) (back 4 from 22 (h .2) i) (back 4 size 28 (h .3) i)
-decode-encode (Delete e first size) h = λ i. Delete (entry-back e 3 first 0 size (h .0) i) (back 2 first 26 (h .1) i) (back 4 size 28 (h .2) i)
-decode-encode (Truncate e first from size) h =
-    λ i. Truncate (entry-back e 4 first from size (h .0) i) (back 2 first 26 (h .1) i) (back 4 from 22 (h .2) i) (back 4 size 28 (h .3) i)
-decode-encode (Rename e first size to renamed) h =
-    λ i. Rename (entry-back e 5 first 0 size (h .0) i) (back 2 first 26 (h .1) i) (back 4 size 28 (h .2) i) (back 2 to 18 (h .3) i) (name-back renamed (h .4) i)
+-- A record is told by its 32 bytes.
+pub record-local : (b d : Bytes) → ((j : ℕ) → j < 32 → b j ≡ d j) → record-in b ≡ record-in d
+record-local b d h = λ i. record {
+  name = record { stem = le-local 8 b d 0 (λ j lo hi. h j (omega arith)) i; extension = le-local 3 b d 8 (λ j lo hi. h j (omega arith)) i };
+  attributes = h 11 (omega arith) i;
+  count = h 12 (omega arith) i;
+  number = h 13 (omega arith) i;
+  directory = le-local 4 b d 14 (λ j lo hi. h j (omega arith)) i;
+  slot = le-local 2 b d 18 (λ j lo hi. h j (omega arith)) i;
+  high = le-local 2 b d 20 (λ j lo hi. h j (omega arith)) i;
+  from = le-local 4 b d 22 (λ j lo hi. h j (omega arith)) i;
+  cluster = le-local 2 b d 26 (λ j lo hi. h j (omega arith)) i;
+  size = le-local 4 b d 28 (λ j lo hi. h j (omega arith)) i;
+}
 
--- A group has as many records as are written; after them its sector is zero.
-pub size-encode : (o : Operation) → group-size (encode o) ≡ length (records o)
-unfolding group-size encode lay records record-of overlay byte-of
-size-encode (Create e) = refl
-size-encode (Update e last from size) = refl
-size-encode (Delete e first size) = refl
-size-encode (Truncate e first from size) = refl
-size-encode (Rename e first size to renamed) = refl
+-- ---- the records of a sector
 
+-- Where no record is.
+abbrev pub none : Record
+none = record-in zeros
+
+-- Record k of a list, none after the last.
+abbrev pub listed : List Record → ℕ → Record
+listed rs k = getD rs k none
+
+one-back : (rs : List Record) → All RecordFits rs → (k : ℕ) → record-in (getD (map record-bytes rs) k zeros) ≡ listed rs k
+one-back [] h k = refl
+one-back (r ∷ rs) h zero = record-back r (h .0)
+one-back (r ∷ rs) h (suc k) = one-back rs (h .1) k
+
+-- Records that are laid into a sector are read from it.
+pub records-back : (rs : List Record) → All RecordFits rs → (k : ℕ) → record-at (lay (map record-bytes rs)) k ≡ listed rs k
+unfolding lay
+records-back rs h k =
+    record-local (part (lay (map record-bytes rs)) (32 * k)) (getD (map record-bytes rs) k zeros)
+    (λ j small.
+    let row : (32 * k + j) / 32 ≡ k = omega arith in
+    let col : (32 * k + j) % 32 ≡ j = omega arith in
+    λ i. getD (map record-bytes rs) (row i) zeros (col i))
+    ∙ one-back rs h k
+
+pub encode-back : (o : Operation) → Fits o → record-at (encode o) ≡ listed (records o)
+unfolding encode
+encode-back o h = fun-ext (λ k. records-back (records o) h k)
+
+-- They are told by the sector's 512 bytes.
+pub record-clip : (b : Bytes) (k : ℕ) → k < 16 → record-at (clip b) k ≡ record-at b k
+record-clip b k less = record-local (part (clip b) (32 * k)) (part b (32 * k)) (λ j small. clip-at b (32 * k + j) (omega arith))
+
+-- The records of an operation tell of it, and are as many as a group of it has.
+pub operation-back : (o : Operation) → operation-of (listed (records o)) ≡ o
+unfolding operation-of records record-of
+operation-back (Create e) = refl
+operation-back (Update e last from size) = refl
+operation-back (Delete e first size) = refl
+operation-back (Truncate e first from size) = refl
+operation-back (Rename e first size to renamed) = refl
+
+pub size-back : (o : Operation) → group-size (listed (records o)) ≡ length (records o)
+unfolding group-size records record-of
+size-back (Create e) = refl
+size-back (Update e last from size) = refl
+size-back (Delete e first size) = refl
+size-back (Truncate e first from size) = refl
+size-back (Rename e first size to renamed) = refl
+
+pub size-encode : (o : Operation) → Fits o → group-size (record-at (encode o)) ≡ length (records o)
+size-encode o h = ap group-size (encode-back o h) ∙ size-back o
+
+-- After the records their sector is zero.
 pub zero-after : (rs : List Bytes) (j : ℕ) → 32 * length rs ≤ j → lay rs j ≡ 0
 unfolding lay
 zero-after rs j h = ap (λ (b : Bytes). b (j % 32)) (List·getD-eq-default rs zeros {n = j / 32} (omega arith))
+
+pub encode-after : (o : Operation) (j : ℕ) → 32 * length (records o) ≤ j → encode o j ≡ 0
+unfolding encode
+encode-after o j h = zero-after (map record-bytes (records o)) j (omega (arith, length-map (records o) record-bytes))

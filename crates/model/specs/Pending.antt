@@ -6,9 +6,10 @@ use lib.Dec.{leb, ltb, eqb}
 use Rattle.model.specs.Bytes.{Bytes, pick}
 use Rattle.model.specs.Scan.{every, between, first, all, all-from}
 use Rattle.model.specs.Sector.{Card}
-use Rattle.model.specs.Root.{attributes, first-bytes, end-slot}
+use Rattle.model.specs.Root.{first-bytes, end-slot}
 use Rattle.model.specs.Log.{Log, log-of}
-use Rattle.model.specs.Record.{r-count, r-number, r-directory, r-slot, r-high, r-from, r-cluster, r-size, record-at, group-size, pends}
+use Rattle.model.specs.Record.{record-at, group-size, pends}
+use Rattle.model.specs.declared.Record.{Record}
 use Rattle.model.specs.declared.Layout.{Layout}
 use Rattle.model.specs.declared.Area.{Area}
 use Rattle.model.specs.declared.Pending.{Pending}
@@ -26,34 +27,36 @@ unfoldable pub slot-ok : ℕ → ℕ → ℕ → Bool
 slot-ok n z s = ltb s n && leb s z
 
 -- "operation 1 to 5, directory cluster, high word and long-name count 0, DIR_Cluster below 65,536, slots .."
-unfoldable pub record-ok : ℕ → ℕ → Bytes → Bool
-record-ok n z b =
+unfoldable pub record-ok : ℕ → ℕ → Record → Bool
+record-ok n z r =
     every (
-    between 1 5 (r-number b) ∷ eqb (r-directory b) 0 ∷ eqb (r-high b) 0 ∷ eqb (r-count b) 0
-    ∷ ltb (r-from b) 65536 ∷ slot-ok n z (r-slot b) ∷ [])
+    between 1 5 (r .number) ∷ eqb (r .directory) 0 ∷ eqb (r .high) 0 ∷ eqb (r .count) 0
+    ∷ ltb (r .from) 65536 ∷ slot-ok n z (r .slot) ∷ [])
 
 -- "alike but for name, operation and slot"
-unfoldable pub alike : Bytes → Bytes → Bool
-alike b d =
+unfoldable pub alike : Record → Record → Bool
+alike r d =
     every (
-    eqb (attributes b) (attributes d) ∷ eqb (r-count b) (r-count d) ∷ eqb (r-directory b) (r-directory d)
-    ∷ eqb (r-high b) (r-high d) ∷ eqb (r-from b) (r-from d) ∷ eqb (r-cluster b) (r-cluster d) ∷ eqb (r-size b) (r-size d) ∷ [])
+    eqb (r .attributes) (d .attributes) ∷ eqb (r .count) (d .count) ∷ eqb (r .directory) (d .directory)
+    ∷ eqb (r .high) (d .high) ∷ eqb (r .from) (d .from) ∷ eqb (r .cluster) (d .cluster) ∷ eqb (r .size) (d .size) ∷ [])
 
--- "for rename two different slots, both records pending and alike"
-unfoldable pub pair-ok : ℕ → ℕ → Bytes → Bool
-pair-ok n z b =
-    let d = record-at b 1 in
-    every (pends b 1 ∷ alike b d ∷ slot-ok n z (r-slot d) ∷ not (eqb (r-slot b) (r-slot d)) ∷ [])
+-- "for rename two different slots, both records alike"
+unfoldable pub pair-ok : ℕ → ℕ → Record → Record → Bool
+pair-ok n z r d = every (alike r d ∷ slot-ok n z (d .slot) ∷ not (eqb (r .slot) (d .slot)) ∷ [])
+
+-- What is asked of the records of a group.
+unfoldable pub records-ok : ℕ → ℕ → (ℕ → Record) → Bool
+records-ok n z rs = every (record-ok n z (rs 0) ∷ (eqb (group-size rs) 1 || pair-ok n z (rs 0) (rs 1)) ∷ [])
 
 -- No byte but zero from i on.
 unfoldable pub empty-from : ℕ → Bytes → Bool
 empty-from i b = all-from (λ j. eqb (b j) 0) i (512 - i)
 
--- The records of a sector are a group as above, and "the rest of the sector is zero".
+-- The records of a sector are a group as above, all "pending", and "the rest of the sector is zero".
 unfoldable pub group-ok : ℕ → ℕ → Bytes → Bool
 group-ok n z b =
-    let m = group-size b in
-    every (record-ok n z b ∷ (eqb m 1 || pair-ok n z b) ∷ empty-from (32 * m) b ∷ [])
+    let m = group-size (record-at b) in
+    every (records-ok n z (record-at b) ∷ all (pends b) m ∷ empty-from (32 * m) b ∷ [])
 
 -- Only the m records from record i on are pending, in a log of n sectors: "one group".
 unfoldable pub alone : ℕ → Log → ℕ → ℕ → Bool
@@ -63,7 +66,7 @@ alone n g i m = all (λ k. (leb i k && ltb k (i + m)) || not (pending-at g k)) (
 unfoldable pub accepted : ℕ → ℕ → ℕ → Log → ℕ → Bool
 accepted entries z n g i =
     let b = g (i / 16) in
-    every (eqb (i % 16) 0 ∷ group-ok entries z b ∷ alone n g i (group-size b) ∷ [])
+    every (eqb (i % 16) 0 ∷ group-ok entries z b ∷ alone n g i (group-size (record-at b)) ∷ [])
 
 -- What the log table g of an area tells: nothing pending, the sector of a group, or records that RECORD refuses.
 unfoldable pub pending-in : ℕ → ℕ → Area → Log → Pending

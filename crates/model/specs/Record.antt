@@ -1,50 +1,35 @@
 -- Log records: the group of an operation as records in a sector, and the operation that such a sector tells of.
 use Prim.Native.Nat.{ℕ, _*_, _/_, _%_}
-use mathlib.Core.List.{List, [], _∷_}
+use mathlib.Core.List.{List, [], _∷_, map}
 use mathlib.Core.Bool.{Bool, _&&_, not}
 use lib.Dec.{ltb, eqb}
 use lib.ListN.{getD}
 use Rattle.model.specs.Bytes.{Bytes, pick, le, part, patch, zeros}
 use Rattle.model.specs.Sector.{Card, Store, store}
-use Rattle.model.specs.Root.{name-in, entry-at}
+use Rattle.model.specs.Root.{name-in, attributes}
 use Rattle.model.specs.declared.Entry.{Entry}
+use Rattle.model.specs.declared.Record.{Record}
 use Rattle.model.specs.declared.Group.{Group}
 use Rattle.model.specs.declared.Operation.{Operation}
 use Rattle.model.specs.declared.Operation.the-variants.{Create, Update, Delete, Truncate, Rename}
 
--- "A record is 32 bytes: name 0 (11), attributes 11 (1), operation 13 (1), slot 18 (2), DIR_Cluster 22 (4), first/last cluster
--- low 26 (2), size 28 (4)"; "Long-name count, directory cluster and high word are 0 here."
-unfoldable pub record-of : Entry → ℕ → ℕ → ℕ → ℕ → Bytes
-record-of e number cluster from size =
-    patch 8 (e .name .stem) 0
-    (patch 3 (e .name .extension) 8
-    (patch 1 (e .attributes) 11
-    (patch 1 number 13
-    (patch 2 (e .slot) 18
-    (patch 4 from 22
-    (patch 2 cluster 26
-    (patch 4 size 28 zeros)))))))
+-- "A record is 32 bytes: name 0 (11), attributes 11 (1), long-name count 12 (1), operation 13 (1), directory cluster 14 (4), slot 18
+-- (2), first/last cluster high 20 (2), DIR_Cluster 22 (4), first/last cluster low 26 (2), size 28 (4)"
+unfoldable pub record-bytes : Record → Bytes
+record-bytes r =
+    patch 8 (r .name .stem) 0
+    (patch 3 (r .name .extension) 8
+    (patch 1 (r .attributes) 11
+    (patch 1 (r .count) 12
+    (patch 1 (r .number) 13
+    (patch 4 (r .directory) 14
+    (patch 2 (r .slot) 18
+    (patch 2 (r .high) 20
+    (patch 4 (r .from) 22
+    (patch 2 (r .cluster) 26
+    (patch 4 (r .size) 28 zeros))))))))))
 
--- "Operations: 1 create, 2 update, 3 delete, 4 truncate, 5 rename, 0 part of the record before." "First/last: create 0; update,
--- the last cluster before; others, the first cluster." "DIR_Cluster: update and truncate; others 0." "Size: 0 for create."
--- "Rename's record 1 is record 0 with the new name, operation 0 and the new slot."
-unfoldable pub records : Operation → List Bytes
-records (Create e) = record-of e 1 0 0 0 ∷ []
-records (Update e last from size) = record-of e 2 last from size ∷ []
-records (Delete e first size) = record-of e 3 first 0 size ∷ []
-records (Truncate e first from size) = record-of e 4 first from size ∷ []
-records (Rename e first size to renamed) =
-    record-of e 5 first 0 size
-    ∷ record-of (record { slot = to; name = renamed; attributes = e .attributes }) 0 first 0 size ∷ []
-
--- Records from record 0 of a sector on; "the rest of the sector is zero".
-unfoldable pub lay : List Bytes → Bytes
-lay rs j = getD rs (j / 32) zeros (j % 32)
-
-unfoldable pub encode : Operation → Bytes
-encode o = lay (records o)
-
--- Fields of a record.
+-- Fields of a record's bytes, and the record that they hold.
 abbrev pub r-count : Bytes → ℕ
 r-count b = b 12
 
@@ -69,28 +54,79 @@ r-cluster b = le 2 b 26
 abbrev pub r-size : Bytes → ℕ
 r-size b = le 4 b 28
 
--- Record r of a sector.
-abbrev pub record-at : Bytes → ℕ → Bytes
-record-at b r = part b (32 * r)
+abbrev pub record-in : Bytes → Record
+record-in b = record {
+  name = name-in b;
+  attributes = attributes b;
+  count = r-count b;
+  number = r-number b;
+  directory = r-directory b;
+  slot = r-slot b;
+  high = r-high b;
+  from = r-from b;
+  cluster = r-cluster b;
+  size = r-size b;
+}
+
+-- A record about an entry. "Long-name count, directory cluster and high word are 0 here."
+unfoldable pub record-of : Entry → ℕ → ℕ → ℕ → ℕ → Record
+record-of e number cluster from size = record {
+  name = e .name;
+  attributes = e .attributes;
+  count = 0;
+  number = number;
+  directory = 0;
+  slot = e .slot;
+  high = 0;
+  from = from;
+  cluster = cluster;
+  size = size;
+}
+
+-- "Operations: 1 create, 2 update, 3 delete, 4 truncate, 5 rename, 0 part of the record before." "First/last: create 0; update,
+-- the last cluster before; others, the first cluster." "DIR_Cluster: update and truncate; others 0." "Size: 0 for create."
+-- "Rename's record 1 is record 0 with the new name, operation 0 and the new slot."
+unfoldable pub records : Operation → List Record
+records (Create e) = record-of e 1 0 0 0 ∷ []
+records (Update e last from size) = record-of e 2 last from size ∷ []
+records (Delete e first size) = record-of e 3 first 0 size ∷ []
+records (Truncate e first from size) = record-of e 4 first from size ∷ []
+records (Rename e first size to renamed) =
+    record-of e 5 first 0 size
+    ∷ record-of (record { slot = to; name = renamed; attributes = e .attributes }) 0 first 0 size ∷ []
+
+-- Records from record 0 of a sector on; "the rest of the sector is zero".
+unfoldable pub lay : List Bytes → Bytes
+lay rs j = getD rs (j / 32) zeros (j % 32)
+
+unfoldable pub encode : Operation → Bytes
+encode o = lay (map record-bytes (records o))
+
+-- Record k of a sector, and the entry that a record is about.
+abbrev pub record-at : Bytes → ℕ → Record
+record-at b k = record-in (part b (32 * k))
+
+abbrev pub entry-in : Record → Entry
+entry-in r = record { slot = r .slot; name = r .name; attributes = r .attributes }
 
 -- The operation that the records of a sector tell of: its number is record 0's, from 1 to 5.
-unfoldable pub decode : Bytes → Operation
-decode b =
-    let e = entry-at (r-slot b) b in
-    let n = r-number b in
-    pick (eqb n 1) (Create e)
-    (pick (eqb n 2) (Update e (r-cluster b) (r-from b) (r-size b))
-    (pick (eqb n 3) (Delete e (r-cluster b) (r-size b))
-    (pick (eqb n 4) (Truncate e (r-cluster b) (r-from b) (r-size b))
-    (Rename e (r-cluster b) (r-size b) (r-slot (record-at b 1)) (name-in (record-at b 1))))))
+unfoldable pub operation-of : (ℕ → Record) → Operation
+operation-of rs =
+    let r = rs 0 in
+    let e = entry-in r in
+    pick (eqb (r .number) 1) (Create e)
+    (pick (eqb (r .number) 2) (Update e (r .cluster) (r .from) (r .size))
+    (pick (eqb (r .number) 3) (Delete e (r .cluster) (r .size))
+    (pick (eqb (r .number) 4) (Truncate e (r .cluster) (r .from) (r .size))
+    (Rename e (r .cluster) (r .size) (rs 1 .slot) (rs 1 .name)))))
 
 -- How many records the group in a sector has: "record 0 of a sector, with record 1 for a rename".
-unfoldable pub group-size : Bytes → ℕ
-group-size b = pick (eqb (r-number b) 5) 2 1
+unfoldable pub group-size : (ℕ → Record) → ℕ
+group-size rs = pick (eqb (rs 0 .number) 5) 2 1
 
 -- The group in a log sector.
 unfoldable pub group-in : ℕ → Bytes → Group
-group-in s b = record { sector = s; records = group-size b; operation = decode b }
+group-in s b = record { sector = s; records = group-size (record-at b); operation = operation-of (record-at b) }
 
 -- "First byte 0 is an unused record, 0xE5 a committed one, anything else pending." Record r of a sector tells something; it is
 -- pending.

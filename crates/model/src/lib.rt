@@ -95,6 +95,21 @@ pub enum Operation {
     },
 }
 
+// A log record. `count` is the long-name count, `number` the operation's, `high` the high word of first/last cluster, `cluster` its
+// low word, `from` DIR_Cluster.
+pub struct Record {
+    pub name: Name,
+    pub attributes: u32,
+    pub count: u32,
+    pub number: u32,
+    pub directory: u32,
+    pub slot: u32,
+    pub high: u32,
+    pub from: u32,
+    pub cluster: u32,
+    pub size: u32,
+}
+
 // A group of log records, and so the plan of what recovery redoes: the log sector that it stands in, how many records it
 // has, and the operation.
 pub struct Group {

@@ -7,46 +7,11 @@ use model::Progress;
 use model::Volume;
 ghost use mathlib.Core.Path.{_≡_};
 ghost use Prim.Native.Nat.{_+_, _≤_, _<_};
-ghost use lib.ListN.{length};
 ghost use Rattle.model.specs.Sector.{card-of};
-ghost use Rattle.model.specs.Record.{records};
 ghost use Rattle.model.specs.Promises.{Held, Ran};
 ghost use Rattle.operations.specs.Finish.{Slots};
 ghost use Rattle.operate.specs.Steps.{group-steps, log-steps};
 ghost use Rattle.operate.specs.Did.{ended-as};
-
-// How many records the group of an operation has.
-fn records_of(o: Operation) -> u32
-    ensures { λ r. ⌜ (r ≡ length (records o)) × (r ≤ 2) ⌝ }
-{
-    match o {
-        Operation::Create { entry: _ } => 1,
-        Operation::Update {
-            entry: _,
-            last: _,
-            from: _,
-            size: _,
-        } => 1,
-        Operation::Delete {
-            entry: _,
-            first: _,
-            size: _,
-        } => 1,
-        Operation::Truncate {
-            entry: _,
-            first: _,
-            from: _,
-            size: _,
-        } => 1,
-        Operation::Rename {
-            entry: _,
-            first: _,
-            size: _,
-            to: _,
-            renamed: _,
-        } => 2,
-    }
-}
 
 fn store_and_redo(w: &mut [u8], l: Layout, g: Group, limit: u32) -> Progress
     requires { ⌜ Held l (now w) ⌝ }
@@ -88,7 +53,7 @@ pub fn log_steps(w: &mut [u8], v: Volume, o: Operation, limit: u32) -> Progress
     }
     let g = Group {
         sector: s,
-        records: records_of(o),
+        records: stage::records_of(o),
         operation: o,
     };
     let q = store_and_redo(w, l, g, limit - m);

@@ -11,8 +11,8 @@ unfolding ones onesIn
     Rattle.model.specs.Chain.cluster-bytes Rattle.model.specs.Chain.needed Rattle.model.specs.Chain.chain Rattle.model.specs.Chain.ends-after Rattle.model.specs.Chain.keeps-chain Rattle.model.specs.Chain.cluster-sector Rattle.model.specs.Chain.file-sector
     Rattle.model.specs.Root.slot-at Rattle.model.specs.Root.vacant Rattle.model.specs.Root.is-label Rattle.model.specs.Root.is-directory Rattle.model.specs.Root.listed Rattle.model.specs.Root.is-file Rattle.model.specs.Root.name-byte Rattle.model.specs.Root.stem-length Rattle.model.specs.Root.padded Rattle.model.specs.Root.name-ok Rattle.model.specs.Root.same-name Rattle.model.specs.Root.bears Rattle.model.specs.Root.lowest-slot Rattle.model.specs.Root.find Rattle.model.specs.Root.free-run Rattle.model.specs.Root.end-slot Rattle.model.specs.Root.root-ok Rattle.model.specs.Root.entry-at Rattle.model.specs.Root.file-at
     Rattle.model.specs.Log.run Rattle.model.specs.Log.run-ok Rattle.model.specs.Log.area Rattle.model.specs.Log.unused
-    Rattle.model.specs.Record.record-of Rattle.model.specs.Record.records Rattle.model.specs.Record.lay Rattle.model.specs.Record.encode Rattle.model.specs.Record.decode Rattle.model.specs.Record.group-size Rattle.model.specs.Record.tells Rattle.model.specs.Record.pends Rattle.model.specs.Record.committed Rattle.model.specs.Record.commit
-    Rattle.model.specs.Pending.first-pending Rattle.model.specs.Pending.slot-ok Rattle.model.specs.Pending.record-ok Rattle.model.specs.Pending.alike Rattle.model.specs.Pending.pair-ok Rattle.model.specs.Pending.empty-from Rattle.model.specs.Pending.group-ok Rattle.model.specs.Pending.alone Rattle.model.specs.Pending.accepted Rattle.model.specs.Record.group-in Rattle.model.specs.Pending.pending-in Rattle.model.specs.Pending.pending
+    Rattle.model.specs.Record.record-bytes Rattle.model.specs.Record.record-of Rattle.model.specs.Record.records Rattle.model.specs.Record.lay Rattle.model.specs.Record.encode Rattle.model.specs.Record.operation-of Rattle.model.specs.Record.group-size Rattle.model.specs.Record.tells Rattle.model.specs.Record.pends Rattle.model.specs.Record.committed Rattle.model.specs.Record.commit
+    Rattle.model.specs.Pending.first-pending Rattle.model.specs.Pending.slot-ok Rattle.model.specs.Pending.record-ok Rattle.model.specs.Pending.alike Rattle.model.specs.Pending.pair-ok Rattle.model.specs.Pending.records-ok Rattle.model.specs.Pending.empty-from Rattle.model.specs.Pending.group-ok Rattle.model.specs.Pending.alone Rattle.model.specs.Pending.accepted Rattle.model.specs.Record.group-in Rattle.model.specs.Pending.pending-in Rattle.model.specs.Pending.pending
     Rattle.model.specs.Ground._>>=_ Rattle.model.specs.Ground._when_ Rattle.model.specs.Ground._>>_
     Rattle.model.specs.Volume.mount Rattle.model.specs.Volume.locate Rattle.model.specs.Volume.inspect Rattle.model.specs.Volume.examine Rattle.model.specs.Volume.settled Rattle.model.specs.Volume.clean
     Rattle.model.specs.Text.ascii Rattle.model.specs.Text.digits Rattle.model.specs.Text.decimal Rattle.model.specs.Text.join Rattle.model.specs.Text.line

@@ -4,6 +4,7 @@ pub mod Appends
 pub mod Clearing
 pub mod Roots
 pub mod Edits
+pub mod Seats
 pub mod Lasts
 pub mod Added
 pub mod DataStores

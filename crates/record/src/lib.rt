@@ -1,12 +1,11 @@
-// Ground RECORD's rules for the records of one log sector.
+// Log records as they stand in a sector, and ground RECORD's rules for them.
+use model::Record;
 ghost use mathlib.Core.Path.{_≡_};
 ghost use Prim.Native.Nat.{_+_, _*_, _≤_, _<_};
 ghost use lib.ListN.{length};
-ghost use lib.Dec.{eqb};
-ghost use Rattle.model.specs.Bytes.{le};
 ghost use Rattle.model.specs.Sector.{card-of};
 ghost use Rattle.model.specs.Record.{record-at, pends};
-ghost use Rattle.model.specs.Pending.{slot-ok, record-ok, alike, pair-ok};
+ghost use Rattle.model.specs.Pending.{slot-ok, record-ok, alike, pair-ok, records-ok};
 
 // Whether record r of sector s is pending.
 pub fn pends(log: &[u8], s: u32, r: u32) -> bool
@@ -30,95 +29,110 @@ fn slot_ok(entries: u32, z: u32, k: u32) -> bool
     k <= z
 }
 
+// Record k of sector s.
+pub fn load(log: &[u8], s: u32, k: u32) -> Record
+    requires { ⌜ (512 * s + 512 ≤ length (now log)) × (k < 16) ⌝ }
+    ensures { λ r. ⌜ r ≡ record-at (card-of (now (log .entry)) s) k ⌝ }
+{
+    let name = names::name_at(log, s, 32 * k);
+    let attributes = sector::byte(log, s, 32 * k + 11);
+    let count = sector::byte(log, s, 32 * k + 12);
+    let number = sector::byte(log, s, 32 * k + 13);
+    let directory = sector::le32(log, s, 32 * k + 14);
+    let slot = sector::le16(log, s, 32 * k + 18);
+    let high = sector::le16(log, s, 32 * k + 20);
+    let from = sector::le32(log, s, 32 * k + 22);
+    let cluster = sector::le16(log, s, 32 * k + 26);
+    let size = sector::le32(log, s, 32 * k + 28);
+    Record {
+        name,
+        attributes,
+        count,
+        number,
+        directory,
+        slot,
+        high,
+        from,
+        cluster,
+        size,
+    }
+}
+
 // The fields of record 0 that are judged.
-pub fn record_ok(log: &[u8], s: u32, entries: u32, z: u32) -> bool
+fn record_ok(r: Record, entries: u32, z: u32) -> bool
+    ensures { λ t. ⌜ t ≡ record-ok entries z r ⌝ }
+{
+    if r.number < 1 {
+        return false;
+    }
+    if 5 < r.number {
+        return false;
+    }
+    if r.directory != 0 {
+        return false;
+    }
+    if r.high != 0 {
+        return false;
+    }
+    if r.count != 0 {
+        return false;
+    }
+    if 65536 <= r.from {
+        return false;
+    }
+    slot_ok(entries, z, r.slot)
+}
+
+// Whether two records are alike but for name, operation and slot.
+fn is_alike(r: Record, d: Record) -> bool
+    ensures { λ t. ⌜ t ≡ alike r d ⌝ }
+{
+    if r.attributes != d.attributes {
+        return false;
+    }
+    if r.count != d.count {
+        return false;
+    }
+    if r.directory != d.directory {
+        return false;
+    }
+    if r.high != d.high {
+        return false;
+    }
+    if r.from != d.from {
+        return false;
+    }
+    if r.cluster != d.cluster {
+        return false;
+    }
+    r.size == d.size
+}
+
+// The two records of a rename.
+fn pair_ok(r: Record, d: Record, entries: u32, z: u32) -> bool
+    ensures { λ t. ⌜ t ≡ pair-ok entries z r d ⌝ }
+{
+    if !is_alike(r, d) {
+        return false;
+    }
+    if !slot_ok(entries, z, d.slot) {
+        return false;
+    }
+    r.slot != d.slot
+}
+
+// The records of the group in sector s.
+pub fn records_ok(log: &[u8], s: u32, entries: u32, z: u32) -> bool
     requires { ⌜ 512 * s + 512 ≤ length (now log) ⌝ }
-    ensures { λ r. ⌜ r ≡ record-ok entries z (card-of (now (log .entry)) s) ⌝ }
+    ensures { λ t. ⌜ t ≡ records-ok entries z (record-at (card-of (now (log .entry)) s)) ⌝ }
 {
-    let number = sector::byte(log, s, 13);
-    if number < 1 {
+    let r = load(log, s, 0);
+    if !record_ok(r, entries, z) {
         return false;
     }
-    if 5 < number {
-        return false;
+    if r.number != 5 {
+        return true;
     }
-    if sector::le32(log, s, 14) != 0 {
-        return false;
-    }
-    if sector::le16(log, s, 20) != 0 {
-        return false;
-    }
-    if sector::byte(log, s, 12) != 0 {
-        return false;
-    }
-    if 65536 <= sector::le32(log, s, 22) {
-        return false;
-    }
-    slot_ok(entries, z, sector::le16(log, s, 18))
-}
-
-// Whether records 0 and 1 have the same byte, or the same number of 2 or 4 bytes, at an offset.
-fn same_byte(log: &[u8], s: u32, j: u32) -> bool
-    requires { ⌜ (512 * s + 512 ≤ length (now log)) × (j < 32) ⌝ }
-    ensures { λ r. ⌜ r ≡ eqb (card-of (now (log .entry)) s j) (record-at (card-of (now (log .entry)) s) 1 j) ⌝ }
-{
-    sector::byte(log, s, j) == sector::byte(log, s, 32 + j)
-}
-
-fn same_le16(log: &[u8], s: u32, j: u32) -> bool
-    requires { ⌜ (512 * s + 512 ≤ length (now log)) × (j + 2 ≤ 32) ⌝ }
-    ensures { λ r. ⌜ r ≡ eqb (le 2 (card-of (now (log .entry)) s) j) (le 2 (record-at (card-of (now (log .entry)) s) 1) j) ⌝ }
-{
-    sector::le16(log, s, j) == sector::le16(log, s, 32 + j)
-}
-
-fn same_le32(log: &[u8], s: u32, j: u32) -> bool
-    requires { ⌜ (512 * s + 512 ≤ length (now log)) × (j + 4 ≤ 32) ⌝ }
-    ensures { λ r. ⌜ r ≡ eqb (le 4 (card-of (now (log .entry)) s) j) (le 4 (record-at (card-of (now (log .entry)) s) 1) j) ⌝ }
-{
-    sector::le32(log, s, j) == sector::le32(log, s, 32 + j)
-}
-
-// Whether records 0 and 1 are alike but for name, operation and slot.
-fn is_alike(log: &[u8], s: u32) -> bool
-    requires { ⌜ 512 * s + 512 ≤ length (now log) ⌝ }
-    ensures { λ r. ⌜ r ≡ alike (card-of (now (log .entry)) s) (record-at (card-of (now (log .entry)) s) 1) ⌝ }
-{
-    if !same_byte(log, s, 11) {
-        return false;
-    }
-    if !same_byte(log, s, 12) {
-        return false;
-    }
-    if !same_le32(log, s, 14) {
-        return false;
-    }
-    if !same_le16(log, s, 20) {
-        return false;
-    }
-    if !same_le32(log, s, 22) {
-        return false;
-    }
-    if !same_le16(log, s, 26) {
-        return false;
-    }
-    same_le32(log, s, 28)
-}
-
-// Record 1 of a rename.
-pub fn pair_ok(log: &[u8], s: u32, entries: u32, z: u32) -> bool
-    requires { ⌜ 512 * s + 512 ≤ length (now log) ⌝ }
-    ensures { λ r. ⌜ r ≡ pair-ok entries z (card-of (now (log .entry)) s) ⌝ }
-{
-    if !pends(log, s, 1) {
-        return false;
-    }
-    if !is_alike(log, s) {
-        return false;
-    }
-    let slot = sector::le16(log, s, 50);
-    if !slot_ok(entries, z, slot) {
-        return false;
-    }
-    sector::le16(log, s, 18) != slot
+    let d = load(log, s, 1);
+    pair_ok(r, d, entries, z)
 }

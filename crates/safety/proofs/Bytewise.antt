@@ -4,7 +4,7 @@ use native.Mathlib.Nat.{mod-lt}
 use native.Mathlib.Omega.{arith}
 use mathlib.Core.Path.{_≡_, refl, sym, ap, _∙_, subst}
 use mathlib.Core.Logic.{inl, inr}
-use mathlib.Core.List.{List, [], _∷_, _++_}
+use mathlib.Core.List.{List, [], _∷_, _++_, map}
 use mathlib.Core.Bool.{Bool, true, _&&_}
 use lib.Dec.{ltb, eqb, leb}
 use lib.ListN.{getD}
@@ -15,7 +15,8 @@ use Rattle.model.specs.Sector.{Card, Window, Store, after, put}
 use Rattle.model.specs.Fat.{Fat, fat1-of, fat2-of, set-entry, set-wide-entry, link, release}
 use Rattle.model.specs.Chain.{file-sector}
 use Rattle.model.specs.Root.{Directory, slot-at}
-use Rattle.model.specs.Record.{record-of, records, lay, encode, committed, commit, group-in}
+use Rattle.model.specs.Record.{record-bytes, records, lay, encode, committed, commit, group-in}
+use Rattle.model.specs.declared.Record.{Record}
 use Rattle.model.specs.Ground.{Answer, refused, granted}
 use Rattle.model.specs.Volume.{clean, examine}
 use Rattle.model.specs.declared.Entry.{Entry}
@@ -75,19 +76,15 @@ named n b h = patched 8 (n .stem) 0 _ (patched 3 (n .extension) 8 b h)
 
 -- ---- records
 
-record-small : (e : Entry) (number cluster from size : ℕ) → Small (record-of e number cluster from size)
-unfolding record-of
-record-small e number cluster from size =
-    patched 8 (e .name .stem) 0 _ (patched 3 (e .name .extension) 8 _ (patched 1 (e .attributes) 11 _ (patched 1 number 13 _
-    (patched 2 (e .slot) 18 _ (patched 4 from 22 _ (patched 2 cluster 26 _ (patched 4 size 28 zeros none)))))))
+record-small : (r : Record) → Small (record-bytes r)
+unfolding record-bytes
+record-small r =
+    patched 8 (r .name .stem) 0 _ (patched 3 (r .name .extension) 8 _ (patched 1 (r .attributes) 11 _ (patched 1 (r .count) 12 _ (patched 1 (r .number) 13 _
+    (patched 4 (r .directory) 14 _ (patched 2 (r .slot) 18 _ (patched 2 (r .high) 20 _ (patched 4 (r .from) 22 _ (patched 2 (r .cluster) 26 _ (patched 4 (r .size) 28 zeros none))))))))))
 
-records-small : (o : Operation) → All Small (records o)
-unfolding records
-records-small (Create e) = (record-small e 1 0 0 0, tt)
-records-small (Update e last from size) = (record-small e 2 last from size, tt)
-records-small (Delete e first size) = (record-small e 3 first 0 size, tt)
-records-small (Truncate e first from size) = (record-small e 4 first from size, tt)
-records-small (Rename e first size to renamed) = (record-small e 5 first 0 size, (record-small _ 0 first 0 size, tt))
+records-small : (rs : List Record) → All Small (map record-bytes rs)
+records-small [] = tt
+records-small (r ∷ rs) = (record-small r, records-small rs)
 
 getD-small : (rs : List Bytes) (i : ℕ) → All Small rs → Small (getD rs i zeros)
 getD-small [] i a = none
@@ -96,7 +93,7 @@ getD-small (r ∷ rs) (suc i) a = getD-small rs i (a .1)
 
 encode-small : (o : Operation) → Small (encode o)
 unfolding encode lay
-encode-small o j = getD-small (records o) (j / 32) (records-small o) (j % 32)
+encode-small o j = getD-small (map record-bytes (records o)) (j / 32) (records-small (records o)) (j % 32)
 
 committed-small : (n : ℕ) (b : Bytes) → Small b → Small (committed n b)
 unfolding committed

@@ -22,6 +22,10 @@ use Rattle.model.proofs.Volumes.{layout-of, first-fat}
 use Rattle.safety.proofs.Start.{Start, shape-of, entries-few}
 use Rattle.safety.proofs.Operate.{Supplies}
 use Rattle.safety.proofs.Clusters.{Plain, released-marks, plain-fits, shorten-marks, extend-marks}
+use Rattle.model.proofs.Records.{fits-create, fits-update, fits-delete, fits-truncate, fits-rename}
+use Rattle.model.proofs.Pendings.{recorded-create, recorded-update, recorded-delete, recorded-truncate, recorded-rename}
+use Rattle.model.specs.Record.{records, record-of}
+use Rattle.safety.proofs.After.{last-slot}
 use Rattle.safety.proofs.Operations.{entry-fits, slot-seat, slot-named, slot-lives, first-fits, size-fits, the-chain, old-plain, old-busy}
 use Rattle.safety.proofs.Appends.{new, ds, total, new-plain, total-fits, outside}
 
@@ -39,12 +43,13 @@ module _ {size : ℕ} {c : Card} (st : Start size c) where
   creates-as n = Create (record { slot = free-slot l c; name = name-in (n .byte); attributes = 0x20 })
 
   pub create-supplies : (n : Span) → name-ok n ≡ true → free-slot l c < l .entries → Supplies c [] fat (creates-as n)
+  unfolding records record-of
   create-supplies n ok room = record {
     outside = tt;
     marks = λ k low high. refl;
     named = name-starts n ok;
-    fits = record { slot = omega (arith, entries-few st, room); name = name-fits n ok; attributes = omega arith };
-    recorded = (room, free-low l c);
+    fits = fits-create _ (record { slot = omega (arith, entries-few st, room); name = name-fits n ok; attributes = omega arith });
+    recorded = recorded-create (l .entries) (last-slot c) _ (room, free-low l c);
     lives = name-starts n ok;
   }
 
@@ -59,13 +64,13 @@ module _ {size : ℕ} {c : Card} (st : Start size c) where
     renames-as n = Rename e (first-cluster b) (file-size b) (free-slot l c) (name-in (n .byte))
 
     pub rename-supplies : (n : Span) → name-ok n ≡ true → free-slot l c < l .entries → Supplies c [] fat (renames-as n)
-    unfolding entry-at
+    unfolding entry-at records record-of
     rename-supplies n ok room = record {
       outside = tt;
       marks = λ k low high. refl;
       named = slot-named st s live;
-      fits = (entry-fits st s live, first-fits st s live, size-fits st s live, omega (arith, entries-few st, room), name-fits n ok);
-      recorded = (slot-seat st s live, (room, free-low l c), live-not-free l c s live room, name-starts n ok);
+      fits = fits-rename _ _ _ _ _ (entry-fits st s live) (first-fits st s live) (size-fits st s live) (omega (arith, entries-few st, room)) (name-fits n ok);
+      recorded = recorded-rename (l .entries) (last-slot c) _ _ _ _ _ (slot-seat st s live) (room, free-low l c) (live-not-free l c s live room) (name-starts n ok);
       lives = tt;
     }
 
@@ -77,13 +82,13 @@ module _ {size : ℕ} {c : Card} (st : Start size c) where
       deletes-as = Delete e (first-cluster b) (file-size b)
 
       pub delete-supplies : Supplies c [] (release ks fat) deletes-as
-      unfolding entry-at
+      unfolding entry-at records record-of
       delete-supplies = record {
         outside = tt;
         marks = λ k low high. released-marks l (sh .few) fat ks (old-plain st s live whole) k;
         named = slot-named st s live;
-        fits = (entry-fits st s live, first-fits st s live, size-fits st s live);
-        recorded = slot-seat st s live;
+        fits = fits-delete _ _ _ (entry-fits st s live) (first-fits st s live) (size-fits st s live);
+        recorded = recorded-delete (l .entries) (last-slot c) _ _ _ (slot-seat st s live);
         lives = tt;
       }
 
@@ -94,7 +99,7 @@ module _ {size : ℕ} {c : Card} (st : Start size c) where
       truncates-as n = Truncate e (first-cluster b) (getD (drop (needed l n) ks) 0 0) n
 
       pub truncate-supplies : (n : ℕ) → n ≤ file-size b → Supplies c [] (cut-fat n) (truncates-as n)
-      unfolding entry-at
+      unfolding entry-at records record-of
       truncate-supplies n less =
           let m : ℕ = needed l n in
           let plain : All (Plain l fat) (take m ks) = all-take (Plain l fat) m ks (old-plain st s live whole) in
@@ -105,8 +110,8 @@ module _ {size : ℕ} {c : Card} (st : Start size c) where
             outside = tt;
             marks = λ k low high. shorten-marks l (sh .few) fat (take m ks) plain busy (drop m ks) freed k;
             named = slot-named st s live;
-            fits = (entry-fits st s live, first-fits st s live, omega arith, omega (arith, size-fits st s live));
-            recorded = (slot-seat st s live, from);
+            fits = fits-truncate _ _ (getD (drop m ks) 0 0) n (entry-fits st s live) (first-fits st s live) (omega arith) (omega (arith, size-fits st s live));
+            recorded = recorded-truncate (l .entries) (last-slot c) _ _ _ _ (slot-seat st s live) from;
             lives = slot-lives st s live;
           }
 
@@ -118,7 +123,7 @@ module _ {size : ℕ} {c : Card} (st : Start size c) where
         updates-as = Update e (last-cluster ks) (getD (new st s live whole d room) 0 0) (total st s live whole d room)
 
         pub append-supplies : Supplies c (ds st s live whole d room) longer-fat updates-as
-        unfolding entry-at
+        unfolding entry-at records record-of
         append-supplies =
             let few : l .clusters ≤ 65524 = sh .few in
             let from : getD (new st s live whole d room) 0 0 < 65536 = plain-fits l few fat (new st s live whole d room) (new-plain st s live whole d room) 0 in
@@ -126,7 +131,7 @@ module _ {size : ℕ} {c : Card} (st : Start size c) where
               outside = outside st s live whole d room;
               marks = λ k low high. extend-marks l few fat ks (old-plain st s live whole) (old-busy st s live whole) (new st s live whole d room) (new-plain st s live whole d room) k;
               named = slot-named st s live;
-              fits = (entry-fits st s live, plain-fits l few fat ks (old-plain st s live whole) (length ks - 1), omega arith, total-fits st s live whole d room);
-              recorded = (slot-seat st s live, from);
+              fits = fits-update _ _ (getD (new st s live whole d room) 0 0) (total st s live whole d room) (entry-fits st s live) (plain-fits l few fat ks (old-plain st s live whole) (length ks - 1)) (omega arith) (total-fits st s live whole d room);
+              recorded = recorded-update (l .entries) (last-slot c) _ _ _ _ (slot-seat st s live) from;
               lives = slot-lives st s live;
             }

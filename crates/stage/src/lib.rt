@@ -4,14 +4,15 @@ use model::Entry;
 use model::Group;
 use model::Operation;
 use model::Progress;
+use model::Record;
 ghost use mathlib.Core.Path.{_≡_};
 ghost use mathlib.Core.List.{[], _∷_};
 ghost use Prim.Native.Nat.{_+_, _-_, _*_, _≤_, _<_};
-ghost use lib.ListN.{length};
-ghost use Rattle.model.specs.Bytes.{bytes-of};
+ghost use lib.ListN.{length, getD};
+ghost use Rattle.model.specs.Bytes.{bytes-of, zeros};
 ghost use Rattle.model.specs.Sector.{card-of};
 ghost use Rattle.model.specs.Log.{log-of, unused};
-ghost use Rattle.model.specs.Record.{record-of, lay, encode};
+ghost use Rattle.model.specs.Record.{record-bytes, record-in, record-of, records, encode};
 ghost use Rattle.model.specs.Promises.{Ran};
 ghost use Rattle.operations.specs.Plan.{clear-all, clearing, group-sector, group-store};
 ghost use Rattle.stage.specs.Place.{Within};
@@ -84,45 +85,95 @@ pub fn clear_log(w: &mut [u8], a: Area, limit: u32) -> Progress
     clear_all(w, a, limit)
 }
 
-// A log record.
-fn record_of(e: Entry, number: u32, cluster: u32, from: u32, size: u32) -> [u8; 32]
-    ensures { λ r. ⌜ bytes-of r ≡ record-of e number cluster from size ⌝ }
+// The bytes of a log record.
+fn record_bytes(r: Record) -> [u8; 32]
+    ensures { λ b. ⌜ bytes-of b ≡ record-bytes r ⌝ }
 {
-    let a = build::set([0u8; 32], 28, 4, size);
-    let b = build::set(a, 26, 2, cluster);
-    let c = build::set(b, 22, 4, from);
-    let d = build::set(c, 18, 2, e.slot);
-    let f = build::set(d, 13, 1, number);
-    let g = build::set(f, 11, 1, e.attributes);
-    build::set_name(g, e.name)
+    let a = build::set([0u8; 32], 28, 4, r.size);
+    let b = build::set(a, 26, 2, r.cluster);
+    let c = build::set(b, 22, 4, r.from);
+    let d = build::set(c, 20, 2, r.high);
+    let e = build::set(d, 18, 2, r.slot);
+    let f = build::set(e, 14, 4, r.directory);
+    let g = build::set(f, 13, 1, r.number);
+    let h = build::set(g, 12, 1, r.count);
+    let i = build::set(h, 11, 1, r.attributes);
+    let name = r.name;
+    build::set_name(i, name)
 }
 
-// A sector that begins with a record, the rest zero.
-fn one_record(b: [u8; 32]) -> [u8; 512]
-    ensures { λ r. ⌜ bytes-of r ≡ lay (bytes-of b ∷ []) ⌝ }
+// A record about an entry.
+fn record_about(e: Entry, number: u32, cluster: u32, from: u32, size: u32) -> Record
+    ensures { λ r. ⌜ r ≡ record-of e number cluster from size ⌝ }
 {
-    build::lay([0u8; 512], 0, b)
+    let name = e.name;
+    Record {
+        name,
+        attributes: e.attributes,
+        count: 0,
+        number,
+        directory: 0,
+        slot: e.slot,
+        high: 0,
+        from,
+        cluster,
+        size,
+    }
 }
 
-// The group of an operation, as its log sector.
-pub fn encode_group(o: Operation) -> [u8; 512]
-    ensures { λ r. ⌜ bytes-of r ≡ encode o ⌝ }
+// How many records the group of an operation has.
+pub fn records_of(o: Operation) -> u32
+    ensures { λ r. ⌜ (r ≡ length (records o)) × (r ≤ 16) ⌝ }
 {
     match o {
-        Operation::Create { entry } => one_record(record_of(entry, 1, 0, 0, 0)),
+        Operation::Create { entry: _ } => 1,
+        Operation::Update {
+            entry: _,
+            last: _,
+            from: _,
+            size: _,
+        } => 1,
+        Operation::Delete {
+            entry: _,
+            first: _,
+            size: _,
+        } => 1,
+        Operation::Truncate {
+            entry: _,
+            first: _,
+            from: _,
+            size: _,
+        } => 1,
+        Operation::Rename {
+            entry: _,
+            first: _,
+            size: _,
+            to: _,
+            renamed: _,
+        } => 2,
+    }
+}
+
+// Record k of the group of an operation.
+fn record_of(o: Operation, k: u32) -> Record
+    requires { ⌜ k < length (records o) ⌝ }
+    ensures { λ r. ⌜ r ≡ getD (records o) k (record-in zeros) ⌝ }
+{
+    match o {
+        Operation::Create { entry } => record_about(entry, 1, 0, 0, 0),
         Operation::Update {
             entry,
             last,
             from,
             size,
-        } => one_record(record_of(entry, 2, last, from, size)),
-        Operation::Delete { entry, first, size } => one_record(record_of(entry, 3, first, 0, size)),
+        } => record_about(entry, 2, last, from, size),
+        Operation::Delete { entry, first, size } => record_about(entry, 3, first, 0, size),
         Operation::Truncate {
             entry,
             first,
             from,
             size,
-        } => one_record(record_of(entry, 4, first, from, size)),
+        } => record_about(entry, 4, first, from, size),
         Operation::Rename {
             entry,
             first,
@@ -130,16 +181,33 @@ pub fn encode_group(o: Operation) -> [u8; 512]
             to,
             renamed,
         } => {
-            let a = record_of(entry, 5, first, 0, size);
+            if k == 0 {
+                return record_about(entry, 5, first, 0, size);
+            }
             let e = Entry {
                 slot: to,
                 name: renamed,
                 attributes: entry.attributes,
             };
-            let b = record_of(e, 0, first, 0, size);
-            build::lay(one_record(a), 1, b)
+            record_about(e, 0, first, 0, size)
         }
     }
+}
+
+// The group of an operation, as its log sector: its records from record 0 on, the rest zero.
+pub fn encode_group(o: Operation) -> [u8; 512]
+    ensures { λ r. ⌜ bytes-of r ≡ encode o ⌝ }
+{
+    let n = records_of(o);
+    let mut buf = [0u8; 512];
+    let mut k = 0;
+    while k < n {
+        let b = record_bytes(record_of(o, k));
+        let more = build::lay(buf, sector::index(k), b);
+        buf = more;
+        k += 1;
+    }
+    buf
 }
 
 // The store of a group.

@@ -1,4 +1,4 @@
-use Rattle.model.specs.Record.{decode, group-size, group-in}
+use Rattle.model.specs.Record.{group-in}
 use borrow.Author.Needs.{needs}
 use Rattle.group.proofs.group_at.Statement.{statement}
 use Rattle.group.proofs.group_at.Tie as tie

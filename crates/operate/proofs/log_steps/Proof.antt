@@ -9,7 +9,7 @@ use Rattle.operate.proofs.log_steps.Statement.{statement}
 use Rattle.operate.proofs.log_steps.Tie as tie
 use Rattle.operate.proofs.log_steps.Reads as reads
 use Rattle.operate.proofs.log_steps.Lts as lts
-use Rattle.operate.proofs.records_of.Reads as records-of-reads
+use Rattle.stage.proofs.records_of.Reads as records-of-reads
 use Rattle.operate.proofs.store_and_redo.Reads as store-and-redo-reads
 use Rattle.stage.proofs.clear_log.Reads as clear-log-reads
 use Rattle.stage.proofs.group_sector.Reads as group-sector-reads

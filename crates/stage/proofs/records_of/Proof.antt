@@ -2,10 +2,10 @@ use mathlib.Core.Path.{refl}
 use native.Mathlib.Omega.{arith}
 use Rattle.model.specs.Record.{records}
 use borrow.Author.Needs.{needs}
-use Rattle.operate.proofs.records_of.Statement.{statement}
-use Rattle.operate.proofs.records_of.Tie as tie
-use Rattle.operate.proofs.records_of.Reads as reads
-use Rattle.operate.proofs.records_of.Lts as lts
+use Rattle.stage.proofs.records_of.Statement.{statement}
+use Rattle.stage.proofs.records_of.Tie as tie
+use Rattle.stage.proofs.records_of.Reads as reads
+use Rattle.stage.proofs.records_of.Lts as lts
 
 enum-told : tie.Need-enum-told
 enum-told c = search needs
