@@ -1,11 +1,11 @@
 -- Laws of the scan of a log table.
 use Prim.Native.Nat.{ℕ, _+_, _-_, _*_, _/_, _%_, _<_, _≤_}
 use native.Mathlib.Omega.{arith}
-use mathlib.Core.Path.{_≡_, refl, sym, _∙_}
+use mathlib.Core.Path.{_≡_, refl, sym, ap, _∙_}
 use mathlib.Core.Logic.{⊎-elim}
 use mathlib.Core.Bool.{Bool, true, false, _&&_, _||_, not}
 use mathlib.Core.List.{List}
-use lib.ListN.{take, drop}
+use lib.ListN.{length, take, drop, length-take, length-drop}
 use lib.Dec.{leb, ltb, eqb}
 use borrow.Author.Tests.{ltb-true, ltb-false, lt-ltb, le-ltb, le-leb, lt-leb}
 use Rattle.model.specs.Bytes.{pick}
@@ -20,8 +20,9 @@ use Rattle.model.specs.declared.Pending.the-variants as Pending
 use Rattle.model.proofs.Tests.{less?}
 use Rattle.model.proofs.Scan.{Sofar, none-below, first-is, first-has, first-ge, first-before, all-of, all-not}
 use Rattle.model.proofs.Sectors.{part-sector}
-use Rattle.model.proofs.Logs.{pending-same}
+use Rattle.model.proofs.Logs.{first-pending-same, pending-same}
 use Rattle.journal.specs.Place.{place-of, judged}
+use Rattle.journal.specs.declared.Place.{Place}
 use Rattle.journal.specs.declared.Place.the-variants.{At, Nowhere}
 
 -- Record r of sector s.
@@ -126,8 +127,23 @@ judged-at entries z a g s r h =
     let f : (16 * s + r) % 16 ≡ r = omega arith in
     rw (e, f)
 
--- The log as a part of a window.
+-- The log as a part of a window: its first pending record, and what is pending.
+pub first-part : (a : Area) (xs : List ℕ) (k : ℕ) → k ≡ 512 * a .sectors
+    → first-pending (a .sectors) (card-of (take k (drop (512 * a .sector) xs))) ≡ first-pending (a .sectors) (log-of a (card-of xs))
+first-part a xs k e =
+    first-pending-same (a .sectors) (card-of (take k (drop (512 * a .sector) xs))) (log-of a (card-of xs)) (λ s h. part-sector xs (a .sector) k s (omega arith))
+
 pub pending-part : (entries z : ℕ) (a : Area) (xs : List ℕ) (k : ℕ) → k ≡ 512 * a .sectors
     → pending-in entries z a (card-of (take k (drop (512 * a .sector) xs))) ≡ pending-in entries z a (log-of a (card-of xs))
 pending-part entries z a xs k e =
     pending-same entries z a (card-of (take k (drop (512 * a .sector) xs))) (log-of a (card-of xs)) (λ s h. part-sector xs (a .sector) k s (omega arith))
+
+pub part-length : (xs : List ℕ) (from k : ℕ) → from + k ≤ length xs → length (take k (drop from xs)) ≡ k
+part-length xs from k h = simp (length-take, length-drop) (omega arith)
+
+pub place-part : (a : Area) (xs : List ℕ) (k : ℕ) (p : Place) → k ≡ 512 * a .sectors → 512 * (a .sector + a .sectors) ≤ length xs
+    → p ≡ place-of (first-pending (length (take k (drop (512 * a .sector) xs)) / 512) (card-of (take k (drop (512 * a .sector) xs)))) (length (take k (drop (512 * a .sector) xs)) / 512)
+    → p ≡ place-of (first-pending (a .sectors) (log-of a (card-of xs))) (a .sectors)
+place-part a xs k p e fits is =
+    let n : length (take k (drop (512 * a .sector) xs)) / 512 ≡ a .sectors = omega (arith, part-length xs (512 * a .sector) k (omega arith)) in
+    is ∙ (λ i. place-of (first-pending (n i) (card-of (take k (drop (512 * a .sector) xs)))) (n i)) ∙ ap (λ (j : ℕ). place-of j (a .sectors)) (first-part a xs k e)

@@ -8,8 +8,8 @@ ghost use lib.ListN.{length};
 ghost use Rattle.model.specs.Sector.{card-of};
 ghost use Rattle.model.specs.Scan.{first-from};
 ghost use Rattle.model.specs.Promises.{Held};
-ghost use Rattle.model.specs.Root.{end-slot, first-bytes};
-ghost use Rattle.model.specs.Pending.{pending-at, first-pending, alone, pending-in, pending};
+ghost use Rattle.model.specs.Log.{log-of};
+ghost use Rattle.model.specs.Pending.{pending-at, first-pending, alone, pending-in};
 ghost use Rattle.journal.specs.Place.{Lent, place-of, judged};
 
 // Where a record stands in a log table: its sector, and its number there.
@@ -94,26 +94,35 @@ fn judge(log: &[u8], entries: u32, z: u32, a: Area, s: u32, r: u32) -> Pending
     Pending::Held(a.sector + s)
 }
 
-// What is pending in a log table that lies at `a`; z is the lowest root slot beginning 0.
-pub fn pending_in(log: &[u8], entries: u32, z: u32, a: Area) -> Pending
-    requires { ⌜ Lent a (now log) ⌝ }
+// What is pending in a log table that lies at `a` and has its first pending record at `place`; z is the lowest root slot beginning 0.
+pub fn pending_in(log: &[u8], entries: u32, z: u32, a: Area, place: Place) -> Pending
+    requires { ⌜ Lent a (now log) × (place ≡ place-of (first-pending (a .sectors) (card-of (now log))) (a .sectors)) ⌝ }
     ensures { λ p. ⌜ p ≡ pending-in entries z a (card-of (now (log .entry))) ⌝ }
 {
-    let place = scan(log);
     match place {
         Place::Nowhere => Pending::Nothing,
         Place::At(s, r) => judge(log, entries, z, a, s, r),
     }
 }
 
-// What is pending on a card. Only the log's part of the window is lent to the scan.
-pub fn pending_of(w: &[u8], l: Layout, a: Area, z: u32) -> Pending
-    requires { ⌜
-        Held l (now w) × (a .sector + a .sectors ≤ l .total) × (a .sectors ≤ 128)
-        × (z ≡ end-slot (l .entries) (first-bytes l (card-of (now w)))) ⌝ }
-    ensures { λ p. ⌜ p ≡ pending l a (card-of (now (w .entry))) ⌝ }
+// The first pending record of a card's log. Only the log's part of the window is lent to the scan.
+pub fn place_in(w: &[u8], l: Layout, a: Area) -> Place
+    requires { ⌜ Held l (now w) × (a .sector + a .sectors ≤ l .total) × (a .sectors ≤ 128) ⌝ }
+    ensures { λ p. ⌜ p ≡ place-of (first-pending (a .sectors) (log-of a (card-of (now (w .entry))))) (a .sectors) ⌝ }
 {
     let from = 512 * sector::index(a.sector);
     let end = from + 512 * sector::index(a.sectors);
-    pending_in(&w[from..end], l.entries, z, a)
+    scan(&w[from..end])
+}
+
+// What is pending on a card, whose first pending record stands at `place`.
+pub fn pending_of(w: &[u8], l: Layout, a: Area, z: u32, place: Place) -> Pending
+    requires { ⌜
+        Held l (now w) × (a .sector + a .sectors ≤ l .total) × (a .sectors ≤ 128)
+        × (place ≡ place-of (first-pending (a .sectors) (log-of a (card-of (now w)))) (a .sectors)) ⌝ }
+    ensures { λ p. ⌜ p ≡ pending-in (l .entries) z a (log-of a (card-of (now (w .entry)))) ⌝ }
+{
+    let from = 512 * sector::index(a.sector);
+    let end = from + 512 * sector::index(a.sectors);
+    pending_in(&w[from..end], l.entries, z, a, place)
 }

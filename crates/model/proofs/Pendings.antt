@@ -26,7 +26,7 @@ use Rattle.model.proofs.Tests.{clash, less?, told, each-every, every-at
 use Rattle.model.proofs.Scan.{first-before0, first-above0, all-same, all-of, first-is0, all-of0}
 use Rattle.model.proofs.All.{All}
 use Rattle.model.proofs.Cards.{clip-at}
-use Rattle.model.proofs.Records.{Fits, listed, encode-back, record-clip, operation-back, size-back, encode-after}
+use Rattle.model.proofs.Records.{Fits, listed, few-records, encode-back, operation-back, size-back, encode-after}
 use Rattle.model.specs.declared.Pending.the-variants as Pending
 
 -- A record that begins so is pending, a slot that begins so is live.
@@ -202,19 +202,11 @@ pub recorded-rename : (n z : ℕ) (e : Entry) (k size to : ℕ) (renamed : Name)
     → Recorded n z (Rename e k size to renamed)
 unfolding records-ok records record-of group-size between pair-ok alike
 recorded-rename n z e k size to renamed w v ne live =
-    let same = each-every _ (eq-eqb (e .attributes) (e .attributes) refl also refl also refl also refl also refl also eq-eqb k k refl also eq-eqb size size refl also tt) in
-    (each-every _ (record-fine n z e 5 k 0 size refl (omega arith) w
-    also each-every _ (same also slot-read n z to v also ap not (ne-eqb (e .slot) to ne) also tt) also tt), (live, tt))
-
--- An operation is told by the first two records.
-operation-same : (rs qs : ℕ → Record) → rs 0 ≡ qs 0 → rs 1 ≡ qs 1 → operation-of rs ≡ operation-of qs
-unfolding operation-of
-operation-same rs qs p q = λ i.
-    pick (eqb (p i .number) 1) (Create (entry-in (p i)))
-    (pick (eqb (p i .number) 2) (Update (entry-in (p i)) (p i .cluster) (p i .from) (p i .size))
-    (pick (eqb (p i .number) 3) (Delete (entry-in (p i)) (p i .cluster) (p i .size))
-    (pick (eqb (p i .number) 4) (Truncate (entry-in (p i)) (p i .cluster) (p i .from) (p i .size))
-    (Rename (entry-in (p i)) (p i .cluster) (p i .size) (q i .slot) (q i .name)))))
+    let same = each-every _ (eq-eqb (e .attributes) (e .attributes) refl also refl also refl also refl also refl also eq-eqb k k refl also eq-eqb size size refl also tt) in (
+      each-every _ (record-fine n z e 5 k 0 size refl (omega arith) w
+          also each-every _ (same also slot-read n z to v also ap not (ne-eqb (e .slot) to ne) also tt) also tt),
+      (live, tt),
+    )
 
 record-first : (r : Record) → record-bytes r 0 ≡ byte-of (r .name .stem) 0
 unfolding record-bytes overlay
@@ -249,14 +241,6 @@ some-record (Delete e k size) = omega arith
 some-record (Truncate e k from size) = omega arith
 some-record (Rename e k size to renamed) = omega arith
 
-pub few-records : (o : Operation) → length (records o) ≤ 16
-unfolding records
-few-records (Create e) = omega arith
-few-records (Update e last from size) = omega arith
-few-records (Delete e k size) = omega arith
-few-records (Truncate e k from size) = omega arith
-few-records (Rename e k size to renamed) = omega arith
-
 -- All records of a group are pending.
 later-starts : (rs : List Record) (k : ℕ) → 1 ≤ k → k < length rs → All (λ r. starts (byte-of (r .name .stem) 0) ≡ true) (drop 1 rs) → starts (byte-of (listed rs k .name .stem) 0) ≡ true
 later-starts [] k lo less a = absurd (omega arith)
@@ -278,17 +262,11 @@ record-pends n z o named w k less =
     go (inr ne) = later-starts (records o) k (omega arith) less (w .1)
 
 -- The records of a sector that was stored.
-clip-records : (o : Operation) → Fits o → (k : ℕ) → k < 16 → record-at (clip (encode o)) k ≡ listed (records o) k
-clip-records o h k less = record-clip (encode o) k less ∙ (λ i. encode-back o h i k)
-
 clip-size : (o : Operation) → Fits o → group-size (record-at (clip (encode o))) ≡ length (records o)
-unfolding group-size
-clip-size o h = (λ i. pick (eqb (clip-records o h 0 (omega arith) i .number) 5) 2 1) ∙ size-back o
+clip-size o h = ap group-size (encode-back o h) ∙ size-back o
 
 clip-ok : (n z : ℕ) (o : Operation) → Fits o → records-ok n z (record-at (clip (encode o))) ≡ records-ok n z (listed (records o))
-unfolding records-ok group-size
-clip-ok n z o h = λ i. every (record-ok n z (clip-records o h 0 (omega arith) i)
-    ∷ (eqb (pick (eqb (clip-records o h 0 (omega arith) i .number) 5) 2 1) 1 || pair-ok n z (clip-records o h 0 (omega arith) i) (clip-records o h 1 (omega arith) i)) ∷ [])
+clip-ok n z o h = ap (records-ok n z) (encode-back o h)
 
 group-fine : (n z : ℕ) (o : Operation) → Fits o → Named o → Recorded n z o → group-ok n z (clip (encode o)) ≡ true
 unfolding group-ok empty-from
@@ -307,11 +285,8 @@ abbrev pub group-of : ℕ → Operation → Group
 group-of s o = record { sector = s; records = length (records o); operation = o }
 
 pub group-read : (s : ℕ) (o : Operation) → Fits o → group-in s (clip (encode o)) ≡ group-of s o
-unfolding group-in operation-of
-group-read s o h = λ i. record { sector = s; records = clip-size o h i; operation = (operation-clip ∙ operation-back o) i }
-  where
-    operation-clip : operation-of (record-at (clip (encode o))) ≡ operation-of (listed (records o))
-    operation-clip = operation-same (record-at (clip (encode o))) (listed (records o)) (clip-records o h 0 (omega arith)) (clip-records o h 1 (omega arith))
+unfolding group-in
+group-read s o h = λ i. record { sector = s; records = clip-size o h i; operation = (ap operation-of (encode-back o h) ∙ operation-back o) i }
 
 -- The group of operation o stands in log sector u, and no record of the others is pending.
 pub record Stored (n : ℕ) (g : Log) (u : ℕ) (o : Operation) : Type 0 where

@@ -3,6 +3,7 @@ use Prim.Native.Nat.{ℕ, zero, suc, _+_, _*_, _/_, _%_, _^_, _≤_, _<_}
 use native.Mathlib.Omega.{arith}
 use native.Mathlib.Nat.{div-one, mod-eq-of-lt}
 use mathlib.Core.Path.{_≡_, refl, sym, ap, _∙_, fun-ext}
+use mathlib.Core.Logic.{_⊎_, inl, inr}
 use mathlib.Core.List.{List, [], _∷_, map}
 use lib.ListN.{length, getD, length-map, List·getD-eq-default}
 use Rattle.model.specs.Bytes.{Bytes, le, overlay, byte-of, part, patch, zeros}
@@ -13,9 +14,10 @@ use Rattle.model.specs.declared.Entry.{Entry}
 use Rattle.model.specs.declared.Record.{Record}
 use Rattle.model.specs.declared.Operation.{Operation}
 use Rattle.model.specs.declared.Operation.the-variants.{Create, Update, Delete, Truncate, Rename}
+use borrow.Author.Tests.{lt-ltb, le-ltb}
+use Rattle.model.proofs.Tests.{less?}
 use Rattle.model.proofs.All.{All}
 use Rattle.model.proofs.Numbers.{read-back, le-local}
-use Rattle.model.proofs.Cards.{clip-at}
 
 -- The numbers that a record can hold.
 pub record NameFits (n : Name) : Type 0 where
@@ -47,8 +49,16 @@ pub entry-record : (e : Entry) (number cluster from size : ℕ) → number < 256
     → RecordFits (record-of e number cluster from size)
 unfolding record-of
 entry-record e number cluster from size n h c f s = record {
-  name = h .name; attributes = h .attributes; count = omega arith; number = n; directory = omega arith;
-  slot = h .slot; high = omega arith; from = f; cluster = c; size = s;
+  name = h .name;
+  attributes = h .attributes;
+  count = omega arith;
+  number = n;
+  directory = omega arith;
+  slot = h .slot;
+  high = omega arith;
+  from = f;
+  cluster = c;
+  size = s;
 }
 
 -- What each operation supplies.
@@ -71,9 +81,10 @@ fits-truncate e first from size h c f s = (entry-record e 4 first from size (ome
 pub fits-rename : (e : Entry) (first size to : ℕ) (renamed : Name) → EntryFits e → first < 256 ^ 2 → size < 256 ^ 4 → to < 256 ^ 2 → NameFits renamed
     → Fits (Rename e first size to renamed)
 unfolding records
-fits-rename e first size to renamed h c s t n =
-    (entry-record e 5 first 0 size (omega arith) h c (omega arith) s,
-    (entry-record (record { slot = to; name = renamed; attributes = e .attributes }) 0 first 0 size (omega arith) (record { slot = t; name = n; attributes = h .attributes }) c (omega arith) s, tt))
+fits-rename e first size to renamed h c s t n = (
+  entry-record e 5 first 0 size (omega arith) h c (omega arith) s,
+  (entry-record (record { slot = to; name = renamed; attributes = e .attributes }) 0 first 0 size (omega arith) (record { slot = t; name = n; attributes = h .attributes }) c (omega arith) s, tt),
+)
 
 -- ---- one record
 
@@ -133,24 +144,36 @@ one-back [] h k = refl
 one-back (r ∷ rs) h zero = record-back r (h .0)
 one-back (r ∷ rs) h (suc k) = one-back rs (h .1) k
 
--- Records that are laid into a sector are read from it.
-pub records-back : (rs : List Record) → All RecordFits rs → (k : ℕ) → record-at (lay (map record-bytes rs)) k ≡ listed rs k
+-- Records that are laid into a sector are read from it, also from its 512 bytes alone.
+past : (rs : List Record) (k : ℕ) → length rs ≤ k → none ≡ listed rs k
+past rs k h = sym (List·getD-eq-default rs none {n = k} h)
+
+pub records-back : (rs : List Record) → length rs ≤ 16 → All RecordFits rs → (k : ℕ) → record-at (clip (lay (map record-bytes rs))) k ≡ listed rs k
 unfolding lay
-records-back rs h k =
-    record-local (part (lay (map record-bytes rs)) (32 * k)) (getD (map record-bytes rs) k zeros)
-    (λ j small.
-    let row : (32 * k + j) / 32 ≡ k = omega arith in
-    let col : (32 * k + j) % 32 ≡ j = omega arith in
-    λ i. getD (map record-bytes rs) (row i) zeros (col i))
-    ∙ one-back rs h k
+records-back rs few h k = go (less? k 16)
+  where
+    go : (k < 16) ⊎ (16 ≤ k) → record-at (clip (lay (map record-bytes rs))) k ≡ listed rs k
+    go (inr m) = rw (le-ltb k 16 m) (past rs k (omega arith))
+    go (inl less) =
+        rw (lt-ltb k 16 less)
+        (record-local (part (clip (lay (map record-bytes rs))) (32 * k)) (getD (map record-bytes rs) k zeros)
+        (λ j small.
+        let row : (32 * k + j) % 512 / 32 ≡ k = omega arith in
+        let col : (32 * k + j) % 512 % 32 ≡ j = omega arith in
+        λ i. getD (map record-bytes rs) (row i) zeros (col i))
+        ∙ one-back rs h k)
 
-pub encode-back : (o : Operation) → Fits o → record-at (encode o) ≡ listed (records o)
+pub few-records : (o : Operation) → length (records o) ≤ 16
+unfolding records
+few-records (Create e) = omega arith
+few-records (Update e last from size) = omega arith
+few-records (Delete e k size) = omega arith
+few-records (Truncate e k from size) = omega arith
+few-records (Rename e k size to renamed) = omega arith
+
+pub encode-back : (o : Operation) → Fits o → record-at (clip (encode o)) ≡ listed (records o)
 unfolding encode
-encode-back o h = fun-ext (λ k. records-back (records o) h k)
-
--- They are told by the sector's 512 bytes.
-pub record-clip : (b : Bytes) (k : ℕ) → k < 16 → record-at (clip b) k ≡ record-at b k
-record-clip b k less = record-local (part (clip b) (32 * k)) (part b (32 * k)) (λ j small. clip-at b (32 * k + j) (omega arith))
+encode-back o h = fun-ext (λ k. records-back (records o) (few-records o) h k)
 
 -- The records of an operation tell of it, and are as many as a group of it has.
 pub operation-back : (o : Operation) → operation-of (listed (records o)) ≡ o
@@ -168,9 +191,6 @@ size-back (Update e last from size) = refl
 size-back (Delete e first size) = refl
 size-back (Truncate e first from size) = refl
 size-back (Rename e first size to renamed) = refl
-
-pub size-encode : (o : Operation) → Fits o → group-size (record-at (encode o)) ≡ length (records o)
-size-encode o h = ap group-size (encode-back o h) ∙ size-back o
 
 -- After the records their sector is zero.
 pub zero-after : (rs : List Bytes) (j : ℕ) → 32 * length rs ≤ j → lay rs j ≡ 0

@@ -102,9 +102,9 @@ lay rs j = getD rs (j / 32) zeros (j % 32)
 unfoldable pub encode : Operation → Bytes
 encode o = lay (map record-bytes (records o))
 
--- Record k of a sector, and the entry that a record is about.
+-- Record k of a sector, which has 16, and no record but zeros after them; the entry that a record is about.
 abbrev pub record-at : Bytes → ℕ → Record
-record-at b k = record-in (part b (32 * k))
+record-at b k = pick (ltb k 16) (record-in (part b (32 * k))) (record-in zeros)
 
 abbrev pub entry-in : Record → Entry
 entry-in r = record { slot = r .slot; name = r .name; attributes = r .attributes }

@@ -171,9 +171,10 @@ again (Create e) j = (own-again (e .slot) (λ b. new-entry (e .name)) j (inl (ne
 again (Update e last from size) j = (own-again (e .slot) (λ b. set-size size (pick (eqb last 0) (set-first from b) b)) j (laid-resized (eqb last 0) from size j), tt)
 again (Delete e first size) j = (own-again (e .slot) (λ b. mark-deleted b) j (laid-mark j), tt)
 again (Truncate e first from size) j = (own-again (e .slot) (λ b. set-size size (pick (eqb size 0) (set-first 0 b) b)) j (laid-resized (eqb size 0) 0 size j), tt)
-again (Rename e first size to renamed) j =
-    ((laid-mark j, ((λ _. (refl, laid-again (λ b. mark-deleted b) j (laid-mark j))), λ ne. absurd (ne refl))),
-    ((laid-name renamed j, ((λ _. (refl, name-over renamed j)), λ ne. absurd (ne refl))), tt))
+again (Rename e first size to renamed) j = (
+  (laid-mark j, ((λ _. (refl, laid-again (λ b. mark-deleted b) j (laid-mark j))), λ ne. absurd (ne refl))),
+  ((laid-name renamed j, ((λ _. (refl, name-over renamed j)), λ ne. absurd (ne refl))), tt),
+)
 
 -- From a mixture the effect makes the new directory.
 pub effect-mix : (n : ℕ) (o : Operation) (d x : Directory) → Slots n o → (j : ℕ) → ((k : ℕ) → k < n → Near d (effect o d) x k j)

@@ -109,8 +109,11 @@ module _ (l : Layout) (o : Operation) (whole : l .entries % 16 ≡ 0) (fit : Slo
   Mixed y = (r : ℕ) → r < l .entries / 16 → (y (root-place l r) ≡ c (root-place l r)) ⊎ (y (root-place l r) ≡ clip (root-sector new r))
 
   turn-keeps : (r : ℕ) (t : Bool) → All (Keeps Mixed) (pick t (root-store l o c r ∷ []) [])
-  turn-keeps r true = ((λ x m n less. put-case (λ (b : Bytes). (b ≡ c (root-place l n)) ⊎ (b ≡ clip (root-sector new n))) x (root-store l o c r) (root-place l n)
-      (λ e. let same : r ≡ n = omega arith in inr (clip-clip (root-sector new r) ∙ ap (λ (i : ℕ). clip (root-sector new i)) same)) (λ _. m n less)), tt)
+  turn-keeps r true = (
+    (λ x m n less. put-case (λ (b : Bytes). (b ≡ c (root-place l n)) ⊎ (b ≡ clip (root-sector new n))) x (root-store l o c r) (root-place l n)
+        (λ e. let same : r ≡ n = omega arith in inr (clip-clip (root-sector new r) ∙ ap (λ (i : ℕ). clip (root-sector new i)) same)) (λ _. m n less)),
+    tt,
+  )
   turn-keeps r false = tt
 
   pub turn-same : (limit k : ℕ) (e x : List ℕ) (m : ℕ) → c ≡ card-of e → Ran limit (up-to (root-turn l o c) k) e x m true → k < l .entries / 16

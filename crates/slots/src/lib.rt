@@ -9,7 +9,7 @@ ghost use Rattle.model.specs.Bytes.{bytes-of};
 ghost use Rattle.model.specs.Sector.{card-of};
 ghost use Rattle.model.specs.Root.{slot-at};
 ghost use Rattle.model.specs.Promises.{Held, Ran};
-ghost use Rattle.operations.specs.Finish.{Slots, effect, root-sector, concerns, root-stores};
+ghost use Rattle.operations.specs.Finish.{Slots, mark-deleted, effect, root-sector, concerns, root-stores};
 ghost use Rattle.slots.specs.Slots.{resized, root-turn};
 
 // The 32 bytes of slot k.
@@ -36,6 +36,13 @@ fn resize(b: [u8; 32], moves: bool, first: u32, size: u32) -> [u8; 32]
         return build::set(m, 28, 4, size);
     }
     build::set(b, 28, 4, size)
+}
+
+// A deleted entry.
+fn mark(b: [u8; 32]) -> [u8; 32]
+    ensures { λ r. ⌜ bytes-of r ≡ mark-deleted (bytes-of b) ⌝ }
+{
+    build::set(b, 0, 1, 0xE5)
 }
 
 // Whether an operation edits a slot in root sector r.
@@ -107,7 +114,7 @@ fn slot_after(w: &[u8], l: Layout, o: Operation, k: u32) -> [u8; 32]
             size: _,
         } => {
             if k == entry.slot {
-                return build::set(b, 0, 1, 0xE5);
+                return mark(b);
             }
             b
         }
@@ -130,7 +137,7 @@ fn slot_after(w: &[u8], l: Layout, o: Operation, k: u32) -> [u8; 32]
             renamed,
         } => {
             if k == entry.slot {
-                return build::set(b, 0, 1, 0xE5);
+                return mark(b);
             }
             if k == to {
                 return build::set_name(load_slot(w, l, entry.slot), renamed);

@@ -65,16 +65,17 @@ fn is_held(p: Pending) -> bool
     }
 }
 
-// Grounds 5 and 6.
+// Grounds 5 and 6. The log is read first, since what is pending may tell how the root is to be read.
 fn inspect(w: &[u8], l: Layout, a: Area) -> Examined
     requires { ⌜ Held l (now w) × Lies l a ⌝ }
     ensures { λ r. ⌜ (examined-of r ≡ inspect (card-of (now (w .entry))) l a (pending l a (card-of (now (w .entry))))) × Keeps (now (w .entry)) r ⌝ }
 {
+    let place = journal::place_in(w, l, a);
     let z = root::end_slot(w, l);
+    let p = journal::pending_of(w, l, a, z, place);
     if !root::root_ok(w, l, z) {
         return Examined::Refused(Ground::Root);
     }
-    let p = journal::pending_of(w, l, a, z);
     if is_broken(p) {
         return Examined::Refused(Ground::Record);
     }

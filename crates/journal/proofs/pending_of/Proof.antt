@@ -1,11 +1,15 @@
-use mathlib.Core.Path.{_∙_}
 use Prim.Native.Nat.{ℕ, _+_, _*_, _-_}
 use native.Mathlib.Omega.{arith}
-use Rattle.model.specs.Pending.{pending-in, pending}
-use Rattle.journal.proofs.Laws.{pending-part}
+use mathlib.Core.Path.{_≡_, sym, ap, _∙_}
+use Rattle.journal.specs.Place.{place-of}
+use Rattle.journal.proofs.Laws.{first-part, pending-part}
 use borrow.Author.Needs.{needs}
 use Rattle.journal.proofs.pending_of.Statement.{statement}
 use Rattle.journal.proofs.pending_of.Tie as tie
+use Rattle.journal.proofs.pending_of.Reads as reads
+use Rattle.journal.proofs.pending_of.Lts as lts
+use Rattle.journal.proofs.pending_in.Reads as pending-in-reads
+use Rattle.sector.proofs.index.Reads as index-reads
 
 index-requires : tie.Need-index-requires
 index-requires c κs = search needs
@@ -32,15 +36,10 @@ part-pending-in-end : tie.Need-part-pending-in-end
 part-pending-in-end c = search needs
 
 pending-in-requires : tie.Need-pending-in-requires
-pending-in-requires c κs = search needs
+pending-in-requires c κs = (search needs, rw (c .before .before .index .ensures, c .before .index2 .ensures) (c .before .before .before .before .pre .3 ∙ sym (ap (λ (j : ℕ). place-of j (c .before .before .before .before .args .a .sectors)) (first-part (c .before .before .before .before .args .a) (c .before .before .before .before .args .w .now) (512 * c .before .before .before .before .args .a .sector + 512 * c .before .before .before .before .args .a .sectors - 512 * c .before .before .before .before .args .a .sector) (omega arith)))))
 
 returns : tie.Need-returns
-unfolding pending
-returns c =
-    let a = c .before .before .before .before .before .args in
-    let k : ℕ = 512 * a .a .sector + 512 * a .a .sectors - 512 * a .a .sector in
-    let e = rw (c .before .before .before .index .ensures, c .before .before .index2 .ensures) at (c .pending-in .ensures) in
-    rw (← c .before .before .before .before .before .pre .3) (e ∙ pending-part (a .l .entries) (a .z) (a .a) (a .w .now) k (omega arith))
+returns c = let e = rw (c .before .before .before .index .ensures, c .before .before .index2 .ensures) at (c .pending-in .ensures) in e ∙ pending-part (c .before .before .before .before .before .args .l .entries) (c .before .before .before .before .before .args .z) (c .before .before .before .before .before .args .a) (c .before .before .before .before .before .args .w .now) (512 * c .before .before .before .before .before .args .a .sector + 512 * c .before .before .before .before .before .args .a .sectors - 512 * c .before .before .before .before .before .args .a .sector) (omega arith)
 
 pub pending-of-spec : {M : Type 1} → statement M
 pending-of-spec =

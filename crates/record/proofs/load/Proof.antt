@@ -1,3 +1,4 @@
+use borrow.Author.Tests.{lt-ltb}
 use Prim.Native.Nat.{_*_}
 use Rattle.model.specs.Sector.{card-of}
 use Rattle.record.proofs.Laws.{loaded}
@@ -99,7 +100,7 @@ le32-requires-3 : tie.Need-le32-requires-3
 le32-requires-3 c κs = search needs
 
 returns : tie.Need-returns
-returns c = loaded (card-of (c .before .before .before .before .before .before .before .before .before .before .before .args .log .now) (c .before .before .before .before .before .before .before .before .before .before .before .args .s)) (32 * c .before .before .before .before .before .before .before .before .before .before .before .args .k) _ _ _ _ _ _ _ _ _ _ (c .before .before .before .before .before .before .before .before .before .name-at .ensures) (c .before .before .before .before .before .before .before .before .byte .ensures .0) (c .before .before .before .before .before .before .before .byte2 .ensures .0) (c .before .before .before .before .before .before .byte3 .ensures .0) (c .before .before .before .before .before .le32 .ensures .is) (c .before .before .before .before .le16 .ensures .is) (c .before .before .before .le162 .ensures .is) (c .before .before .le322 .ensures .is) (c .before .le163 .ensures .is) (c .le323 .ensures .is)
+returns c = rw (lt-ltb (c .before .before .before .before .before .before .before .before .before .before .before .args .k) 16 (c .before .before .before .before .before .before .before .before .before .before .before .pre .1)) (loaded (card-of (c .before .before .before .before .before .before .before .before .before .before .before .args .log .now) (c .before .before .before .before .before .before .before .before .before .before .before .args .s)) (32 * c .before .before .before .before .before .before .before .before .before .before .before .args .k) _ _ _ _ _ _ _ _ _ _ (c .before .before .before .before .before .before .before .before .before .name-at .ensures) (c .before .before .before .before .before .before .before .before .byte .ensures .0) (c .before .before .before .before .before .before .before .byte2 .ensures .0) (c .before .before .before .before .before .before .byte3 .ensures .0) (c .before .before .before .before .before .le32 .ensures .is) (c .before .before .before .before .le16 .ensures .is) (c .before .before .before .le162 .ensures .is) (c .before .before .le322 .ensures .is) (c .before .le163 .ensures .is) (c .le323 .ensures .is))
 
 pub load-spec : {M : Type 1} → statement M
 load-spec =

@@ -9,9 +9,9 @@ use Rattle.slots.proofs.slot_after.Tie as tie
 use Rattle.slots.proofs.slot_after.Reads as reads
 use Rattle.slots.proofs.slot_after.Lts as lts
 use Rattle.build.proofs.new_entry.Reads as new-entry-reads
-use Rattle.build.proofs.set.Reads as set-reads
 use Rattle.build.proofs.set_name.Reads as set-name-reads
 use Rattle.slots.proofs.load_slot.Reads as load-slot-reads
+use Rattle.slots.proofs.mark.Reads as mark-reads
 use Rattle.slots.proofs.resize.Reads as resize-reads
 
 load-slot-requires : tie.Need-load-slot-requires
@@ -38,11 +38,11 @@ returns-2 c = rw (c .before .before .before .before .o2 .given .1) (in-update (s
 enum-known-o-3 : tie.Need-enum-known-o-3
 enum-known-o-3 c = search needs
 
-set-requires : tie.Need-set-requires
-set-requires c κs = search needs
+mark-requires : tie.Need-mark-requires
+mark-requires c κs = search needs
 
 returns-3 : tie.Need-returns-3
-returns-3 c = rw (c .before .before .before .before .o3 .given .1) (in-delete (slot-at (c .before .before .before .before .before .before .before .before .args .l) (card-of (c .before .before .before .before .before .before .before .before .args .w .now))) (c .before .before .before .before .before .before .before .before .args .k) (bytes-of (c .before .before .before .before .before .before .load-slot .result)) (bytes-of (c .set .result)) (c .before .before .before .before .before .before .load-slot .ensures) (c .before .before .before .before .o3 .given .0 .0) (c .before .before .before .before .o3 .given .0 .1 .0) (c .before .before .before .before .o3 .given .0 .1 .1 .0) (c .before .if3 .taken) (c .set .ensures))
+returns-3 c = rw (c .before .before .before .before .o3 .given .1) (in-delete (slot-at (c .before .before .before .before .before .before .before .before .args .l) (card-of (c .before .before .before .before .before .before .before .before .args .w .now))) (c .before .before .before .before .before .before .before .before .args .k) (bytes-of (c .before .before .before .before .before .before .load-slot .result)) (bytes-of (c .mark .result)) (c .before .before .before .before .before .before .load-slot .ensures) (c .before .before .before .before .o3 .given .0 .0) (c .before .before .before .before .o3 .given .0 .1 .0) (c .before .before .before .before .o3 .given .0 .1 .1 .0) (c .before .if3 .taken) (c .mark .ensures))
 
 enum-known-o-4 : tie.Need-enum-known-o-4
 enum-known-o-4 c = search needs
@@ -56,11 +56,11 @@ returns-4 c = rw (c .before .before .before .before .o4 .given .1) (in-truncate 
 enum-known-o-5 : tie.Need-enum-known-o-5
 enum-known-o-5 c = search needs
 
-set-requires-2 : tie.Need-set-requires-2
-set-requires-2 c κs = search needs
+mark-requires-2 : tie.Need-mark-requires-2
+mark-requires-2 c κs = search needs
 
 returns-5 : tie.Need-returns-5
-returns-5 c = rw (c .before .before .before .before .o5 .given .1) (in-rename (slot-at (c .before .before .before .before .before .before .before .before .args .l) (card-of (c .before .before .before .before .before .before .before .before .args .w .now))) (c .before .before .before .before .before .before .before .before .args .k) (bytes-of (c .before .before .before .before .before .before .load-slot .result)) (bytes-of (c .set2 .result)) (c .before .before .before .before .before .before .load-slot .ensures) (c .before .before .before .before .o5 .given .0 .0) (c .before .before .before .before .o5 .given .0 .1 .0) (c .before .before .before .before .o5 .given .0 .1 .1 .0) (c .before .before .before .before .o5 .given .0 .1 .1 .1 .0) (c .before .before .before .before .o5 .given .0 .1 .1 .1 .1 .0) (c .before .if5 .taken) (c .set2 .ensures))
+returns-5 c = rw (c .before .before .before .before .o5 .given .1) (in-rename (slot-at (c .before .before .before .before .before .before .before .before .args .l) (card-of (c .before .before .before .before .before .before .before .before .args .w .now))) (c .before .before .before .before .before .before .before .before .args .k) (bytes-of (c .before .before .before .before .before .before .load-slot .result)) (bytes-of (c .mark2 .result)) (c .before .before .before .before .before .before .load-slot .ensures) (c .before .before .before .before .o5 .given .0 .0) (c .before .before .before .before .o5 .given .0 .1 .0) (c .before .before .before .before .o5 .given .0 .1 .1 .0) (c .before .before .before .before .o5 .given .0 .1 .1 .1 .0) (c .before .before .before .before .o5 .given .0 .1 .1 .1 .1 .0) (c .before .if5 .taken) (c .mark2 .ensures))
 
 load-slot-requires-2 : tie.Need-load-slot-requires-2
 unfolding edits
@@ -104,13 +104,13 @@ slot-after-spec =
     resize-requires
     returns-2
     enum-known-o-3
-    set-requires
+    mark-requires
     returns-3
     enum-known-o-4
     resize-requires-2
     returns-4
     enum-known-o-5
-    set-requires-2
+    mark-requires-2
     returns-5
     load-slot-requires-2
     set-name-requires
