@@ -1,32 +1,20 @@
--- The premises of demand 3 hold of card K: its window is genuine and clean.
+-- The premises of demand 3 hold of card K: its window, that of the rows, is genuine and clean.
 use Prim.Native.Nat.{ℕ, _+_, _-_, _*_, _/_, _%_, _^_, _<_}
 use native.Mathlib.Nat.{mod-lt}
 use native.Mathlib.Omega.{arith}
-use mathlib.Core.Path.{_≡_, refl}
 use mathlib.Core.List.{List}
 use mathlib.Core.Bool.{_&&_, _||_}
 use lib.Dec.{leb, ltb, eqb}
-use Rattle.model.specs.Bytes.{Bytes, patch, overlay, byte-of, zeros}
-use Rattle.model.specs.Sector.{Window, clip}
-use Rattle.model.specs.Ground.{granted}
-use Rattle.model.specs.Volume.{clean}
+use Rattle.model.specs.Bytes.{Bytes, pick, patch, overlay, byte-of, zeros}
 use Rattle.operations.specs.Calls.{Call}
 use Rattle.operations.specs.Outcome.{left}
 use Rattle.safety.specs.Demand3.{Genuine, Settles, group-stored, recoveries}
 use Rattle.model.proofs.Tests.{by-pick}
 use Rattle.model.proofs.Cards.{clip-clip}
-use Rattle.worked.proofs.Compute.{compute}
 use Rattle.safety.proofs.Theorem.{demand3}
-use Rattle.worked.specs.CardK.{boot-sector, log-fat, card-k}
+use Rattle.worked.specs.CardK.{boot-sector, log-fat, card-k, window-k, k}
 use Rattle.worked.specs.Worked.{volume-k}
-
--- Card K, with 512 bytes to a sector.
-abbrev pub k-window : Window
-k-window = record { size = 512 * 4150; card = λ s. clip (card-k 4150 s) }
-
-pub k-clean : clean k-window ≡ granted volume-k
-unfolding compute
-k-clean = refl
+use Rattle.worked.proofs.Rows.{first-row}
 
 patch-small : (n v at : ℕ) (b : Bytes) → ((j : ℕ) → b j < 256) → (j : ℕ) → patch n v at b j < 256
 unfolding overlay byte-of
@@ -42,14 +30,20 @@ unfolding log-fat
 fat-small j = by-pick (λ x. x < 256) (leb 4 j && ltb j 20) _ 0
     (λ _. by-pick (λ x. x < 256) (eqb (j % 2) 0) 0xF6 0xFF (λ _. omega arith) (λ _. omega arith)) (λ _. omega arith)
 
-card-small : (n j : ℕ) → card-k 4150 n j < 256
-unfolding card-k
-card-small n j = by-pick (λ (b : Bytes). b j < 256) (eqb n 0) (boot-sector 16 4150 0) _ (λ _. boot-small j)
+abbrev sector-k : ℕ → Bytes
+sector-k n = pick (eqb n 0) (boot-sector 16 4150 0) (pick (eqb n 1 || eqb n 17) log-fat zeros)
+
+sector-small : (n j : ℕ) → sector-k n j < 256
+sector-small n j = by-pick (λ (b : Bytes). b j < 256) (eqb n 0) (boot-sector 16 4150 0) _ (λ _. boot-small j)
     (λ _. by-pick (λ (b : Bytes). b j < 256) (eqb n 1 || eqb n 17) log-fat zeros (λ _. fat-small j) (λ _. omega arith))
 
-pub k-genuine : Genuine k-window
-k-genuine = record { sectors = λ n. clip-clip (card-k 4150 n); bytes = λ n j. card-small n (j % 512) }
+pub k-genuine : Genuine k
+unfolding k window-k card-k
+k-genuine = record {
+  sectors = λ n. clip-clip (sector-k n);
+  bytes = λ n j. sector-small n (j % 512);
+}
 
 -- So demand 3 speaks of every call on card K, under every limit.
-pub at-k : (k : Call) (limit : ℕ) (limits : List ℕ) (once : ℕ) → Settles (group-stored limit k k-window) k k-window volume-k once (recoveries limits (left limit k k-window))
-at-k k limit limits once = demand3 k k-window volume-k k-genuine k-clean limit limits once
+pub at-k : (call : Call) (limit : ℕ) (limits : List ℕ) (once : ℕ) → Settles (group-stored limit call k) call k volume-k once (recoveries limits (left limit call k))
+at-k call limit limits once = demand3 call k volume-k k-genuine first-row limit limits once

@@ -72,7 +72,7 @@ shared : (d e : Bytes) → from-3 d e k3 ≡ record {
 unfolding compute
 shared d e = refl
 
-first-row : clean k ≡ granted volume-k
+pub first-row : clean k ≡ granted volume-k
 unfolding compute
 first-row = refl
 

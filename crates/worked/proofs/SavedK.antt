@@ -14,28 +14,29 @@ use Rattle.safety.specs.Cuts.{program-of}
 use Rattle.safety.specs.Sound.{Sound}
 use Rattle.safety.specs.Saved.{Holds, KeepsOthers}
 use Rattle.safety.specs.Restored.{InOrder}
-use Rattle.worked.specs.CardK.{card-k, route, span}
+use Rattle.worked.specs.CardK.{card-k, window-k, k, route, span}
 use Rattle.worked.specs.Worked.{volume-k}
 use Rattle.model.proofs.Tests.{clash}
 use Rattle.worked.proofs.Compute.{compute}
-use Rattle.worked.proofs.Instance.{k-window, k-clean, k-genuine}
+use Rattle.worked.proofs.Rows.{first-row}
+use Rattle.worked.proofs.Instance.{k-genuine}
 use Rattle.safety.proofs.Saved.{path-saved}
 use Rattle.safety.proofs.Sounds.{all-keep}
 
 -- No slot of it is a file.
-no-file : (s : ℕ) → is-file (slot-at (volume-k .layout) (k-window .card) s) ≡ false
-unfolding slot-at card-k is-file listed vacant
+no-file : (s : ℕ) → is-file (slot-at (volume-k .layout) (k .card) s) ≡ false
+unfolding k window-k slot-at card-k is-file listed vacant
 no-file s = rw (ne-eqb (33 + s / 16) 0 (λ e. omega arith), ne-eqb (33 + s / 16) 1 (λ e. omega arith), ne-eqb (33 + s / 16) 17 (λ e. omega arith))
 
-k-sound : Sound (volume-k .layout) (k-window .card)
+k-sound : Sound (volume-k .layout) (k .card)
 k-sound = record { chains = λ s less h. clash h (no-file s); apart = λ s t less more h. clash h (no-file s) }
 
 -- So whatever is called on it and wherever the power goes, call after call, it stays in order.
-pub k-in-order : InOrder k-window volume-k
-k-in-order = record { genuine = k-genuine; cleans = k-clean; sound = k-sound }
+pub k-in-order : InOrder k volume-k
+k-in-order = record { genuine = k-genuine; cleans = first-row; sound = k-sound }
 
-pub keeps-at-k : (k : Call) → KeepsOthers k k-window volume-k
-keeps-at-k k = all-keep k k-window volume-k k-genuine k-clean k-sound
+pub keeps-at-k : (call : Call) → KeepsOthers call k volume-k
+keeps-at-k call = all-keep call k volume-k k-genuine first-row k-sound
 
 abbrev passes : Answer Program → Bool
 passes (refused g) = false
@@ -45,15 +46,15 @@ granted-of : (a : Answer Program) → passes a ≡ true → a ≡ granted (progr
 granted-of (refused g) h = clash h refl
 granted-of (granted p) h = refl
 
-creates-passes : passes (plan (creates route) k-window) ≡ true
+creates-passes : passes (plan (creates route) k) ≡ true
 unfolding compute
 creates-passes = refl
 
-appends-passes : (d : Bytes) → passes (plan (appends route (span 1300 d)) (left largest (creates route) k-window)) ≡ true
+appends-passes : (d : Bytes) → passes (plan (appends route (span 1300 d)) (left largest (creates route) k)) ≡ true
 unfolding compute
 appends-passes d = refl
 
 -- So the path of M4, saved on it, is read again.
-pub saved-at-k : (d : Bytes) → Holds (left largest (appends route (span 1300 d)) (left largest (creates route) k-window)) route 1300 d
-saved-at-k d = path-saved k-window volume-k k-genuine k-clean route (span 1300 d) (program-of (plan (creates route) k-window))
-    (program-of (plan (appends route (span 1300 d)) (left largest (creates route) k-window))) (granted-of _ creates-passes) (granted-of _ (appends-passes d))
+pub saved-at-k : (d : Bytes) → Holds (left largest (appends route (span 1300 d)) (left largest (creates route) k)) route 1300 d
+saved-at-k d = path-saved k volume-k k-genuine first-row route (span 1300 d) (program-of (plan (creates route) k))
+    (program-of (plan (appends route (span 1300 d)) (left largest (creates route) k))) (granted-of _ creates-passes) (granted-of _ (appends-passes d))

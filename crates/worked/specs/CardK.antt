@@ -4,7 +4,7 @@ use mathlib.Core.List.{List, [], _∷_, map}
 use mathlib.Core.Bool.{_&&_, _||_}
 use lib.Dec.{leb, ltb, eqb}
 use Rattle.model.specs.Bytes.{Bytes, Span, view, pick, patch, zeros}
-use Rattle.model.specs.Sector.{Card, Window, Store, after}
+use Rattle.model.specs.Sector.{Card, Window, Store, clip, after}
 use Rattle.model.specs.Boot.{layout}
 use Rattle.model.specs.Fat.{fat1-of}
 use Rattle.model.specs.Root.{find, file-at}
@@ -26,9 +26,10 @@ unfoldable pub log-fat : Bytes
 log-fat j = pick (leb 4 j && ltb j 20) (pick (eqb (j % 2) 0) 0xF6 0xFF) 0
 
 -- "Card K: 1 reserved sector, 1 sector per cluster, 16 per FAT, 512 root entries, 4,150 sectors; FAT1 at sector 1, FAT2 at 17, root at
--- 33, data at 65; log clusters 2 to 9; otherwise empty." The number of sectors is left open.
+-- 33, data at 65; log clusters 2 to 9; otherwise empty." The number of sectors is left open. A sector is a function of its
+-- 512 bytes, as in the window of a slice.
 unfoldable pub card-k : ℕ → Card
-card-k total s = pick (eqb s 0) (boot-sector 16 total 0) (pick (eqb s 1 || eqb s 17) log-fat zeros)
+card-k total s = clip (pick (eqb s 0) (boot-sector 16 total 0) (pick (eqb s 1 || eqb s 17) log-fat zeros))
 
 unfoldable pub window-k : ℕ → Window
 window-k total = record { size = 512 * total; card = card-k total }

@@ -5,7 +5,7 @@ use mathlib.Core.List.{List, [], _∷_, map}
 use lib.ListN.{getD, replicate}
 use Rattle.model.specs.Bytes.{Bytes, patch, zeros}
 use Rattle.model.specs.Scan.{range}
-use Rattle.model.specs.Sector.{Card, Window, Store, store, put, after}
+use Rattle.model.specs.Sector.{Card, Window, Store, store, clip, put, after}
 use Rattle.model.specs.Boot.{layout}
 use Rattle.model.specs.Root.{slot-at, file-size}
 use Rattle.model.specs.Ground.{Answer, refused, granted}
@@ -109,7 +109,7 @@ stretched w = record { size = w .size; card = put (w .card) (store 33 (patch 4 2
 abbrev pub large : ℕ → Window
 large clusters =
     let total = 1 + 512 + 32 + clusters in
-    record { size = 512 * total; card = λ s. boot-sector 256 0 total }
+    record { size = 512 * total; card = λ s. clip (boot-sector 256 0 total) }
 
 pub record Worked (d e : Bytes) : Type 0 where
   -- "M1: 4,085 clusters, accepted. M2: 4,149 sectors, BOOT."
