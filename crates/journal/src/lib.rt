@@ -33,21 +33,19 @@ pub fn scan(log: &[u8]) -> Place
 {
     let sectors = sectors_of(log);
     let mut s = 0;
-    let mut r = 0;
-    'log: while s < sectors {
-        r = 0;
+    'log: loop {
+        if s == sectors {
+            break 'log Place::Nowhere;
+        }
+        let mut r = 0;
         while r < 16 {
             if record::pends(log, s, r) {
-                break 'log;
+                break 'log Place::At(s, r);
             }
             r += 1;
         }
         s += 1;
     }
-    if s == sectors {
-        return Place::Nowhere;
-    }
-    Place::At(s, r)
 }
 
 // The first pending record from record `from` of the table on; the number of records where there is none.
