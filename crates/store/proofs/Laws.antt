@@ -1,17 +1,19 @@
--- Bytes of a sector by their index, and sectors compared by counting the bytes that differ.
-use Prim.Native.Nat.{ℕ, _+_, _*_, _<_}
-use mathlib.Core.Path.{_≡_, sym, ap, _∙_}
-use mathlib.Core.List.{List}
-use lib.ListN.{getD}
+-- Bytes of a sector by their index, sectors compared by counting the bytes that differ, and a sector that is lent to be stored.
+use Prim.Native.Nat.{ℕ, zero, suc, _+_, _*_, _<_, _≤_}
+use mathlib.Core.Path.{_≡_, refl, sym, ap, _∙_, fun-ext}
+use mathlib.Core.List.{List, [], _∷_, _++_, append-nil}
+use lib.ListN.{getD, length, take, drop}
 use mathlib.Core.Bool.{Bool, not}
 use lib.Dec.{eqb}
 use native.Mathlib.Omega.{arith}
-use Rattle.model.specs.Bytes.{Bytes}
+use Rattle.model.specs.Bytes.{Bytes, bytes-of}
 use Rattle.model.specs.Scan.{count-from}
-use Rattle.model.specs.Sector.{card-of}
+use Rattle.model.specs.Sector.{card-of, clip, store, put, after}
 use Rattle.model.specs.Fat.{same}
+use Rattle.model.specs.Promises.{Ran}
 use Rattle.model.proofs.Scan.{all-same}
-use Rattle.model.proofs.Sectors.{byte-in}
+use Rattle.model.proofs.Sectors.{byte-in, part-sector}
+use Rattle.model.proofs.Cards.{sector-back, put-in, put-case, clip-clip}
 use Rattle.model.proofs.Searches.{count-fails}
 
 pub in-sector : (xs : List ℕ) (r s : ℕ) → r ≡ s → (j : ℕ) → j < 512 → getD xs (512 * r + j) 0 ≡ card-of xs s j
@@ -28,3 +30,53 @@ counted x y b c n f g j end e =
     ap not
     (ap (λ z. eqb z 0) (e ∙ ap (count-from (unlike x y) 0) end) ∙ count-fails (λ j. eqb (x j) (y j)) 0 512
     ∙ all-same (λ j. eqb (x j) (y j)) (λ j. eqb (b j) (c j)) 0 512 (λ j l h. rw (f j (omega arith), g j (omega arith))))
+
+-- ---- a sector that is lent, and given back
+
+nothing-left : (xs : List ℕ) (n : ℕ) → length xs ≤ n → drop n xs ≡ []
+nothing-left [] zero h = refl
+nothing-left [] (suc n) h = refl
+nothing-left (x ∷ xs) zero h = absurd (omega arith)
+nothing-left (x ∷ xs) (suc n) h = nothing-left xs n (omega arith)
+
+first-sector : (ys : List ℕ) → clip (bytes-of ys) ≡ card-of ys 0
+first-sector ys = fun-ext (λ j. ap (λ (i : ℕ). getD ys i 0) (omega arith))
+
+-- A list of one sector, whose bytes are stored anew.
+pub lent-put : (xs ys : List ℕ) → length xs ≡ 512 → length ys ≡ 512 → card-of ys ≡ put (card-of xs) (store 0 (bytes-of ys))
+lent-put xs ys e f = ap card-of (sym (ap (λ (z : List ℕ). ys ++ z) (nothing-left xs 512 (omega arith)) ∙ append-nil ys)) ∙ sector-back xs ys 0 (omega arith) f
+
+-- Sector s of xs is lent, and comes back as ys.
+module _ (xs ys : List ℕ) (s : ℕ) (fits : 512 * s + 512 ≤ length xs) (one : length ys ≡ 512) where
+  abbrev lent : List ℕ
+  lent = take 512 (drop (512 * s) xs)
+
+  abbrev back : List ℕ
+  back = take (512 * s) xs ++ (ys ++ drop 512 (drop (512 * s) xs))
+
+  pub lent-sector : card-of lent 0 ≡ card-of xs s
+  lent-sector = part-sector xs s 512 0 (omega arith) ∙ ap (card-of xs) (omega arith)
+
+  stored : (b : Bytes) → card-of ys 0 ≡ clip b → card-of back ≡ put (card-of xs) (store s b)
+  stored b e = sector-back xs ys s fits one ∙ ap (λ (f : Bytes). put (card-of xs) (record { sector = s; bytes = f })) (first-sector ys ∙ e)
+
+  -- As it was.
+  pub back-same : card-of ys ≡ card-of lent → card-of back ≡ card-of xs
+  back-same e = stored (card-of xs s) (ap (λ c. c 0) e ∙ lent-sector ∙ sym (clip-clip (λ j. getD xs (512 * s + j) 0)))
+      ∙ fun-ext (λ t. put-case (λ (b : Bytes). b ≡ card-of xs t) (card-of xs) (store s (card-of xs s)) t
+          (λ h. clip-clip (card-of xs s) ∙ clip-clip (λ j. getD xs (512 * s + j) 0) ∙ ap (card-of xs) (sym h)) (λ _. refl))
+
+  -- With other bytes.
+  pub back-put : (b : Bytes) → card-of ys ≡ put (card-of lent) (store 0 b) → card-of back ≡ put (card-of xs) (store s b)
+  back-put b e = stored b (ap (λ c. c 0) e ∙ put-in (card-of lent) (store 0 b) 0 refl ∙ clip-clip b)
+
+  pub ran-kept : (limit m : ℕ) (w : Bool) → Ran limit [] lent ys m w → Ran limit [] xs back m w
+  unfolding after
+  ran-kept zero m w so = record { stores = so .stores; all = so .all; card = back-same (so .card) }
+  ran-kept (suc limit) m w so = record { stores = so .stores; all = so .all; card = back-same (so .card) }
+
+  pub ran-lent : (limit m : ℕ) (w : Bool) (b : Bytes) → Ran limit (store 0 b ∷ []) lent ys m w → Ran limit (store s b ∷ []) xs back m w
+  unfolding after
+  ran-lent zero m w b so = record { stores = so .stores; all = so .all; card = back-same (so .card) }
+  ran-lent (suc zero) m w b so = record { stores = so .stores; all = so .all; card = back-put b (so .card) }
+  ran-lent (suc (suc limit)) m w b so = record { stores = so .stores; all = so .all; card = back-put b (so .card) }

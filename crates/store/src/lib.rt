@@ -61,21 +61,10 @@ pub fn load(w: &[u8], s: u32) -> [u8; 512]
     buf
 }
 
-fn overwrite(part: &mut [u8], buf: &[u8; 512])
+// The one function that changes a card: stores a buffer as the sector that is lent, if the limit allows a store.
+pub fn overwrite(part: &mut [u8], buf: &[u8; 512], limit: u32) -> Progress
     requires { ⌜ length (now part) ≡ 512 ⌝ }
-    ensures { λ _. ⌜ ((j : ℕ) → j < 512 → getD (now (part .exit)) j 0 ≡ getD (now (buf .entry)) j 0) ⌝ }
-{
-    let mut j = 0;
-    while j < 512 {
-        part[j] = buf[j];
-        j += 1;
-    }
-}
-
-// Stores a buffer as a sector, if the limit allows a store. Only the sector is lent to be written.
-pub fn store_sector(w: &mut [u8], s: u32, buf: &[u8; 512], limit: u32) -> Progress
-    requires { ⌜ 512 * s + 512 ≤ length (now w) ⌝ }
-    ensures { λ r. ⌜ Ran limit (store s (bytes-of (now (buf .entry))) ∷ []) (now (w .entry)) (now (w .exit)) (r .made) (r .whole) ⌝ }
+    ensures { λ r. ⌜ Ran limit (store 0 (bytes-of (now (buf .entry))) ∷ []) (now (part .entry)) (now (part .exit)) (r .made) (r .whole) ⌝ }
 {
     if limit == 0 {
         return Progress {
@@ -83,10 +72,22 @@ pub fn store_sector(w: &mut [u8], s: u32, buf: &[u8; 512], limit: u32) -> Progre
             whole: false,
         };
     }
-    let at = 512 * sector::index(s);
-    overwrite(&mut w[at..at + 512], buf);
+    let mut j = 0;
+    while j < 512 {
+        part[j] = buf[j];
+        j += 1;
+    }
     Progress {
         made: 1,
         whole: true,
     }
+}
+
+// Stores a buffer as a sector of a window, if the limit allows a store. Only the sector is lent to be written.
+pub fn store_sector(w: &mut [u8], s: u32, buf: &[u8; 512], limit: u32) -> Progress
+    requires { ⌜ 512 * s + 512 ≤ length (now w) ⌝ }
+    ensures { λ r. ⌜ Ran limit (store s (bytes-of (now (buf .entry))) ∷ []) (now (w .entry)) (now (w .exit)) (r .made) (r .whole) ⌝ }
+{
+    let at = 512 * sector::index(s);
+    overwrite(&mut w[at..at + 512], buf, limit)
 }
