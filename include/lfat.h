@@ -96,9 +96,9 @@ uint64_t lfat_create(uint8_t *card, size_t card_len, const uint8_t *name, size_t
 uint64_t lfat_append(uint8_t *card, size_t card_len, const uint8_t *name, size_t name_len,
                      const uint8_t *data, size_t data_len, uint32_t limit);
 
-/* Shortens a file to a size. */
+/* Shortens a file to a size. One over the file's is refused (LFAT_LENGTH). */
 uint64_t lfat_truncate(uint8_t *card, size_t card_len, const uint8_t *name, size_t name_len,
-                       uint32_t size, uint32_t limit);
+                       uint64_t size, uint32_t limit);
 
 /* Removes a file and frees its clusters. */
 uint64_t lfat_delete(uint8_t *card, size_t card_len, const uint8_t *name, size_t name_len, uint32_t limit);
@@ -109,9 +109,9 @@ uint64_t lfat_rename(uint8_t *card, size_t card_len, const uint8_t *old_name, si
 
 /* Calls that read. They ask for a clean card and touch no byte of the buffer but those that they fill. */
 
-/* Copies a file's bytes from an offset on, as many as there are and fit. The count is the bytes copied. */
+/* Copies a file's bytes from an offset on, as many as there are and fit. The count is the bytes copied, 0 past the end. */
 uint64_t lfat_read(const uint8_t *card, size_t card_len, const uint8_t *name, size_t name_len,
-                   uint32_t offset, uint8_t *buffer, size_t buffer_len);
+                   uint64_t offset, uint8_t *buffer, size_t buffer_len);
 
 /*
  * Copies the root directory's entries, files and directories, 32 bytes each as on the card, as many as fit whole.

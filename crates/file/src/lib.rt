@@ -84,15 +84,12 @@ fn read_sector(buffer: &mut [u8], w: &[u8], s: u32, from: u32, done: u32, count:
     done + n
 }
 
-// The bytes of a file that keeps the chain rule, from an offset on, as many as the buffer takes; and how many. The cluster
-// reached and its number go along, so that each link is followed once.
-pub fn read_file(w: &[u8], l: Layout, f: File, offset: u32, buffer: &mut [u8]) -> u32
-    requires { ⌜ Held l (now w) × Proper l (card-of (now w)) f ⌝ }
+// The bytes of a file that keeps the chain rule, from an offset within it on, as many as the buffer takes; and how many. The
+// cluster reached and its number go along, so that each link is followed once.
+fn read_within(w: &[u8], l: Layout, f: File, offset: u32, buffer: &mut [u8]) -> u32
+    requires { ⌜ Held l (now w) × Proper l (card-of (now w)) f × (offset < f .size) ⌝ }
     ensures { λ r. ⌜ Fills (reading l (card-of (now (w .entry))) f offset (length (now (buffer .entry)))) (now (buffer .entry)) (now (buffer .exit)) r ⌝ }
 {
-    if f.size <= offset {
-        return 0;
-    }
     let count = least(buffer.len(), f.size - offset);
     let mut cluster = f.first;
     let mut index = 0;
@@ -106,4 +103,15 @@ pub fn read_file(w: &[u8], l: Layout, f: File, offset: u32, buffer: &mut [u8]) -
         done = read_sector(buffer, w, sector_in(l, cluster, q), at % 512, done, count);
     }
     count
+}
+
+// The same from any offset.
+pub fn read_file(w: &[u8], l: Layout, f: File, offset: u64, buffer: &mut [u8]) -> u32
+    requires { ⌜ Held l (now w) × Proper l (card-of (now w)) f ⌝ }
+    ensures { λ r. ⌜ Fills (reading l (card-of (now (w .entry))) f offset (length (now (buffer .entry)))) (now (buffer .entry)) (now (buffer .exit)) r ⌝ }
+{
+    if sector::wider(f.size) <= offset {
+        return 0;
+    }
+    read_within(w, l, f, offset as u32, buffer)
 }

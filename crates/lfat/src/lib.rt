@@ -63,7 +63,7 @@ pub extern "C" fn lfat_append(card: &mut [u8], name: &[u8], bytes: &[u8], limit:
 
 // The file's first `size` bytes are kept.
 #[no_mangle]
-pub extern "C" fn lfat_truncate(card: &mut [u8], name: &[u8], size: u32, limit: u32) -> u64
+pub extern "C" fn lfat_truncate(card: &mut [u8], name: &[u8], size: u64, limit: u32) -> u64
     ensures { λ r. ⌜ Called limit (truncate (window-of (now (card .entry))) (view (now (name .entry))) size) (now (card .entry)) (now (card .exit)) r ⌝ }
 {
     number_of(truncation::truncate(card, name, size, limit))
@@ -103,7 +103,7 @@ pub extern "C" fn lfat_list(card: &[u8], buffer: &mut [u8]) -> u64
 
 // Copies a file's bytes from an offset on into the buffer; counts how many.
 #[no_mangle]
-pub extern "C" fn lfat_read(card: &[u8], name: &[u8], offset: u32, buffer: &mut [u8]) -> u64
+pub extern "C" fn lfat_read(card: &[u8], name: &[u8], offset: u64, buffer: &mut [u8]) -> u64
     ensures { λ r. ⌜ Answered (read (window-of (now (card .entry))) (view (now (name .entry))) offset (length (now (buffer .entry)))) (now (buffer .entry)) (now (buffer .exit)) r ⌝ }
 {
     number_of(reading::read(card, name, offset, buffer))

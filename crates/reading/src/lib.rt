@@ -23,7 +23,7 @@ pub fn list(w: &[u8], buffer: &mut [u8]) -> Outcome
     }
 }
 
-fn read_from(w: &[u8], v: Volume, name: &[u8], offset: u32, buffer: &mut [u8]) -> Outcome
+fn read_from(w: &[u8], v: Volume, name: &[u8], offset: u64, buffer: &mut [u8]) -> Outcome
     requires { ⌜ Held (v .layout) (now w) ⌝ }
     ensures { λ r. ⌜ Gave (read-on (card-of (now (w .entry))) v (view (now (name .entry))) offset (length (now (buffer .entry)))) (now (buffer .entry)) (now (buffer .exit)) r ⌝ }
 {
@@ -37,7 +37,7 @@ fn read_from(w: &[u8], v: Volume, name: &[u8], offset: u32, buffer: &mut [u8]) -
     }
 }
 
-pub fn read(w: &[u8], name: &[u8], offset: u32, buffer: &mut [u8]) -> Outcome
+pub fn read(w: &[u8], name: &[u8], offset: u64, buffer: &mut [u8]) -> Outcome
     ensures { λ r. ⌜ Gave (read (window-of (now (w .entry))) (view (now (name .entry))) offset (length (now (buffer .entry)))) (now (buffer .entry)) (now (buffer .exit)) r ⌝ }
 {
     let e = volume::clean(w);

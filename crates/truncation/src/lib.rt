@@ -146,23 +146,24 @@ fn truncate_file(w: &mut [u8], v: Volume, f: File, size: u32, limit: u32) -> Pro
     shorten(w, v, c, o, limit)
 }
 
-// LENGTH, and a size that is the present one.
-fn truncate_as(w: &mut [u8], v: Volume, f: File, size: u32, limit: u32) -> Outcome
+// LENGTH, and a size that is the present one. Any other fits 32 bits.
+fn truncate_as(w: &mut [u8], v: Volume, f: File, size: u64, limit: u32) -> Outcome
     requires { ⌜ Held (v .layout) (now w) × Lies (v .layout) (v .log) ⌝ }
     requires { ⌜ Proper v (card-of (now w)) f ⌝ }
     ensures { λ r. ⌜ Did limit (truncate-as (card-of (now (w .entry))) v f size) (now (w .entry)) (now (w .exit)) r ⌝ }
 {
-    if f.size < size {
+    let present = sector::wider(f.size);
+    if present < size {
         return Outcome::Refused(Ground::Length);
     }
-    if f.size == size {
+    if present == size {
         return Outcome::Done(0);
     }
-    operate::ended(truncate_file(w, v, f, size, limit))
+    operate::ended(truncate_file(w, v, f, size as u32, limit))
 }
 
 // Truncate, on a clean card.
-fn truncate_on(w: &mut [u8], v: Volume, name: &[u8], size: u32, limit: u32) -> Outcome
+fn truncate_on(w: &mut [u8], v: Volume, name: &[u8], size: u64, limit: u32) -> Outcome
     requires { ⌜ Held (v .layout) (now w) × Lies (v .layout) (v .log) ⌝ }
     ensures { λ r. ⌜ Did limit (truncate-on (card-of (now (w .entry))) v (view (now (name .entry))) size) (now (w .entry)) (now (w .exit)) r ⌝ }
 {
@@ -173,7 +174,7 @@ fn truncate_on(w: &mut [u8], v: Volume, name: &[u8], size: u32, limit: u32) -> O
     }
 }
 
-pub fn truncate(w: &mut [u8], name: &[u8], size: u32, limit: u32) -> Outcome
+pub fn truncate(w: &mut [u8], name: &[u8], size: u64, limit: u32) -> Outcome
     ensures { λ r. ⌜ Did limit (truncate (window-of (now (w .entry))) (view (now (name .entry))) size) (now (w .entry)) (now (w .exit)) r ⌝ }
 {
     let e = volume::clean(w);

@@ -26,7 +26,7 @@ mod library {
             card_len: usize,
             name: *const u8,
             name_len: usize,
-            size: u32,
+            size: u64,
             limit: u32,
         ) -> u64;
         pub fn lfat_delete(
@@ -51,7 +51,7 @@ mod library {
             card_len: usize,
             name: *const u8,
             name_len: usize,
-            offset: u32,
+            offset: u64,
             buffer: *mut u8,
             buffer_len: usize,
         ) -> u64;
@@ -123,7 +123,7 @@ pub fn append(card: &mut [u8], name: &[u8], data: &[u8], limit: u32) -> Answer {
     })
 }
 
-pub fn truncate(card: &mut [u8], name: &[u8], size: u32, limit: u32) -> Answer {
+pub fn truncate(card: &mut [u8], name: &[u8], size: u64, limit: u32) -> Answer {
     Answer::decode(unsafe {
         library::lfat_truncate(
             card.as_mut_ptr(),
@@ -166,7 +166,7 @@ pub fn recover(card: &mut [u8], limit: u32) -> Answer {
     Answer::decode(unsafe { library::lfat_recover(card.as_mut_ptr(), card.len(), limit) })
 }
 
-pub fn read(card: &[u8], name: &[u8], offset: u32, buffer: &mut [u8]) -> Answer {
+pub fn read(card: &[u8], name: &[u8], offset: u64, buffer: &mut [u8]) -> Answer {
     Answer::decode(unsafe {
         library::lfat_read(
             card.as_ptr(),

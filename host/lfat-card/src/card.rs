@@ -50,7 +50,7 @@ impl<'a> Card<'a> {
     }
 
     /// Shortens a file.
-    pub fn truncate(&mut self, name: Name, size: u32) -> Result<u32, Refusal> {
+    pub fn truncate(&mut self, name: Name, size: u64) -> Result<u32, Refusal> {
         count(self.run(&Operation::Truncate { name, size }, NO_LIMIT))
     }
 
@@ -76,7 +76,7 @@ impl<'a> Card<'a> {
     }
 
     /// Copies a file's bytes from an offset on into the buffer; gives how many.
-    pub fn read(&self, name: Name, offset: u32, buffer: &mut [u8]) -> Result<usize, Refusal> {
+    pub fn read(&self, name: Name, offset: u64, buffer: &mut [u8]) -> Result<usize, Refusal> {
         count(calls::read(self.window, name.bytes(), offset, buffer)).map(|n| n as usize)
     }
 

@@ -10,7 +10,7 @@ pub const NO_LIMIT: u32 = u32::MAX;
 pub enum Operation<'a> {
     Create { name: Name },
     Append { name: Name, data: &'a [u8] },
-    Truncate { name: Name, size: u32 },
+    Truncate { name: Name, size: u64 },
     Delete { name: Name },
     Rename { old: Name, new: Name },
     Recover,

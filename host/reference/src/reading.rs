@@ -9,10 +9,10 @@ use crate::volume::Volume;
 
 /// Fills the buffer from the offset up to the end of the file and answers the
 /// count of bytes.
-pub fn read(card: &[u8], name: &[u8], offset: u32, buffer: &mut [u8]) -> Answer {
+pub fn read(card: &[u8], name: &[u8], offset: u64, buffer: &mut [u8]) -> Answer {
     match find(card, name) {
         Ok((volume, file, chain)) => {
-            let left = file.size.saturating_sub(offset) as usize;
+            let left = u64::from(file.size).saturating_sub(offset) as usize;
             let count = left.min(buffer.len());
             copy_along(&volume, &chain, offset as usize, &mut buffer[..count]);
             Answer::Done(count as u32)

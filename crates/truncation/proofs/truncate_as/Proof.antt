@@ -7,21 +7,29 @@ use Rattle.operations.specs.Plan.{truncate-stores}
 use Rattle.operate.proofs.Ends.{did-refused, did-ran}
 use Rattle.truncation.proofs.Laws.{as-longer, as-same, as-shorter}
 use borrow.Author.Needs.{needs}
+use borrow.Author.Needs.{needs}
 use Rattle.truncation.proofs.truncate_as.Statement.{statement}
 use Rattle.truncation.proofs.truncate_as.Tie as tie
 use Rattle.truncation.proofs.truncate_as.Reads as reads
 use Rattle.truncation.proofs.truncate_as.Lts as lts
 use Rattle.operate.proofs.ended.Reads as ended-reads
+use Rattle.sector.proofs.wider.Reads as wider-reads
 use Rattle.truncation.proofs.truncate_file.Reads as truncate-file-reads
 
+wider-requires : tie.Need-wider-requires
+wider-requires c κs = search needs
+
 returns : tie.Need-returns
-returns c = let a = c .before .before .before .args in rw (as-longer (card-of (a .w .now)) (a .v) (a .f) (a .size) (c .if1 .taken)) (did-refused (a .limit) _ (a .w .now))
+returns c = let a = c .before .before .before .args in rw (as-longer (card-of (a .w .now)) (a .v) (a .f) (a .size) (omega arith)) (did-refused (a .limit) _ (a .w .now))
 
 returns-2 : tie.Need-returns-2
-returns-2 c = let a = c .before .before .before .before .before .args in rw (as-same (card-of (a .w .now)) (a .v) (a .f) (a .size) (c .if2 .taken)) (did-ran (a .limit) (ending []) (a .w .now) (a .w .now) _ _ (ran-none (a .limit) (a .w .now)))
+returns-2 c = let a = c .before .before .before .before .args in rw (as-same (card-of (a .w .now)) (a .v) (a .f) (a .size) (omega arith)) (did-ran (a .limit) (ending []) (a .w .now) (a .w .now) _ _ (ran-none (a .limit) (a .w .now)))
+
+cast-truncate-file : tie.Need-cast-truncate-file
+cast-truncate-file c = search needs
 
 truncate-file-requires : tie.Need-truncate-file-requires
-truncate-file-requires c κs = (c .before .before .before .before .before .before .pre .0, (c .before .before .before .before .before .before .pre .1, omega arith))
+truncate-file-requires c κs = (c .before .before .before .before .before .pre .0, (c .before .before .before .before .before .pre .1, omega arith))
 
 ended-requires : tie.Need-ended-requires
 ended-requires c κs = search needs
@@ -30,12 +38,20 @@ same-length : tie.Need-same-length
 same-length c = search needs
 
 returns-3 : tie.Need-returns-3
-returns-3 c =
-    let a = c .before .before .before .before .before .before .before .before .before .before .args in
+returns-3 c = 
+    let a = c .before .before .before .before .before .before .before .before .before .args in
     rw (as-shorter (card-of (a .w .now)) (a .v) (a .f) (a .size) (omega arith), c .ended .ensures)
     (did-ran (a .limit) (truncate-stores (a .v) (card-of (a .w .now)) (a .f) (a .size)) (a .w .now) _ _ _ (c .before .before .before .truncate-file .ensures))
 
 pub truncate-as-spec : {M : Type 1} → statement M
 truncate-as-spec =
     tie.close
-    (tie.spec returns returns-2 truncate-file-requires ended-requires same-length returns-3)
+    (tie.spec
+    wider-requires
+    returns
+    returns-2
+    cast-truncate-file
+    truncate-file-requires
+    ended-requires
+    same-length
+    returns-3)

@@ -18,11 +18,11 @@ fn chain(first: u16, size: u32, entries: &[(u16, u16)], proper: bool) {
     for call in [
         Call::Append(name.clone(), vec![1; 700]),
         Call::Append(name.clone(), Vec::new()),
-        Call::Truncate(name.clone(), size),
+        Call::Truncate(name.clone(), u64::from(size)),
         Call::Truncate(name.clone(), 0),
         Call::Delete(name.clone()),
         Call::Read(name.clone(), 0, 3_000),
-        Call::Read(name.clone(), u32::MAX, 0),
+        Call::Read(name.clone(), u64::MAX, 0),
     ] {
         let answer = twin.call(&call, 0);
         let refused = answer == Answer::Refused(Ground::Chain);

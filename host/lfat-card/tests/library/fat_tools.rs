@@ -71,7 +71,7 @@ fn library_step(image: &mut Image, files: &mut Files, random: &mut Random) {
             files.get_mut(&name).expect("there").extend(data);
         }
         (true, 3) => {
-            done(calls::truncate(card, &name, smaller as u32, ALL));
+            done(calls::truncate(card, &name, smaller as u64, ALL));
             files.get_mut(&name).expect("there").truncate(smaller);
         }
         (true, 4) if !files.contains_key(&new) => {

@@ -113,6 +113,11 @@ fn grounds_of_the_call() {
         |name| Call::Truncate(name.to_vec(), 701),
         Some(Ground::Length),
     ));
+    // A size of which the low 32 bits alone would pass.
+    all.extend(rows(
+        |name| Call::Truncate(name.to_vec(), 1 << 32),
+        Some(Ground::Length),
+    ));
     all.extend(rows(|name| Call::Delete(name.to_vec()), None));
     all.extend(rows(|name| Call::Read(name.to_vec(), 9, 64), None));
     for (call, ground) in &all {

@@ -29,7 +29,7 @@ extern "C" {
         length: usize,
         name: Bytes,
         name_length: usize,
-        size: u32,
+        size: u64,
         limit: u32,
     ) -> u64;
     fn lfat_delete(
@@ -54,7 +54,7 @@ extern "C" {
         length: usize,
         name: Bytes,
         name_length: usize,
-        offset: u32,
+        offset: u64,
         buffer: *mut u8,
         buffer_length: usize,
     ) -> u64;

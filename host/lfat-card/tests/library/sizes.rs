@@ -39,11 +39,14 @@ fn save(twin: &mut Twin, first: usize, second: usize) {
     assert_eq!(reference::file_bytes(&twin.card.bytes, 0), whole);
     for offset in [0, 1, 511, 512, first, first + second] {
         for room in [0, 1, 513, first + second + 9] {
-            let read = Call::Read(ROUTE.to_vec(), offset as u32, room);
+            let read = Call::Read(ROUTE.to_vec(), offset as u64, room);
             let count = room.min(whole.len().saturating_sub(offset)) as u32;
             assert_eq!(twin.call(&read, ALL), Answer::Done(count));
         }
     }
+    // An offset of which the low 32 bits alone lie within the file.
+    let past = Call::Read(ROUTE.to_vec(), 1 << 32, 9);
+    assert_eq!(twin.call(&past, ALL), Answer::Done(0));
 }
 
 fn edges(cluster: usize) -> [usize; 10] {
@@ -71,7 +74,7 @@ fn small_clusters() {
             for second in edges(cluster) {
                 save(&mut twin, first, second);
                 for size in edges(cluster).into_iter().rev() {
-                    twin.call(&Call::Truncate(ROUTE.to_vec(), size as u32), ALL);
+                    twin.call(&Call::Truncate(ROUTE.to_vec(), size as u64), ALL);
                 }
                 twin.done(&Call::Append(ROUTE.to_vec(), path(second)));
                 twin.done(&Call::Delete(ROUTE.to_vec()));
@@ -94,7 +97,7 @@ fn large_clusters() {
             twin.done(&Call::Recover);
         }
         for size in [2 * cluster + 1, 2 * cluster, cluster - 1, 0] {
-            twin.done(&Call::Truncate(ROUTE.to_vec(), size as u32));
+            twin.done(&Call::Truncate(ROUTE.to_vec(), size as u64));
         }
         twin.done(&Call::Append(ROUTE.to_vec(), path(3 * cluster + 1)));
         twin.done(&Call::Rename(ROUTE.to_vec(), OTHER.to_vec()));

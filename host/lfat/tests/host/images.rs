@@ -35,7 +35,7 @@ fn same_as_in_memory() {
                     card.append(parsed, &data[..length]),
                 ),
                 4 => {
-                    let size = length as u32 / 2;
+                    let size = length as u64 / 2;
                     (
                         format!("truncate card {name} {size}"),
                         card.truncate(parsed, size),

@@ -110,7 +110,7 @@ fn random_operation<'a>(random: &mut Random, data: &'a [u8]) -> Operation<'a> {
         }
         6 => Operation::Truncate {
             name,
-            size: random.below(3_000) as u32,
+            size: random.below(3_000) as u64,
         },
         7 => Operation::Delete { name },
         _ => Operation::Rename { old: name, new },

@@ -51,8 +51,8 @@ fn wrong_usage() {
         ("truncate card ROUTE.CUT", "SIZE is missing"),
         ("truncate card ROUTE.CUT -1", "unknown option -1"),
         (
-            "truncate card ROUTE.CUT 4294967296",
-            "SIZE: '4294967296' is no number",
+            "truncate card ROUTE.CUT 18446744073709551616",
+            "SIZE: '18446744073709551616' is no number",
         ),
         ("rm card", "NAME is missing"),
         ("mv card ROUTE.CUT", "NEW is missing"),

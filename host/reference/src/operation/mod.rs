@@ -15,7 +15,7 @@ use crate::store::{self, Store};
 pub enum Operation<'a> {
     Create { name: &'a [u8] },
     Append { name: &'a [u8], data: &'a [u8] },
-    Truncate { name: &'a [u8], size: u32 },
+    Truncate { name: &'a [u8], size: u64 },
     Delete { name: &'a [u8] },
     Rename { old: &'a [u8], new: &'a [u8] },
     Recover,
@@ -53,7 +53,7 @@ pub fn append(card: &mut [u8], name: &[u8], data: &[u8], limit: u32) -> Answer {
 }
 
 /// Shortens a file.
-pub fn truncate(card: &mut [u8], name: &[u8], size: u32, limit: u32) -> Answer {
+pub fn truncate(card: &mut [u8], name: &[u8], size: u64, limit: u32) -> Answer {
     run(card, &Operation::Truncate { name, size }, limit)
 }
 

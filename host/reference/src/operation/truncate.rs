@@ -10,14 +10,15 @@ use crate::root_change::RootChange;
 use crate::store::Store;
 use crate::transaction::Transaction;
 
-pub fn plan(card: &[u8], name: &[u8], size: u32) -> Result<Vec<Store>, Ground> {
+pub fn plan(card: &[u8], name: &[u8], size: u64) -> Result<Vec<Store>, Ground> {
     let card = check::clean(card)?;
     let volume = &card.volume;
     let file = File::find(volume, &name::parse(name)?)?;
     let chain = file.chain(volume)?;
-    if size > file.size {
+    if size > u64::from(file.size) {
         return Err(Ground::Length);
     }
+    let size = size as u32;
     if size == file.size {
         return Ok(Vec::new());
     }

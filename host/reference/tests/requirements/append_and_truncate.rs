@@ -8,7 +8,7 @@ fn append(data: &[u8]) -> Operation<'_> {
     Operation::Append { name: ROUTE, data }
 }
 
-fn truncate(size: u32) -> Operation<'static> {
+fn truncate(size: u64) -> Operation<'static> {
     Operation::Truncate { name: ROUTE, size }
 }
 

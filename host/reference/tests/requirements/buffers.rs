@@ -25,7 +25,7 @@ fn with_file(size: usize) -> (Card, Vec<u8>) {
 }
 
 /// Reads into the middle of a guarded buffer; gives the bytes read.
-fn read_guarded(card: &[u8], offset: u32, length: usize) -> Vec<u8> {
+fn read_guarded(card: &[u8], offset: u64, length: usize) -> Vec<u8> {
     let mut buffer = vec![GUARD; length + 64];
     let answer = read(card, ROUTE, offset, &mut buffer[32..32 + length]);
     let Answer::Done(count) = answer else {
@@ -45,7 +45,7 @@ fn read_every_offset_with_several_lengths() {
         for length in [0, 1, 31, 512, 1_024, 1_100, 3_000] {
             let from = offset.min(data.len());
             let to = (from + length).min(data.len());
-            let read = read_guarded(&card.bytes, offset as u32, length);
+            let read = read_guarded(&card.bytes, offset as u64, length);
             assert_eq!(read, data[from..to], "{offset} {length}");
         }
     }
@@ -55,7 +55,7 @@ fn read_every_offset_with_several_lengths() {
 fn read_past_the_end() {
     let (card, _) = with_file(3_072);
     assert_eq!(read_guarded(&card.bytes, 3_071, 100).len(), 1);
-    for offset in [3_072, 3_073, 1 << 31, u32::MAX] {
+    for offset in [3_072, 3_073, 1 << 31, 1 << 32, (1 << 32) + 3_071, u64::MAX] {
         assert_eq!(read_guarded(&card.bytes, offset, 100), []);
     }
 }

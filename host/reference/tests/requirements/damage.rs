@@ -73,7 +73,7 @@ fn check_call(card: &mut Card, operation: &Operation, limit: u32) -> Option<Grou
 
 fn check_reading(card: &Card, name: &[u8], random: &mut Random) {
     let mut buffer = vec![0x5A; random.below(3_000)];
-    let offset = random.pick(&[0, 0, 100, 512, u32::MAX]);
+    let offset = random.pick(&[0, 0, 100, 512, 1 << 32, u64::MAX]);
     match read(&card.bytes, name, offset, &mut buffer) {
         Answer::Done(count) => {
             let rest = &buffer[count as usize..];

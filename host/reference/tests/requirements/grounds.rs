@@ -180,7 +180,7 @@ fn read_ladder() {
     let expect = |ladder: &Ladder, name: &[u8], ground| {
         let mut buffer = [0x5A; 64];
         let window = &ladder.card.bytes[..ladder.length];
-        for offset in [0, 1, u32::MAX] {
+        for offset in [0, 1, 1 << 32, u64::MAX] {
             let answer = read(window, name, offset, &mut buffer);
             assert_eq!(answer, Answer::Refused(ground));
         }

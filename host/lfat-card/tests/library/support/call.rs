@@ -9,12 +9,12 @@ use std::fmt;
 pub enum Call {
     Create(Vec<u8>),
     Append(Vec<u8>, Vec<u8>),
-    Truncate(Vec<u8>, u32),
+    Truncate(Vec<u8>, u64),
     Delete(Vec<u8>),
     Rename(Vec<u8>, Vec<u8>),
     Recover,
     /// Name, offset and the buffer's length.
-    Read(Vec<u8>, u32, usize),
+    Read(Vec<u8>, u64, usize),
     /// The buffer's length.
     List(usize),
 }

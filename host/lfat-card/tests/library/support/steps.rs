@@ -73,7 +73,7 @@ pub fn random_call(random: &mut Random, card: &Card) -> Call {
     match random.below(24) {
         0..=4 => Call::Create(random_name(random)),
         5..=9 => Call::Append(name, random.bytes(length)),
-        10..=12 => Call::Truncate(name, length as u32),
+        10..=12 => Call::Truncate(name, length as u64),
         13 | 14 => Call::Delete(name),
         15..=17 => Call::Rename(name, random_name(random)),
         18 => Call::Recover,
@@ -82,11 +82,21 @@ pub fn random_call(random: &mut Random, card: &Card) -> Call {
     }
 }
 
-pub fn random_offset(random: &mut Random) -> u32 {
+pub fn random_offset(random: &mut Random) -> u64 {
     match random.below(4) {
         0 => 0,
-        1 => random.pick(&[1, 511, 512, 513, 1 << 16, 1 << 31, u32::MAX]),
-        _ => random.below(6_000) as u32,
+        1 => random.pick(&[
+            1,
+            511,
+            512,
+            513,
+            1 << 16,
+            1 << 31,
+            1 << 32,
+            (1 << 32) + 5,
+            u64::MAX,
+        ]),
+        _ => random.below(6_000) as u64,
     }
 }
 

@@ -18,7 +18,7 @@ pub const NAMES: [&Name; 6] = [
 pub enum Step {
     Create(Vec<u8>),
     Append(Vec<u8>, Vec<u8>),
-    Truncate(Vec<u8>, u32),
+    Truncate(Vec<u8>, u64),
     Delete(Vec<u8>),
     Rename(Vec<u8>, Vec<u8>),
 }
@@ -64,7 +64,7 @@ pub fn random_step(random: &mut Random, cluster_bytes: usize) -> Step {
         }
         9..=11 => {
             let size = random_length(random, cluster_bytes);
-            Step::Truncate(name, size as u32)
+            Step::Truncate(name, size as u64)
         }
         12 | 13 => Step::Delete(name),
         _ => Step::Rename(name, random_name(random)),
