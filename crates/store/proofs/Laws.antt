@@ -1,17 +1,18 @@
--- Bytes of a sector by their index, sectors compared by counting the bytes that differ, and a sector that is lent to be stored.
+-- Bytes of a sector by their index, a flag for what a loop has seen, sectors compared by such a flag, and a sector that is lent to be stored.
 use Prim.Native.Nat.{ℕ, zero, suc, _+_, _*_, _<_, _≤_}
 use mathlib.Core.Path.{_≡_, refl, sym, ap, _∙_, fun-ext}
 use mathlib.Core.List.{List, [], _∷_, _++_, append-nil}
 use lib.ListN.{getD, length, take, drop}
-use mathlib.Core.Bool.{Bool, not}
+use mathlib.Core.Bool.{Bool, true, false, not}
 use lib.Dec.{eqb}
+use borrow.Author.Tests.{ne-eqb}
 use native.Mathlib.Omega.{arith}
 use Rattle.model.specs.Bytes.{Bytes, bytes-of}
 use Rattle.model.specs.Scan.{count-from}
 use Rattle.model.specs.Sector.{card-of, clip, store, put, after}
 use Rattle.model.specs.Fat.{same}
 use Rattle.model.specs.Promises.{Ran}
-use Rattle.model.proofs.Scan.{all-same}
+use Rattle.model.proofs.Scan.{all-same, count-none, count-step}
 use Rattle.model.proofs.Sectors.{byte-in, part-sector}
 use Rattle.model.proofs.Cards.{sector-back, put-in, put-case, clip-clip}
 use Rattle.model.proofs.Searches.{count-fails}
@@ -19,16 +20,31 @@ use Rattle.model.proofs.Searches.{count-fails}
 pub in-sector : (xs : List ℕ) (r s : ℕ) → r ≡ s → (j : ℕ) → j < 512 → getD xs (512 * r + j) 0 ≡ card-of xs s j
 in-sector xs r s e j h = ap (λ z. getD xs (512 * z + j) 0) e ∙ sym (byte-in xs s j h)
 
+-- A flag is 0 as long as p has held of none of the n numbers from i on.
+abbrev pub Flag : (ℕ → Bool) → ℕ → ℕ → ℕ → Type 0
+Flag p i n m = eqb m 0 ≡ eqb (count-from p i n) 0
+
+pub flag-none : (p : ℕ → Bool) (i : ℕ) → Flag p i 0 0
+flag-none p i = ap (λ z. eqb z 0) (sym (count-none p i))
+
+-- One number further: k.
+module _ (p : ℕ → Bool) (i n k : ℕ) (at : k ≡ i + n) where
+  pub flag-hit : p k ≡ true → Flag p i (n + 1) 1
+  flag-hit h = rw (count-step p i n, ← at, h) (sym (ne-eqb (count-from p i n + 1) 0 (λ e. omega arith)))
+
+  pub flag-miss : (m : ℕ) → Flag p i n m → p k ≡ false → Flag p i (n + 1) m
+  flag-miss m so h = let z : count-from p i n + 0 ≡ count-from p i n = omega arith in rw (count-step p i n, ← at, h, z) so
+
 abbrev pub unlike : Bytes → Bytes → ℕ → Bool
 unlike x y j = not (eqb (x j) (y j))
 
 -- x and y are bytes of the sectors b and c.
-pub counted : (x y b c : Bytes) (n : ℕ) → ((j : ℕ) → j < 512 → x j ≡ b j) → ((j : ℕ) → j < 512 → y j ≡ c j)
-    → (j : ℕ) → j ≡ 512 → n ≡ count-from (unlike x y) 0 j → not (eqb n 0) ≡ not (same b c)
+pub flagged : (x y b c : Bytes) (n : ℕ) → ((j : ℕ) → j < 512 → x j ≡ b j) → ((j : ℕ) → j < 512 → y j ≡ c j)
+    → (j : ℕ) → j ≡ 512 → Flag (unlike x y) 0 j n → not (eqb n 0) ≡ not (same b c)
 unfolding same
-counted x y b c n f g j end e =
+flagged x y b c n f g j end e =
     ap not
-    (ap (λ z. eqb z 0) (e ∙ ap (count-from (unlike x y) 0) end) ∙ count-fails (λ j. eqb (x j) (y j)) 0 512
+    (e ∙ ap (λ z. eqb (count-from (unlike x y) 0 z) 0) end ∙ count-fails (λ j. eqb (x j) (y j)) 0 512
     ∙ all-same (λ j. eqb (x j) (y j)) (λ j. eqb (b j) (c j)) 0 512 (λ j l h. rw (f j (omega arith), g j (omega arith))))
 
 -- ---- a sector that is lent, and given back

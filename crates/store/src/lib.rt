@@ -10,23 +10,21 @@ ghost use Rattle.model.specs.Sector.{card-of, clip, store};
 ghost use Rattle.model.specs.Fat.{same};
 ghost use Rattle.model.specs.Promises.{Ran};
 
-// Whether two sectors hold different bytes. Those that differ are counted, in a narrow number and with no way out of the loop
-// but its end: so the compiler compares many bytes at once.
+// Whether two sectors hold different bytes. What was seen is kept in a flag of one byte, and the loop has no way out but its
+// end: so the compiler compares sixteen bytes at once.
 pub fn differs(w: &[u8], s: u32, t: u32) -> bool
     requires { ⌜ (512 * s + 512 ≤ length (now w)) × (512 * t + 512 ≤ length (now w)) ⌝ }
     ensures { λ r. ⌜ r ≡ not (same (card-of (now (w .entry)) s) (card-of (now (w .entry)) t)) ⌝ }
 {
     let a = 512 * sector::index(s);
     let b = 512 * sector::index(t);
-    let mut n: u16 = 0;
+    let mut seen: u8 = 0;
     let mut j = 0;
     while j < 512 {
-        if w[a + j] != w[b + j] {
-            n += 1;
-        }
+        seen = if w[a + j] != w[b + j] { 1 } else { seen };
         j += 1;
     }
-    n != 0
+    seen != 0
 }
 
 // Whether a buffer holds other bytes than a sector.
@@ -35,15 +33,13 @@ pub fn alters(buf: &[u8; 512], w: &[u8], s: u32) -> bool
     ensures { λ r. ⌜ r ≡ not (same (bytes-of (now (buf .entry))) (card-of (now (w .entry)) s)) ⌝ }
 {
     let own = 512 * sector::index(s);
-    let mut n: u16 = 0;
+    let mut seen: u8 = 0;
     let mut j = 0;
     while j < 512 {
-        if buf[j] != w[own + j] {
-            n += 1;
-        }
+        seen = if buf[j] != w[own + j] { 1 } else { seen };
         j += 1;
     }
-    n != 0
+    seen != 0
 }
 
 // The bytes of a sector.

@@ -6,20 +6,17 @@ use native.Mathlib.Omega.{arith}
 use lib.ListN.{getD}
 use borrow.Author.Tests.{eq-eqb, ne-eqb}
 use Rattle.model.specs.Bytes.{bytes-of}
-use Rattle.model.specs.Scan.{count-from}
 use Rattle.model.specs.Sector.{card-of}
-use Rattle.model.proofs.Scan.{count-none}
-use Rattle.model.proofs.Searches.{count-hit, count-miss}
-use Rattle.store.proofs.Laws.{in-sector, unlike, counted}
+use Rattle.store.proofs.Laws.{in-sector, Flag, flag-none, flag-hit, flag-miss, unlike, flagged}
 use borrow.Author.Needs.{needs}
 use Rattle.store.proofs.alters.Statement.{statement}
 use Rattle.store.proofs.alters.Tie as tie
 
 abbrev Inv-loop : tie.InvT-loop
-Inv-loop buf w s own n₀ j₀ n j = (j ≤ 512) × (n ≤ j) × (n ≡ count-from (unlike (bytes-of buf) (λ m. getD w (own + m) 0)) 0 j)
+Inv-loop buf w s own seen₀ j₀ seen j = (j ≤ 512) × Flag (unlike (bytes-of buf) (λ m. getD w (own + m) 0)) 0 j seen
 
 abbrev μ-loop : tie.MeasureT-loop
-μ-loop buf w s own n₀ j₀ n j = 512 - j
+μ-loop buf w s own seen₀ j₀ seen j = 512 - j
 
 index-requires : tie.Need-index-requires Inv-loop μ-loop
 index-requires c κs = search needs
@@ -28,7 +25,7 @@ mul-own : tie.Need-mul-own Inv-loop μ-loop
 mul-own c = search needs
 
 loop-holds : tie.Need-loop-holds Inv-loop μ-loop
-loop-holds c = (search needs, search needs, sym (count-none _ 0))
+loop-holds c = (search needs, flag-none _ 0)
 
 element-copy-out-if1 : tie.Need-element-copy-out-if1 Inv-loop μ-loop
 element-copy-out-if1 c = search needs
@@ -38,9 +35,6 @@ add-if1 c = search needs
 
 shared-slice-read-if1 : tie.Need-shared-slice-read-if1 Inv-loop μ-loop
 shared-slice-read-if1 c = search needs
-
-add-n : tie.Need-add-n Inv-loop μ-loop
-add-n c = omega arith
 
 add-j : tie.Need-add-j Inv-loop μ-loop
 add-j c = search needs
@@ -53,10 +47,9 @@ loop-again c =
     let w = c .before .before .before .before .before .before .before .args .w .now in
     let p = unlike (bytes-of (c .before .before .before .before .before .before .before .args .buf .now)) (λ m. getD w (512 * c .before .before .before .before .before .index .result + m) 0) in (
       search needs,
-      ⊎-elim (λ u. omega (arith, u .1)) (λ u. omega (arith, u .1)) (c .if1 .came),
       ⊎-elim
-          (λ u. u .1 ∙ count-hit p 0 (c .before .before .before .before .loop .j) (c .before .before .before .before .loop .n) (c .before .before .before .before .loop .j) (c .before .before .before .before .loop .inv .2) (omega arith) (ap not (ne-eqb _ _ (u .0 .taken))))
-          (λ u. u .1 ∙ count-miss p 0 (c .before .before .before .before .loop .j) (c .before .before .before .before .loop .n) (c .before .before .before .before .loop .j) (c .before .before .before .before .loop .inv .2) (omega arith) (ap not (eq-eqb _ _ (u .0 .left))))
+          (λ u. rw (u .1) (flag-hit p 0 (c .before .before .before .before .loop .j) (c .before .before .before .before .loop .j) (omega arith) (ap not (ne-eqb _ _ (u .0 .taken)))))
+          (λ u. rw (u .1) (flag-miss p 0 (c .before .before .before .before .loop .j) (c .before .before .before .before .loop .j) (omega arith) (c .before .before .before .before .loop .seen) (c .before .before .before .before .loop .inv .1) (ap not (eq-eqb _ _ (u .0 .left)))))
           (c .if1 .came),
     )
 
@@ -65,8 +58,8 @@ returns c =
     let w = c .before .before .before .before .args .w .now in
     let x = bytes-of (c .before .before .before .before .args .buf .now) in
     let a = c .before .before .index .result in
-    counted x (λ m. getD w (512 * a + m) 0) x (card-of w (c .before .before .before .before .args .s)) (c .before .loop .n)
-    (λ j h. refl) (in-sector w a (c .before .before .before .before .args .s) (c .before .before .index .ensures)) (c .before .loop .j) (omega arith) (c .before .loop .inv .2)
+    flagged x (λ m. getD w (512 * a + m) 0) x (card-of w (c .before .before .before .before .args .s)) (c .before .loop .seen)
+    (λ j h. refl) (in-sector w a (c .before .before .before .before .args .s) (c .before .before .index .ensures)) (c .before .loop .j) (omega arith) (c .before .loop .inv .1)
 
 pub alters-spec : {M : Type 1} → statement M
 alters-spec =
@@ -80,7 +73,6 @@ alters-spec =
     element-copy-out-if1
     add-if1
     shared-slice-read-if1
-    add-n
     add-j
     loop-less
     loop-again
