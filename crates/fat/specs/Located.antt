@@ -1,9 +1,7 @@
 -- Where the log lies, as a search of the FAT finds it.
-use Prim.Native.Nat.{ℕ, _+_, _*_, _≤_}
+use Prim.Native.Nat.{ℕ, _+_, _≤_}
 use mathlib.Core.Bool.{Bool, not}
-use mathlib.Core.List.{List}
 use lib.Dec.{eqb}
-use lib.ListN.{getD}
 use Rattle.model.specs.Bytes.{pick}
 use Rattle.model.specs.Fat.{Fat, entry}
 use Rattle.model.specs.Log.{run, run-ok, area}
@@ -18,10 +16,6 @@ holds v f k = eqb (entry f k) v
 
 abbrev pub lacks : ℕ → Fat → ℕ → Bool
 lacks v f k = not (holds v f k)
-
--- Entry i from a place on has this high byte.
-abbrev pub high-is : List ℕ → ℕ → ℕ → ℕ → Bool
-high-is w at high i = eqb (getD w (at + (2 * i + 1)) 0) high
 
 unfoldable pub located : Layout → Fat → Located
 located l f = pick (run-ok l f (run l f)) (At (area l (run l f))) Nowhere

@@ -4,7 +4,7 @@ use model::Class;
 use model::Layout;
 ghost use mathlib.Core.Path.{_≡_};
 ghost use mathlib.Core.Bool.{true, false};
-ghost use Prim.Native.Nat.{ℕ, _+_, _*_, _≤_, _<_};
+ghost use Prim.Native.Nat.{_+_, _*_, _≤_, _<_};
 ghost use lib.ListN.{length};
 ghost use Rattle.model.specs.Bytes.{bytes-of};
 ghost use Rattle.model.specs.Scan.{first-from, count-from};
@@ -12,7 +12,7 @@ ghost use Rattle.model.specs.Sector.{card-of};
 ghost use Rattle.model.specs.Fat.{fat-at, fat1-of, entry, class, fats-agree};
 ghost use Rattle.model.specs.Chain.{cluster-sector};
 ghost use Rattle.model.specs.Promises.{Number, Fits, Held};
-ghost use Rattle.fat.specs.Located.{holds, lacks, high-is, located, Within};
+ghost use Rattle.fat.specs.Located.{holds, lacks, located, Within};
 
 // Where the log was found.
 pub enum Located {
@@ -80,23 +80,23 @@ pub fn count_entries(w: &[u8], fat: u32, k: u32, n: u32, v: u32) -> u32
     found
 }
 
-// Whether one of the 256 entries from a place on has this high byte. What was seen is kept in a flag of one byte, and the loop
-// has no way out but its end: so the compiler compares sixteen bytes at once.
-fn has_high(w: &[u8], at: usize, high: u8) -> bool
-    requires { ⌜ at + 512 ≤ length (now w) ⌝ }
-    ensures { λ r. ⌜ (r ≡ false → (i : ℕ) → i < 256 → high-is (now (w .entry)) at high i ≡ false) ⌝ }
+// Whether one of the 256 entries from k on holds v. What was seen is kept in a flag as wide as an entry, and the loop has no way
+// out but its end: so the compiler compares eight entries at once.
+fn is_among(w: &[u8], fat: u32, k: u32, v: u32) -> bool
+    requires { ⌜ 512 * fat + 2 * (k + 256) ≤ length (now w) ⌝ }
+    ensures { λ r. ⌜ (r ≡ false → count-from (holds v (fat-at (card-of (now (w .entry))) fat)) k 256 ≡ 0) ⌝ }
 {
-    let mut seen: u8 = 0;
+    let at = 512 * sector::index(fat) + 2 * sector::index(k);
+    let mut seen: u16 = 0;
     let mut i = 0;
     while i < 256 {
-        seen = if w[at + (2 * i + 1)] == high { 1 } else { seen };
+        seen = if pair(w, at + 2 * i) == v { 1 } else { seen };
         i += 1;
     }
     seen != 0
 }
 
-// Whether a whole sector of the FAT begins at entry k, below the end, and holds no v. One that has no entry with v's high byte
-// holds none: few sectors are left to count in.
+// Whether a whole sector of the FAT begins at entry k, below the end, and holds no v.
 fn is_bare(w: &[u8], fat: u32, k: u32, end: u32, v: u32) -> bool
     requires { ⌜ (k ≤ end) × (512 * fat + 2 * end ≤ length (now w)) ⌝ }
     ensures { λ r. ⌜ (r ≡ true → (k + 256 ≤ end) × (count-from (holds v (fat-at (card-of (now (w .entry))) fat)) k 256 ≡ 0)) ⌝ }
@@ -107,11 +107,7 @@ fn is_bare(w: &[u8], fat: u32, k: u32, end: u32, v: u32) -> bool
     if end - k < 256 {
         return false;
     }
-    let at = 512 * sector::index(fat) + 2 * sector::index(k);
-    if !has_high(w, at, (v / 256 % 256) as u8) {
-        return true;
-    }
-    count_entries(w, fat, k, 256, v) == 0
+    !is_among(w, fat, k, v)
 }
 
 // The first entry from k on that holds v, or the end. A sector that holds none is passed over whole.
