@@ -38,7 +38,7 @@ fn next_new(w: &[u8], l: Layout, at: u32, left: u32) -> u32
 }
 
 // Sector s of the new FAT, from FAT1's.
-fn link_sector(w: &[u8], l: Layout, s: u32, last: u32, first: u32, at: u32, left: u32) -> Built
+pub fn link_sector(w: &[u8], l: Layout, s: u32, last: u32, first: u32, at: u32, left: u32) -> Built
     requires { ⌜ Held l (now w) × (s < l .fatsize) × (first < 65536) × Cursor l (own-fat l (now w)) at left × Above s at left ⌝ }
     ensures { λ r. ⌜ ((j : ℕ) → j < 512 → getD (r .buf) j 0 ≡ link (news l (own-fat l (now (w .entry))) at left) (lead last first (own-fat l (now (w .entry)))) s j) × Moved l (own-fat l (now (w .entry))) (s + 1) at left (r .at) (r .left) × Above (s + 1) (r .at) (r .left) ⌝ }
 {
@@ -67,7 +67,7 @@ fn link_sector(w: &[u8], l: Layout, s: u32, last: u32, first: u32, at: u32, left
 }
 
 // Whether sector s may hold `last` or a new cluster.
-fn is_changed(s: u32, last: u32, at: u32, left: u32) -> bool
+pub fn is_changed(s: u32, last: u32, at: u32, left: u32) -> bool
     ensures { λ r. ⌜ (r ≡ false → (s ≡ last / 256 → ⊥) × (0 < left → s ≡ at / 256 → ⊥)) ⌝ }
 {
     if last / 256 == s {

@@ -41,7 +41,7 @@ fn mark(marks: &mut [u8], from: u32, k: u32)
 }
 
 // The marks for sector s: made anew where 64 sectors begin, by a walk along the m clusters from `first` on.
-fn mark_block(w: &[u8], l: Layout, marks: &mut [u8], s: u32, first: u32, m: u32)
+pub fn mark_block(w: &[u8], l: Layout, marks: &mut [u8], s: u32, first: u32, m: u32)
     requires { ⌜ Held l (now w) × (length (now marks) ≡ 16384) × (s < l .fatsize) × Inside l (chain (entry (own-fat l (now w))) m first) × ((s % 64 ≡ 0 → ⊥) → Marked (chain (entry (own-fat l (now w))) m first) (16384 * (s / 64)) (now marks)) ⌝ }
     ensures { λ _. ⌜ Marked (chain (entry (own-fat l (now (w .entry)))) m first) (16384 * (s / 64)) (now (marks .exit)) ⌝ }
 {
@@ -63,7 +63,7 @@ fn mark_block(w: &[u8], l: Layout, marks: &mut [u8], s: u32, first: u32, m: u32)
 }
 
 // Whether sector s may hold `kept` or, by the marks from `at` on, a freed cluster.
-fn is_changed(marks: &[u8], at: usize, s: u32, kept: u32) -> bool
+pub fn is_changed(marks: &[u8], at: usize, s: u32, kept: u32) -> bool
     requires { ⌜ at + 256 ≤ length (now marks) ⌝ }
     ensures { λ r. ⌜ (r ≡ false → (s ≡ kept / 256 → ⊥) × ((i : ℕ) → i < 256 → getD (now (marks .entry)) (at + i) 0 ≡ 0)) ⌝ }
 {
@@ -90,7 +90,7 @@ fn unless_marked(b: u8, m: u8) -> u8
 }
 
 // Clears the entries that the marks from `at` on name, in the buffer of a sector.
-fn clear_marked(buf: &mut [u8], marks: &[u8], at: usize)
+pub fn clear_marked(buf: &mut [u8], marks: &[u8], at: usize)
     requires { ⌜ (length (now buf) ≡ 512) × (at + 256 ≤ length (now marks)) ⌝ }
     ensures { λ _. ⌜ ((j : ℕ) → j < 512 → getD (now (buf .exit)) j 0 ≡ pick (eqb (getD (now (marks .entry)) (at + j / 2) 0) 0) (getD (now (buf .entry)) j 0) 0) ⌝ }
 {
