@@ -58,11 +58,18 @@ pub fn store_changed(w: &mut [u8], s: u32, buf: &[u8; 512], limit: u32) -> Progr
     copy_sector(&mut w[at..at + 512], buf, limit)
 }
 
-// Stores one sector as another, where they differ. Only the sector overwritten is lent.
+// Stores one sector as another, where they differ. They are compared in place first, since most are alike; only the sector
+// overwritten is lent to the copy.
 pub fn copy_changed(w: &mut [u8], from: u32, to: u32, limit: u32) -> Progress
     requires { ⌜ (512 * from + 512 ≤ length (now w)) × (512 * to + 512 ≤ length (now w)) ⌝ }
     ensures { λ r. ⌜ Ran limit (renewal to (card-of (now (w .entry)) from) (card-of (now (w .entry)) to)) (now (w .entry)) (now (w .exit)) (r .made) (r .whole) ⌝ }
 {
+    if !store::differs(w, from, to) {
+        return Progress {
+            made: 0,
+            whole: true,
+        };
+    }
     let buf = store::load(w, from);
     let at = 512 * sector::index(to);
     copy_sector(&mut w[at..at + 512], &buf, limit)
