@@ -1,5 +1,5 @@
 -- The FAT in which the end of a chain is freed, and the marks of freed clusters by which it is made.
-use Prim.Native.Nat.{ℕ, _+_, _*_, _/_, _%_, _<_}
+use Prim.Native.Nat.{ℕ, _+_, _*_, _/_, _%_, _^_, _<_}
 use mathlib.Core.Path.{_≡_}
 use mathlib.Core.Bool.{Bool}
 use mathlib.Core.List.{List, [], _∷_, map}
@@ -24,10 +24,17 @@ Inside l (k ∷ ks) = (k < l .clusters + 2) × Inside l ks
 abbrev pub among : List ℕ → ℕ → Bool
 among ks k = any (map (eqb k) ks)
 
+-- Bit i of a byte, and mark i: bit i % 8 of byte i / 8.
+unfoldable pub bit-of : ℕ → ℕ → ℕ
+bit-of b i = b / 2 ^ i % 2
+
+abbrev pub mark-of : List ℕ → ℕ → ℕ
+mark-of marks i = bit-of (getD marks (i / 8) 0) (i % 8)
+
 -- Mark i says whether cluster from + i is one of a list.
 abbrev pub Marked : List ℕ → ℕ → List ℕ → Type 0
-Marked ks from marks = (i : ℕ) → i < 16384 → getD marks i 0 ≡ pick (among ks (from + i)) 1 0
+Marked ks from marks = (i : ℕ) → i < 16384 → mark-of marks i ≡ pick (among ks (from + i)) 1 0
 
 -- A FAT with the marked entries 0, the marks being those of the 64 sectors that sector s is one of.
 unfoldable pub cleared : List ℕ → Fat → Fat
-cleared marks f s j = pick (eqb (getD marks (256 * (s % 64) + j / 2) 0) 0) (f s j) 0
+cleared marks f s j = pick (eqb (mark-of marks (256 * (s % 64) + j / 2)) 0) (f s j) 0

@@ -12,23 +12,43 @@ ghost use Rattle.model.specs.Fat.{entry, end-value, fat1-of, fat2-of, release, 
 ghost use Rattle.model.specs.Chain.{chain};
 ghost use Rattle.model.specs.Promises.{Held, Ran};
 ghost use Rattle.change.specs.Change.{lead, own-fat, renewal};
-ghost use Rattle.release.specs.Release.{cut, cleared, Inside, Marked};
+ghost use Rattle.release.specs.Release.{cut, cleared, bit-of, mark-of, Inside, Marked};
 
+// The marks of 16,384 clusters, one bit each.
 fn clear_marks(marks: &mut [u8])
-    requires { ⌜ length (now marks) ≡ 16384 ⌝ }
-    ensures { λ _. ⌜ ((i : ℕ) → i < 16384 → getD (now (marks .exit)) i 0 ≡ 0) ⌝ }
+    requires { ⌜ length (now marks) ≡ 2048 ⌝ }
+    ensures { λ _. ⌜ ((i : ℕ) → i < 16384 → mark-of (now (marks .exit)) i ≡ 0) ⌝ }
 {
     let mut i = 0;
-    while i < 16384 {
+    while i < 2048 {
         marks[i] = 0;
         i += 1;
     }
 }
 
+// Mark i.
+fn mark_at(marks: &[u8], i: usize) -> u8
+    requires { ⌜ i / 8 < length (now marks) ⌝ }
+    ensures { λ r. ⌜ r ≡ mark-of (now (marks .entry)) i ⌝ }
+{
+    (marks[i / 8] >> (i % 8)) % 2
+}
+
+// A byte with bit i set.
+fn with_bit(b: u8, i: usize) -> u8
+    requires { ⌜ i < 8 ⌝ }
+    ensures { λ r. ⌜ ((j : ℕ) → j < 8 → bit-of r j ≡ pick (eqb j i) 1 (bit-of b j)) ⌝ }
+{
+    if (b >> i) % 2 == 1 {
+        return b;
+    }
+    b + (1 << i)
+}
+
 // Marks cluster k, if it is one of the 16,384 from `from` on.
 fn mark(marks: &mut [u8], from: u32, k: u32)
-    requires { ⌜ length (now marks) ≡ 16384 ⌝ }
-    ensures { λ _. ⌜ ((i : ℕ) → i < 16384 → getD (now (marks .exit)) i 0 ≡ pick (eqb (from + i) k) 1 (getD (now (marks .entry)) i 0)) ⌝ }
+    requires { ⌜ length (now marks) ≡ 2048 ⌝ }
+    ensures { λ _. ⌜ ((i : ℕ) → i < 16384 → mark-of (now (marks .exit)) i ≡ pick (eqb (from + i) k) 1 (mark-of (now (marks .entry)) i)) ⌝ }
 {
     if k < from {
         return;
@@ -37,12 +57,12 @@ fn mark(marks: &mut [u8], from: u32, k: u32)
         return;
     }
     let i = sector::index(k - from);
-    marks[i] = 1;
+    marks[i / 8] = with_bit(marks[i / 8], i % 8);
 }
 
 // The marks for sector s: made anew where 64 sectors begin, by a walk along the m clusters from `first` on.
 pub fn mark_block(w: &[u8], l: Layout, marks: &mut [u8], s: u32, first: u32, m: u32)
-    requires { ⌜ Held l (now w) × (length (now marks) ≡ 16384) × (s < l .fatsize) × Inside l (chain (entry (own-fat l (now w))) m first) × ((s % 64 ≡ 0 → ⊥) → Marked (chain (entry (own-fat l (now w))) m first) (16384 * (s / 64)) (now marks)) ⌝ }
+    requires { ⌜ Held l (now w) × (length (now marks) ≡ 2048) × (s < l .fatsize) × Inside l (chain (entry (own-fat l (now w))) m first) × ((s % 64 ≡ 0 → ⊥) → Marked (chain (entry (own-fat l (now w))) m first) (16384 * (s / 64)) (now marks)) ⌝ }
     ensures { λ _. ⌜ Marked (chain (entry (own-fat l (now (w .entry)))) m first) (16384 * (s / 64)) (now (marks .exit)) ⌝ }
 {
     if s % 64 != 0 {
@@ -64,15 +84,15 @@ pub fn mark_block(w: &[u8], l: Layout, marks: &mut [u8], s: u32, first: u32, m: 
 
 // Whether sector s may hold `kept` or, by the marks from `at` on, a freed cluster.
 pub fn is_changed(marks: &[u8], at: usize, s: u32, kept: u32) -> bool
-    requires { ⌜ at + 256 ≤ length (now marks) ⌝ }
-    ensures { λ r. ⌜ (r ≡ false → (s ≡ kept / 256 → ⊥) × ((i : ℕ) → i < 256 → getD (now (marks .entry)) (at + i) 0 ≡ 0)) ⌝ }
+    requires { ⌜ (at % 8 ≡ 0) × (at + 256 ≤ 8 * length (now marks)) ⌝ }
+    ensures { λ r. ⌜ (r ≡ false → (s ≡ kept / 256 → ⊥) × ((i : ℕ) → i < 256 → mark-of (now (marks .entry)) (at + i) ≡ 0)) ⌝ }
 {
     if kept / 256 == s {
         return true;
     }
     let mut i = 0;
-    while i < 256 {
-        if marks[at + i] != 0 {
+    while i < 32 {
+        if marks[at / 8 + i] != 0 {
             return true;
         }
         i += 1;
@@ -91,19 +111,19 @@ fn unless_marked(b: u8, m: u8) -> u8
 
 // Clears the entries that the marks from `at` on name, in the buffer of a sector.
 pub fn clear_marked(buf: &mut [u8], marks: &[u8], at: usize)
-    requires { ⌜ (length (now buf) ≡ 512) × (at + 256 ≤ length (now marks)) ⌝ }
-    ensures { λ _. ⌜ ((j : ℕ) → j < 512 → getD (now (buf .exit)) j 0 ≡ pick (eqb (getD (now (marks .entry)) (at + j / 2) 0) 0) (getD (now (buf .entry)) j 0) 0) ⌝ }
+    requires { ⌜ (length (now buf) ≡ 512) × (at + 256 ≤ 16384) × (length (now marks) ≡ 2048) ⌝ }
+    ensures { λ _. ⌜ ((j : ℕ) → j < 512 → getD (now (buf .exit)) j 0 ≡ pick (eqb (mark-of (now (marks .entry)) (at + j / 2)) 0) (getD (now (buf .entry)) j 0) 0) ⌝ }
 {
     let mut j = 0;
     while j < 512 {
-        buf[j] = unless_marked(buf[j], marks[at + j / 2]);
+        buf[j] = unless_marked(buf[j], mark_at(marks, at + j / 2));
         j += 1;
     }
 }
 
 // Sector s of FAT2. One with no entry to change becomes FAT1's.
 fn shorten_sector(w: &mut [u8], l: Layout, s: u32, kept: u32, marks: &[u8], limit: u32) -> Progress
-    requires { ⌜ Held l (now w) × (s < l .fatsize) × (length (now marks) ≡ 16384) ⌝ }
+    requires { ⌜ Held l (now w) × (s < l .fatsize) × (length (now marks) ≡ 2048) ⌝ }
     ensures { λ r. ⌜ Ran limit (renewal (l .fat2 + s) (cleared (now (marks .entry)) (lead kept end-value (own-fat l (now (w .entry)))) s) (card-of (now (w .entry)) (l .fat2 + s))) (now (w .entry)) (now (w .exit)) (r .made) (r .whole) ⌝ }
 {
     let at = 256 * sector::index(s % 64);
@@ -120,7 +140,7 @@ fn shorten_all(w: &mut [u8], l: Layout, kept: u32, first: u32, m: u32, limit: u3
     requires { ⌜ Held l (now w) × Inside l (chain (entry (own-fat l (now w))) m first) ⌝ }
     ensures { λ r. ⌜ Ran limit (write-fat l (l .fat2) (release (chain (entry (own-fat l (now (w .entry)))) m first) (lead kept end-value (own-fat l (now (w .entry))))) (fat2-of l (card-of (now (w .entry))))) (now (w .entry)) (now (w .exit)) (r .made) (r .whole) ⌝ }
 {
-    let mut marks = [0u8; 16384];
+    let mut marks = [0u8; 2048];
     let mut made = 0;
     let mut s = 0;
     while s < l.fatsize {

@@ -4,7 +4,7 @@ use native.Mathlib.Omega.{arith}
 use mathlib.Core.Path.{_≡_, refl, sym, ap, _∙_}
 use mathlib.Core.Bool.{true, false}
 use mathlib.Core.List.{List, [], _∷_, _++_, append-nil}
-use lib.ListN.{length, getD, take}
+use lib.ListN.{length, take}
 use lib.Dec.{eqb}
 use borrow.Author.Tests.{ne-eqb}
 use Rattle.model.specs.Bytes.{Bytes, pick}
@@ -25,7 +25,7 @@ use Rattle.allocate.proofs.Grown.{grown-some}
 use Rattle.fat.specs.Located.{holds}
 use Rattle.allocate.proofs.Passes.{linked}
 use Rattle.allocate.proofs.Passes.{unchanged as stays}
-use Rattle.release.specs.Release.{cut, cleared, Inside, Marked}
+use Rattle.release.specs.Release.{cut, cleared, mark-of, Inside, Marked}
 use Rattle.release.proofs.Laws.{cleared-is, own-chain, cut-none, cut-some}
 use Rattle.renew.specs.Renew.{renewed, passed}
 
@@ -51,7 +51,7 @@ renewed-release (k ∷ ks) t = rw (ne-eqb (0 + suc (length ks)) 0 (λ e. omega a
 
 -- One with neither `last`, nor a new cluster, nor a mark stays as it is.
 pub unchanged : (marks : List ℕ) (l : Layout) (t : Fat) (s last value at left : ℕ) → (s ≡ last / 256 → ⊥) → Above (s + 1) at left
-    → ((i : ℕ) → i < 256 → getD marks (256 * (s % 64) + i) 0 ≡ 0) → (j : ℕ) → j < 512 → cleared marks (linked l t last value at left) s j ≡ t s j
+    → ((i : ℕ) → i < 256 → mark-of marks (256 * (s % 64) + i) ≡ 0) → (j : ℕ) → j < 512 → cleared marks (linked l t last value at left) s j ≡ t s j
 unfolding cleared
 unchanged marks l t s last value at left ne up none j less = rw (none (j / 2) (omega arith)) (ap (λ (b : Bytes). b j) (stays l t s last value at left ne up))
 

@@ -5,20 +5,20 @@ use model::Progress;
 ghost use mathlib.Core.Path.{_≡_};
 ghost use mathlib.Core.Bool.{false};
 ghost use Prim.Native.Nat.{ℕ, _+_, _*_, _/_, _%_, _≤_, _<_};
-ghost use lib.ListN.{length, getD, take};
+ghost use lib.ListN.{length, take};
 ghost use Rattle.model.specs.Sector.{card-of};
 ghost use Rattle.model.specs.Fat.{entry, fat1-of, fat2-of, free-clusters, link, write-fat};
 ghost use Rattle.model.specs.Chain.{chain};
 ghost use Rattle.model.specs.Promises.{Held, Ran};
 ghost use Rattle.change.specs.Change.{lead, own-fat, renewal};
 ghost use Rattle.allocate.specs.Allocate.{news, Cursor, Above, Moved};
-ghost use Rattle.release.specs.Release.{cut, cleared, Inside};
+ghost use Rattle.release.specs.Release.{cut, cleared, mark-of, Inside};
 ghost use Rattle.renew.specs.Renew.{renewed, passed};
 
 // Whether sector s may hold `last`, a new cluster or, by the marks, a freed one.
 fn is_changed(marks: &[u8], s: u32, last: u32, at: u32, left: u32) -> bool
-    requires { ⌜ length (now marks) ≡ 16384 ⌝ }
-    ensures { λ r. ⌜ (r ≡ false → (s ≡ last / 256 → ⊥) × (0 < left → s ≡ at / 256 → ⊥) × ((i : ℕ) → i < 256 → getD (now (marks .entry)) (256 * (s % 64) + i) 0 ≡ 0)) ⌝ }
+    requires { ⌜ length (now marks) ≡ 2048 ⌝ }
+    ensures { λ r. ⌜ (r ≡ false → (s ≡ last / 256 → ⊥) × (0 < left → s ≡ at / 256 → ⊥) × ((i : ℕ) → i < 256 → mark-of (now (marks .entry)) (256 * (s % 64) + i) ≡ 0)) ⌝ }
 {
     if allocate::is_changed(s, last, at, left) {
         return true;
@@ -39,7 +39,7 @@ fn renew_sector(
     marks: &[u8],
     limit: u32,
 ) -> Turn
-    requires { ⌜ Held l (now w) × (s < l .fatsize) × (value < 65536) × Cursor l (own-fat l (now w)) at left × Above s at left × (length (now marks) ≡ 16384) ⌝ }
+    requires { ⌜ Held l (now w) × (s < l .fatsize) × (value < 65536) × Cursor l (own-fat l (now w)) at left × Above s at left × (length (now marks) ≡ 2048) ⌝ }
     ensures { λ r. ⌜ Ran limit (renewal (l .fat2 + s) (cleared (now (marks .entry)) (link (news l (own-fat l (now (w .entry))) at left) (lead last value (own-fat l (now (w .entry))))) s) (card-of (now (w .entry)) (l .fat2 + s))) (now (w .entry)) (now (w .exit)) (r .made) (r .whole) × Moved l (own-fat l (now (w .entry))) (s + 1) at left (r .at) (r .left) × Above (s + 1) (r .at) (r .left) ⌝ }
 {
     if !is_changed(marks, s, last, at, left) {
@@ -78,7 +78,7 @@ fn renew_all(
     requires { ⌜ Held l (now w) × (value < 65536) × Cursor l (own-fat l (now w)) first n × Inside l (chain (entry (own-fat l (now w))) m old) ⌝ }
     ensures { λ r. ⌜ Ran limit (write-fat l (l .fat2) (passed l (own-fat l (now (w .entry))) last value first n m old) (fat2-of l (card-of (now (w .entry))))) (now (w .entry)) (now (w .exit)) (r .made) (r .whole) ⌝ }
 {
-    let mut marks = [0u8; 16384];
+    let mut marks = [0u8; 2048];
     let mut made = 0;
     let mut at = first;
     let mut left = n;

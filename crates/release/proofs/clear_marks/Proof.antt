@@ -1,19 +1,18 @@
 use mathlib.Core.Path.{_≡_}
-use Prim.Native.Nat.{ℕ, _-_, _<_, _≤_}
+use Prim.Native.Nat.{ℕ, _-_, _/_, _%_, _<_, _≤_}
 use native.Mathlib.Omega.{arith}
 use lib.ListN.{length, getD, length-set}
 use Rattle.model.proofs.Lists.{copied-more}
+use Rattle.release.proofs.Laws.{bit-zero}
 use borrow.Author.Needs.{needs}
 use Rattle.release.proofs.clear_marks.Statement.{statement}
 use Rattle.release.proofs.clear_marks.Tie as tie
-use Rattle.release.proofs.clear_marks.Reads as reads
-use Rattle.release.proofs.clear_marks.Lts as lts
 
 abbrev Inv-loop : tie.InvT-loop
-Inv-loop marks₀ i₀ marks i = (i ≤ 16384) × (length marks ≡ 16384) × ((m : ℕ) → m < i → getD marks m 0 ≡ 0)
+Inv-loop marks₀ i₀ marks i = (i ≤ 2048) × (length marks ≡ 2048) × ((m : ℕ) → m < i → getD marks m 0 ≡ 0)
 
 abbrev μ-loop : tie.MeasureT-loop
-μ-loop marks₀ i₀ marks i = 16384 - i
+μ-loop marks₀ i₀ marks i = 2048 - i
 
 loop-holds : tie.Need-loop-holds Inv-loop μ-loop
 loop-holds c = search needs
@@ -34,7 +33,7 @@ same-length : tie.Need-same-length Inv-loop μ-loop
 same-length c = search needs
 
 returns : tie.Need-returns Inv-loop μ-loop
-returns c = λ i h. c .before .loop .inv .2 i (omega arith)
+returns c = λ i h. bit-zero _ (i % 8) (c .before .loop .inv .2 (i / 8) (omega arith))
 
 pub clear-marks-spec : {M : Type 1} → statement M
 clear-marks-spec =

@@ -1,20 +1,19 @@
-use mathlib.Core.Path.{_≡_, refl, sym}
-use Prim.Native.Nat.{ℕ, _+_, _-_, _<_, _≤_}
+use mathlib.Core.Path.{_≡_, refl, sym, ap, _∙_}
+use Prim.Native.Nat.{ℕ, _+_, _-_, _/_, _%_, _<_, _≤_}
 use native.Mathlib.Omega.{arith}
 use lib.ListN.{getD}
 use borrow.Author.Count.{below-more}
 use Rattle.model.proofs.Tests.{clash}
+use Rattle.release.proofs.Laws.{bit-zero}
 use borrow.Author.Needs.{needs}
 use Rattle.release.proofs.is_changed.Statement.{statement}
 use Rattle.release.proofs.is_changed.Tie as tie
-use Rattle.release.proofs.is_changed.Reads as reads
-use Rattle.release.proofs.is_changed.Lts as lts
 
 abbrev Inv-loop : tie.InvT-loop
-Inv-loop marks at s kept i₀ i = (i ≤ 256) × ((m : ℕ) → m < i → getD marks (at + m) 0 ≡ 0)
+Inv-loop marks at s kept i₀ i = (i ≤ 32) × ((m : ℕ) → m < i → getD marks (at / 8 + m) 0 ≡ 0)
 
 abbrev μ-loop : tie.MeasureT-loop
-μ-loop marks at s kept i₀ i = 256 - i
+μ-loop marks at s kept i₀ i = 32 - i
 
 returns : tie.Need-returns Inv-loop μ-loop
 returns c = λ e. clash refl e
@@ -41,7 +40,10 @@ loop-again : tie.Need-loop-again Inv-loop μ-loop
 loop-again c = (search needs, below-more _ _ (c .before .before .before .loop .inv .1) (c .if2 .left))
 
 returns-3 : tie.Need-returns-3 Inv-loop μ-loop
-returns-3 c = λ e. (λ q. c .before .before .if1 .left (sym q), λ i h. c .before .loop .inv .1 i (omega arith))
+returns-3 c = λ e. (λ q. c .before .before .if1 .left (sym q), λ i h.
+      let a = c .before .before .before .args in
+      let z : (a .at + i) / 8 ≡ a .at / 8 + i / 8 = omega arith in
+      bit-zero _ ((a .at + i) % 8) (ap (λ (y : ℕ). getD (a .marks .now) y 0) z ∙ c .before .loop .inv .1 (i / 8) (omega arith)))
 
 pub is-changed-spec : {M : Type 1} → statement M
 is-changed-spec =

@@ -19,7 +19,7 @@ use Rattle.release.proofs.clear_marks.Reads as clear-marks-reads
 use Rattle.release.proofs.mark.Reads as mark-reads
 
 abbrev Inv-loop : tie.InvT-loop
-Inv-loop w l marks₀ s first m from k₀ n₀ marks k n = (length marks ≡ 16384) × Inside l (chain (entry (own-fat l w)) n k) × Marking (entry (own-fat l w)) from first m marks k n
+Inv-loop w l marks₀ s first m from k₀ n₀ marks k n = (length marks ≡ 2048) × Inside l (chain (entry (own-fat l w)) n k) × Marking (entry (own-fat l w)) from first m marks k n
 
 abbrev μ-loop : tie.MeasureT-loop
 μ-loop w l marks₀ s first m from k₀ n₀ marks k n = n

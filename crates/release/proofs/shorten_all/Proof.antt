@@ -22,7 +22,7 @@ use Rattle.release.proofs.mark_block.Reads as mark-block-reads
 use Rattle.release.proofs.shorten_sector.Reads as shorten-sector-reads
 
 abbrev Inv-loop : tie.InvT-loop
-Inv-loop w₀ l kept first m limit marks₀ made₀ s₀ w marks made s = (s ≤ l .fatsize) × (length w ≡ length w₀) × (length marks ≡ 16384) × Ran limit (up-to (renewals l (freed (own-fat l w₀) kept first m) (fat2-of l (card-of w₀))) s) w₀ w made true × ((s % 64 ≡ 0 → ⊥) → Marked (chain (entry (own-fat l w₀)) m first) (16384 * (s / 64)) marks)
+Inv-loop w₀ l kept first m limit marks₀ made₀ s₀ w marks made s = (s ≤ l .fatsize) × (length w ≡ length w₀) × (length marks ≡ 2048) × Ran limit (up-to (renewals l (freed (own-fat l w₀) kept first m) (fat2-of l (card-of w₀))) s) w₀ w made true × ((s % 64 ≡ 0 → ⊥) → Marked (chain (entry (own-fat l w₀)) m first) (16384 * (s / 64)) marks)
 
 abbrev μ-loop : tie.MeasureT-loop
 μ-loop w₀ l kept first m limit marks₀ made₀ s₀ w marks made s = l .fatsize - s

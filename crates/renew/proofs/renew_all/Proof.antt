@@ -22,7 +22,7 @@ use Rattle.renew.proofs.renew_all.Statement.{statement}
 use Rattle.renew.proofs.renew_all.Tie as tie
 
 abbrev Inv-loop : tie.InvT-loop
-Inv-loop w₀ l last value first n old m limit marks₀ made₀ at₀ left₀ s₀ w marks made at left s = (s ≤ l .fatsize) × (length w ≡ length w₀) × (length marks ≡ 16384) × Ran limit (up-to (renewals l (passed l (own-fat l w₀) last value first n m old) (fat2-of l (card-of w₀))) s) w₀ w made true × ((s % 64 ≡ 0 → ⊥) → Marked (chain (entry (own-fat l w₀)) m old) (16384 * (s / 64)) marks) × Moved l (own-fat l w₀) s first n at left × Above s at left
+Inv-loop w₀ l last value first n old m limit marks₀ made₀ at₀ left₀ s₀ w marks made at left s = (s ≤ l .fatsize) × (length w ≡ length w₀) × (length marks ≡ 2048) × Ran limit (up-to (renewals l (passed l (own-fat l w₀) last value first n m old) (fat2-of l (card-of w₀))) s) w₀ w made true × ((s % 64 ≡ 0 → ⊥) → Marked (chain (entry (own-fat l w₀)) m old) (16384 * (s / 64)) marks) × Moved l (own-fat l w₀) s first n at left × Above s at left
 
 abbrev μ-loop : tie.MeasureT-loop
 μ-loop w₀ l last value first n old m limit marks₀ made₀ at₀ left₀ s₀ w marks made at left s = l .fatsize - s
