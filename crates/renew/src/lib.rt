@@ -97,8 +97,9 @@ fn renew_all(
     Progress { made, whole: true }
 }
 
-// Nothing is new: the m clusters from `old` on are freed.
-fn cut_fat(w: &mut [u8], l: Layout, last: u32, old: u32, m: u32, limit: u32) -> Progress
+// Step 2 of a truncate or a delete, where nothing is new: the sectors of FAT2 that change when the m clusters from `old` on are
+// freed; the last one kept is `last`, 0 if there is none.
+pub fn shorten_fat(w: &mut [u8], l: Layout, last: u32, old: u32, m: u32, limit: u32) -> Progress
     requires { ⌜ Held l (now w) × Inside l (chain (entry (fat1-of l (card-of (now w)))) m old) ⌝ }
     ensures { λ r. ⌜ Ran limit (write-fat l (l .fat2) (cut (fat1-of l (card-of (now (w .entry)))) last old m) (fat2-of l (card-of (now (w .entry))))) (now (w .entry)) (now (w .exit)) (r .made) (r .whole) ⌝ }
 {
@@ -108,14 +109,14 @@ fn cut_fat(w: &mut [u8], l: Layout, last: u32, old: u32, m: u32, limit: u32) -> 
     renew_all(w, l, last, 0xFFFF, 0, 0, old, m, limit)
 }
 
-// Step 2 of every change of a file's clusters: the sectors of FAT2 that change when the n lowest free clusters are linked after
+// Step 2 of any change of a file's clusters: the sectors of FAT2 that change when the n lowest free clusters are linked after
 // `last`, the last one kept (0 if there is none), and the m clusters from `old` on are freed.
 pub fn renew_fat(w: &mut [u8], l: Layout, last: u32, n: u32, old: u32, m: u32, limit: u32) -> Progress
     requires { ⌜ Held l (now w) × (n ≤ length (free-clusters l (fat1-of l (card-of (now w))))) × Inside l (chain (entry (fat1-of l (card-of (now w)))) m old) ⌝ }
     ensures { λ r. ⌜ Ran limit (write-fat l (l .fat2) (renewed last (take n (free-clusters l (fat1-of l (card-of (now (w .entry)))))) (chain (entry (fat1-of l (card-of (now (w .entry))))) m old) (fat1-of l (card-of (now (w .entry))))) (fat2-of l (card-of (now (w .entry))))) (now (w .entry)) (now (w .exit)) (r .made) (r .whole) ⌝ }
 {
     if n == 0 {
-        return cut_fat(w, l, last, old, m, limit);
+        return shorten_fat(w, l, last, old, m, limit);
     }
     let first = fat::find_entry(w, l.fat1, 2, l.clusters, 0);
     renew_all(w, l, last, first, first, n, old, m, limit)

@@ -41,7 +41,7 @@ fn shorten(w: &mut [u8], v: Volume, c: Cut, o: Operation, limit: u32) -> Progres
     ensures { λ r. ⌜ Ran limit (stores (operate v (card-of (now (w .entry))) [] (cut (old-fat v (card-of (now (w .entry)))) (c .kept) (c .from) (c .freed)) o)) (now (w .entry)) (now (w .exit)) (r .made) (r .whole) ⌝ }
 {
     let l = v.layout;
-    let p = release::shorten_fat(w, l, c.kept, c.from, c.freed, limit);
+    let p = renew::shorten_fat(w, l, c.kept, c.from, c.freed, limit);
     let m = p.made;
     if !p.whole {
         return Progress {

@@ -14,8 +14,8 @@ use borrow.Author.Needs.{needs}
 use Rattle.renew.proofs.renew_fat.Statement.{statement}
 use Rattle.renew.proofs.renew_fat.Tie as tie
 
-cut-fat-requires : tie.Need-cut-fat-requires
-cut-fat-requires c κs = search needs
+shorten-fat-requires : tie.Need-shorten-fat-requires
+shorten-fat-requires c κs = search needs
 
 same-length : tie.Need-same-length
 same-length c = search needs
@@ -24,7 +24,7 @@ returns : tie.Need-returns
 returns c = 
     let a = c .before .before .before .before .before .before .args in
     let t = fat1-of (a .l) (card-of (a .w .now)) in
-    rw (c .before .before .before .before .if1 .taken, renewed-cut (free-clusters (a .l) t) t (a .last) (a .old) (a .m)) (c .before .before .cut-fat .ensures)
+    rw (c .before .before .before .before .if1 .taken, renewed-cut (free-clusters (a .l) t) t (a .last) (a .old) (a .m)) (c .before .before .shorten-fat .ensures)
 
 find-entry-requires : tie.Need-find-entry-requires
 find-entry-requires c κs = search needs
@@ -57,7 +57,7 @@ pub renew-fat-spec : {M : Type 1} → statement M
 renew-fat-spec =
     tie.close
     (tie.spec
-    cut-fat-requires
+    shorten-fat-requires
     same-length
     returns
     find-entry-requires

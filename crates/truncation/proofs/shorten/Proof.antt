@@ -9,7 +9,7 @@ use Rattle.truncation.proofs.shorten.Tie as tie
 use Rattle.truncation.proofs.shorten.Reads as reads
 use Rattle.truncation.proofs.shorten.Lts as lts
 use Rattle.operate.proofs.log_steps.Reads as log-steps-reads
-use Rattle.release.proofs.shorten_fat.Reads as shorten-fat-reads
+use Rattle.renew.proofs.shorten_fat.Reads as shorten-fat-reads
 
 shorten-fat-requires : tie.Need-shorten-fat-requires
 shorten-fat-requires c κs = search needs

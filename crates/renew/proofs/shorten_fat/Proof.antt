@@ -10,8 +10,8 @@ use Rattle.release.proofs.Laws.{own-chain}
 use Rattle.renew.specs.Renew.{passed}
 use Rattle.renew.proofs.Laws.{passed-none, passed-cut}
 use borrow.Author.Needs.{needs}
-use Rattle.renew.proofs.cut_fat.Statement.{statement}
-use Rattle.renew.proofs.cut_fat.Tie as tie
+use Rattle.renew.proofs.shorten_fat.Statement.{statement}
+use Rattle.renew.proofs.shorten_fat.Tie as tie
 
 renew-all-requires : tie.Need-renew-all-requires
 unfolding chain
@@ -43,7 +43,7 @@ returns-2 c =
     (λ s j h b. passed-cut (a .l) x (c .before .before .before .before .before .before .pre .0 .fits .shape) (a .last) (a .old) (a .m) (c .before .before .before .before .before .before .pre .1) s j (omega arith) h))
     (c .before .before .renew-all2 .ensures)
 
-pub cut-fat-spec : {M : Type 1} → statement M
-cut-fat-spec =
+pub shorten-fat-spec : {M : Type 1} → statement M
+shorten-fat-spec =
     tie.close
     (tie.spec renew-all-requires same-length returns renew-all-requires-2 same-length-2 returns-2)
