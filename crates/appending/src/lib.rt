@@ -46,7 +46,7 @@ fn store_chain(
             whole: false,
         };
     }
-    let q = allocate::extend_fat(w, l, last, n, limit - m);
+    let q = renew::extend_fat(w, l, last, n, limit - m);
     Progress {
         made: m + q.made,
         whole: q.whole,

@@ -95,6 +95,12 @@ pub renewed-grown : (l : Layout) (t : Fat) (last n : ℕ) (freed : List ℕ) →
 unfolding grown
 renewed-grown l t last n freed pos h = rw (ne-eqb n 0 (λ e. omega arith)) (taken t last n (free-clusters l t) freed pos h)
 
+-- Nothing is freed.
+pub renewed-append : (l : Layout) (t : Fat) (last n old : ℕ) → n ≤ length (free-clusters l t) → renewed last (take n (free-clusters l t)) (chain (entry t) 0 old) t ≡ grown l t last n
+unfolding renewed grown chain release
+renewed-append l t last zero old h = refl
+renewed-append l t last (suc n) old h = renewed-grown l t last (suc n) [] (omega arith) h
+
 module _ (l : Layout) (c : Card) where
   pub passed-none : (last old s j : ℕ) → s < l .fatsize → cut (fat1-of l c) last old 0 s j ≡ passed l (sectors-of l c) 0 0 0 0 0 0 s j
   unfolding news link lead

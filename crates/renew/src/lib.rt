@@ -11,7 +11,7 @@ ghost use Rattle.model.specs.Fat.{entry, fat1-of, fat2-of, free-clusters, link,
 ghost use Rattle.model.specs.Chain.{chain};
 ghost use Rattle.model.specs.Promises.{Held, Ran};
 ghost use Rattle.change.specs.Change.{lead, own-fat, renewal};
-ghost use Rattle.allocate.specs.Allocate.{news, Cursor, Above, Moved};
+ghost use Rattle.allocate.specs.Allocate.{grown, news, Cursor, Above, Moved};
 ghost use Rattle.release.specs.Release.{cut, cleared, mark-of, Inside};
 ghost use Rattle.renew.specs.Renew.{renewed, passed};
 
@@ -120,4 +120,13 @@ pub fn renew_fat(w: &mut [u8], l: Layout, last: u32, n: u32, old: u32, m: u32, l
     }
     let first = fat::find_entry(w, l.fat1, 2, l.clusters, 0);
     renew_all(w, l, last, first, first, n, old, m, limit)
+}
+
+// Step 2 of an append, where nothing is freed: the sectors of FAT2 that change when the n lowest free clusters are linked after
+// `last`, 0 if the file has no cluster.
+pub fn extend_fat(w: &mut [u8], l: Layout, last: u32, n: u32, limit: u32) -> Progress
+    requires { ⌜ Held l (now w) × (n ≤ length (free-clusters l (fat1-of l (card-of (now w))))) ⌝ }
+    ensures { λ r. ⌜ Ran limit (write-fat l (l .fat2) (grown l (fat1-of l (card-of (now (w .entry)))) last n) (fat2-of l (card-of (now (w .entry))))) (now (w .entry)) (now (w .exit)) (r .made) (r .whole) ⌝ }
+{
+    renew_fat(w, l, last, n, 0, 0, limit)
 }

@@ -6,7 +6,7 @@ use Rattle.appending.proofs.store_chain.Statement.{statement}
 use Rattle.appending.proofs.store_chain.Tie as tie
 use Rattle.appending.proofs.store_chain.Reads as reads
 use Rattle.appending.proofs.store_chain.Lts as lts
-use Rattle.allocate.proofs.extend_fat.Reads as extend-fat-reads
+use Rattle.renew.proofs.extend_fat.Reads as extend-fat-reads
 use Rattle.extent.proofs.append_data.Reads as append-data-reads
 
 append-data-requires : tie.Need-append-data-requires

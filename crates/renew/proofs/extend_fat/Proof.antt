@@ -1,0 +1,22 @@
+use Rattle.model.specs.Sector.{card-of}
+use Rattle.model.specs.Fat.{fat1-of}
+use Rattle.model.specs.Chain.{chain}
+use Rattle.renew.proofs.Laws.{renewed-append}
+use borrow.Author.Needs.{needs}
+use Rattle.renew.proofs.extend_fat.Statement.{statement}
+use Rattle.renew.proofs.extend_fat.Tie as tie
+
+renew-fat-requires : tie.Need-renew-fat-requires
+unfolding chain
+renew-fat-requires c κs = (search needs, search needs, tt)
+
+same-length : tie.Need-same-length
+same-length c = search needs
+
+returns : tie.Need-returns
+returns c = 
+    let a = c .before .before .before .before .before .args in
+    rw (← renewed-append (a .l) (fat1-of (a .l) (card-of (a .w .now))) (a .last) (a .n) 0 (c .before .before .before .before .before .pre .1)) (c .before .before .renew-fat .ensures)
+
+pub extend-fat-spec : {M : Type 1} → statement M
+extend-fat-spec = tie.close (tie.spec renew-fat-requires same-length returns)
