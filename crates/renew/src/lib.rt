@@ -111,7 +111,15 @@ pub fn shorten_fat(w: &mut [u8], l: Layout, last: u32, old: u32, m: u32, limit: 
 
 // Step 2 of any change of a file's clusters: the sectors of FAT2 that change when the n lowest free clusters are linked after
 // `last`, the last one kept (0 if there is none), and the m clusters from `old` on are freed.
-pub fn renew_fat(w: &mut [u8], l: Layout, last: u32, n: u32, old: u32, m: u32, limit: u32) -> Progress
+pub fn renew_fat(
+    w: &mut [u8],
+    l: Layout,
+    last: u32,
+    n: u32,
+    old: u32,
+    m: u32,
+    limit: u32,
+) -> Progress
     requires { ⌜ Held l (now w) × (n ≤ length (free-clusters l (fat1-of l (card-of (now w))))) × Inside l (chain (entry (fat1-of l (card-of (now w)))) m old) ⌝ }
     ensures { λ r. ⌜ Ran limit (write-fat l (l .fat2) (renewed last (take n (free-clusters l (fat1-of l (card-of (now (w .entry)))))) (chain (entry (fat1-of l (card-of (now (w .entry))))) m old) (fat1-of l (card-of (now (w .entry))))) (fat2-of l (card-of (now (w .entry))))) (now (w .entry)) (now (w .exit)) (r .made) (r .whole) ⌝ }
 {

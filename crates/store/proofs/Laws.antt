@@ -80,7 +80,7 @@ module _ (xs ys : List ℕ) (s : ℕ) (fits : 512 * s + 512 ≤ length xs) (one 
   pub back-same : card-of ys ≡ card-of lent → card-of back ≡ card-of xs
   back-same e = stored (card-of xs s) (ap (λ c. c 0) e ∙ lent-sector ∙ sym (clip-clip (λ j. getD xs (512 * s + j) 0)))
       ∙ fun-ext (λ t. put-case (λ (b : Bytes). b ≡ card-of xs t) (card-of xs) (store s (card-of xs s)) t
-          (λ h. clip-clip (card-of xs s) ∙ clip-clip (λ j. getD xs (512 * s + j) 0) ∙ ap (card-of xs) (sym h)) (λ _. refl))
+      (λ h. clip-clip (card-of xs s) ∙ clip-clip (λ j. getD xs (512 * s + j) 0) ∙ ap (card-of xs) (sym h)) (λ _. refl))
 
   -- With other bytes.
   pub back-put : (b : Bytes) → card-of ys ≡ put (card-of lent) (store 0 b) → card-of back ≡ put (card-of xs) (store s b)

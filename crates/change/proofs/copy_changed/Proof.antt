@@ -53,7 +53,7 @@ same-length-2 : tie.Need-same-length-2
 same-length-2 c = search needs
 
 returns-2 : tie.Need-returns-2
-returns-2 c = 
+returns-2 c =
     let k : 512 * c .before .before .before .before .before .index .result + 512 - 512 * c .before .before .before .before .before .index .result ≡ 512 = omega arith in
     rw (k, c .before .before .before .before .before .index .ensures, sym (renewal-same (c .before .before .before .before .before .before .before .before .before .before .before .before .args .to) (bytes-of (c .before .before .before .before .before .before .load .result)) (card-of (c .before .before .before .before .before .before .before .before .before .before .before .before .args .w .now) (c .before .before .before .before .before .before .before .before .before .before .before .before .args .from)) (card-of (c .before .before .before .before .before .before .before .before .before .before .before .before .args .w .now) (c .before .before .before .before .before .before .before .before .before .before .before .before .args .to)) (loaded (c .before .before .before .before .before .before .load .result) (c .before .before .before .before .before .before .before .before .before .before .before .before .args .w .now) (c .before .before .before .before .before .before .before .before .before .before .before .before .args .from) (c .before .before .before .before .before .before .load .ensures))))
     (renewed (c .before .before .before .before .before .before .before .before .before .before .before .before .args .w .now) (c .before .before .copy-sector .last .0) (c .before .before .before .before .before .before .before .before .before .before .before .before .args .to) (omega arith) (omega arith) (c .before .before .before .before .before .before .before .before .before .before .before .before .args .limit) _ _ (bytes-of (c .before .before .before .before .before .before .load .result)) (rw (k, c .before .before .before .before .before .index .ensures) at (c .before .before .copy-sector .ensures)))

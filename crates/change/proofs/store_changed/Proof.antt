@@ -36,7 +36,7 @@ same-length : tie.Need-same-length
 same-length c = search needs
 
 returns : tie.Need-returns
-returns c = 
+returns c =
     let k : 512 * c .before .before .before .before .index .result + 512 - 512 * c .before .before .before .before .index .result ≡ 512 = omega arith in
     rw (k, c .before .before .before .before .index .ensures)
     (renewed (c .before .before .before .before .before .before .args .w .now) (c .before .before .copy-sector .last .0) (c .before .before .before .before .before .before .args .s) (omega arith) (omega arith) (c .before .before .before .before .before .before .args .limit) _ _ (bytes-of (c .before .before .before .before .before .before .args .buf .now)) (rw (k, c .before .before .before .before .index .ensures) at (c .before .before .copy-sector .ensures)))

@@ -53,7 +53,7 @@ loop-less : tie.Need-loop-less Inv-loop μ-loop
 loop-less c = search needs
 
 loop-again : tie.Need-loop-again Inv-loop μ-loop
-loop-again c = 
+loop-again c =
     let a = c .before .before .before .before .before .before .before .args in
     let p = holds (a .v) (fat-at (card-of (a .w .now)) (a .fat)) in
     let i = c .before .before .before .loop .i in
@@ -67,7 +67,7 @@ loop-again c =
     )
 
 returns : tie.Need-returns Inv-loop μ-loop
-returns c = 
+returns c =
     λ z. let a = c .before .before .before .before .before .args in
     let p = holds (a .v) (fat-at (card-of (a .w .now)) (a .fat)) in
     let e : c .before .loop .i ≡ 256 = omega arith in

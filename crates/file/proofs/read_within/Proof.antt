@@ -34,7 +34,7 @@ least-requires : tie.Need-least-requires Inv-loop μ-loop
 least-requires c κs = search needs
 
 loop-holds : tie.Need-loop-holds Inv-loop μ-loop
-loop-holds c = 
+loop-holds c =
     let a = c .before .before .before .before .args in
     let e = entry (fat1-of (a .l) (card-of (a .w .now))) in
     let z : 0 < needed (a .l) (a .f .size) = omega (arith, in-needed (a .l) (c .before .before .before .before .pre .0 .fits .shape .factor-low) (a .f .size) (a .offset) (c .before .before .before .before .pre .2)) in (
@@ -59,7 +59,7 @@ follow-requires : tie.Need-follow-requires Inv-loop μ-loop
 follow-requires c κs = search needs
 
 sector-in-requires : tie.Need-sector-in-requires Inv-loop μ-loop
-sector-in-requires c κs = 
+sector-in-requires c κs =
     let a = c .before .before .before .before .before .before .before .before .before .args in
     let e = entry (fat1-of (a .l) (card-of (a .w .now))) in
     let at : ℕ = a .offset + c .before .before .before .before .loop .done in
@@ -75,7 +75,7 @@ loop-less : tie.Need-loop-less Inv-loop μ-loop
 loop-less c = omega (arith, c .before .before .read-sector .ensures .reached)
 
 loop-again : tie.Need-loop-again Inv-loop μ-loop
-loop-again c = 
+loop-again c =
     let a = c .before .before .before .before .before .before .before .before .before .before .before .before .before .args in
     let d = card-of (a .w .now) in
     let e = entry (fat1-of (a .l) d) in
@@ -94,7 +94,7 @@ same-length : tie.Need-same-length Inv-loop μ-loop
 same-length c = search needs
 
 returns : tie.Need-returns Inv-loop μ-loop
-returns c = 
+returns c =
     let a = c .before .before .before .before .before .before .args in
     read-all (a .l) (card-of (a .w .now)) (a .f) (a .offset) _ (a .buffer .now) (c .before .before .before .before .before .before .pre .0 .fits .shape .factor-low) (c .before .loop .buffer) (c .before .before .least .result) (c .before .loop .done) (c .before .before .least .ensures) (omega arith) (c .before .loop .inv .5)
 

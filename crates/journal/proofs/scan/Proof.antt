@@ -46,7 +46,7 @@ loop-less : tie.Need-loop-less Inv-loop μ-loop Inv-log μ-log
 loop-less c = search needs
 
 loop-again : tie.Need-loop-again Inv-loop μ-loop Inv-log μ-log
-loop-again c = 
+loop-again c =
     let g = card-of (c .before .before .before .before .before .before .before .before .args .log .now) in (
       search needs,
       λ m x y. sofar-more (pending-at g) false 0 (16 * c .before .before .before .before .before .log .s + c .before .before .before .loop .r) (c .before .before .before .loop .inv .1)

@@ -42,7 +42,7 @@ loop-less : tie.Need-loop-less Inv-loop μ-loop
 loop-less c = search needs
 
 loop-again : tie.Need-loop-again Inv-loop μ-loop
-loop-again c = 
+loop-again c =
     let a = c .before .before .before .before .before .before .before .args in
     let o = c .before .before .before .before .loop in
     let e : c .unless-marked .result ≡ pick (eqb (mark-of (a .marks .now) (a .at + o .j / 2)) 0) (getD (a .buf .now) (o .j) 0) 0 =

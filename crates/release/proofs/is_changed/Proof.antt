@@ -40,10 +40,13 @@ loop-again : tie.Need-loop-again Inv-loop μ-loop
 loop-again c = (search needs, below-more _ _ (c .before .before .before .loop .inv .1) (c .if2 .left))
 
 returns-3 : tie.Need-returns-3 Inv-loop μ-loop
-returns-3 c = λ e. (λ q. c .before .before .if1 .left (sym q), λ i h.
+returns-3 c = λ e. (
+  λ q. c .before .before .if1 .left (sym q),
+  λ i h.
       let a = c .before .before .before .args in
       let z : (a .at + i) / 8 ≡ a .at / 8 + i / 8 = omega arith in
-      bit-zero _ ((a .at + i) % 8) (ap (λ (y : ℕ). getD (a .marks .now) y 0) z ∙ c .before .loop .inv .1 (i / 8) (omega arith)))
+      bit-zero _ ((a .at + i) % 8) (ap (λ (y : ℕ). getD (a .marks .now) y 0) z ∙ c .before .loop .inv .1 (i / 8) (omega arith)),
+)
 
 pub is-changed-spec : {M : Type 1} → statement M
 is-changed-spec =

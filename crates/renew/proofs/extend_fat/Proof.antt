@@ -14,7 +14,7 @@ same-length : tie.Need-same-length
 same-length c = search needs
 
 returns : tie.Need-returns
-returns c = 
+returns c =
     let a = c .before .before .before .before .before .args in
     rw (← renewed-append (a .l) (fat1-of (a .l) (card-of (a .w .now))) (a .last) (a .n) 0 (c .before .before .before .before .before .pre .1)) (c .before .before .renew-fat .ensures)
 

@@ -34,7 +34,7 @@ slice-aggregate-mark-block : tie.Need-slice-aggregate-mark-block Inv-loop μ-loo
 slice-aggregate-mark-block c = search needs
 
 mark-block-requires : tie.Need-mark-block-requires Inv-loop μ-loop
-mark-block-requires c κs = 
+mark-block-requires c κs =
     let a = c .before .before .before .before .before .before .args in
     let o = c .before .before .before .before .loop in
     let same = fat-same (a .l) (c .before .before .before .before .before .before .pre .0 .fits .shape) (a .last) (a .value) (a .first) (a .n) (a .m) (a .old) (a .limit) (a .w .now) (o .w) (o .s) (o .made) (o .inv .3) in
@@ -47,7 +47,7 @@ sub-renew-sector : tie.Need-sub-renew-sector Inv-loop μ-loop
 sub-renew-sector c = search needs
 
 renew-sector-requires : tie.Need-renew-sector-requires Inv-loop μ-loop
-renew-sector-requires c κs = 
+renew-sector-requires c κs =
     let a = c .before .before .before .before .before .before .before .before .before .before .args in
     let o = c .before .before .before .before .before .before .before .before .loop in
     let same = fat-same (a .l) (c .before .before .before .before .before .before .before .before .before .before .pre .0 .fits .shape) (a .last) (a .value) (a .first) (a .n) (a .m) (a .old) (a .limit) (a .w .now) (o .w) (o .s) (o .made) (o .inv .3) in
@@ -60,7 +60,7 @@ same-length : tie.Need-same-length Inv-loop μ-loop
 same-length c = search needs
 
 returns : tie.Need-returns Inv-loop μ-loop
-returns c = 
+returns c =
     let a = c .before .before .before .before .before .before .before .before .before .before .before .before .before .before .before .before .args in
     let o = c .before .before .before .before .before .before .before .before .before .before .before .before .before .before .loop in
     let t = turn-same (a .l) (c .before .before .before .before .before .before .before .before .before .before .before .before .before .before .before .before .pre .0 .fits .shape) (a .last) (a .value) (a .first) (a .n) (a .m) (a .old) (a .limit) (a .w .now) (o .w) (o .s) (o .made) (o .inv .3) (c .before .before .before .before .before .before .before .before .before .mark-block .last .1 .1 .0) (c .before .before .before .before .before .before .before .before .before .mark-block .ensures) (o .at) (o .left) (o .inv .5) in
@@ -75,7 +75,7 @@ loop-less : tie.Need-loop-less Inv-loop μ-loop
 loop-less c = search needs
 
 loop-again : tie.Need-loop-again Inv-loop μ-loop
-loop-again c = 
+loop-again c =
     let a = c .before .before .before .before .before .before .before .before .before .before .before .before .before .before .before .before .args in
     let o = c .before .before .before .before .before .before .before .before .before .before .before .before .before .before .loop in
     let same = fat-same (a .l) (c .before .before .before .before .before .before .before .before .before .before .before .before .before .before .before .before .pre .0 .fits .shape) (a .last) (a .value) (a .first) (a .n) (a .m) (a .old) (a .limit) (a .w .now) (o .w) (o .s) (o .made) (o .inv .3) in
@@ -94,7 +94,7 @@ same-length-2 : tie.Need-same-length-2 Inv-loop μ-loop
 same-length-2 c = search needs
 
 returns-2 : tie.Need-returns-2 Inv-loop μ-loop
-returns-2 c = 
+returns-2 c =
     let a = c .before .before .before .before .args in
     let end : c .before .before .loop .s ≡ a .l .fatsize = omega arith in
     rw (← write-turns (a .l) (passed (a .l) (own-fat (a .l) (a .w .now)) (a .last) (a .value) (a .first) (a .n) (a .m) (a .old)) (fat2-of (a .l) (card-of (a .w .now))))

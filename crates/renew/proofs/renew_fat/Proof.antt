@@ -21,7 +21,7 @@ same-length : tie.Need-same-length
 same-length c = search needs
 
 returns : tie.Need-returns
-returns c = 
+returns c =
     let a = c .before .before .before .before .before .before .args in
     let t = fat1-of (a .l) (card-of (a .w .now)) in
     rw (c .before .before .before .before .if1 .taken, renewed-cut (free-clusters (a .l) t) t (a .last) (a .old) (a .m)) (c .before .before .shorten-fat .ensures)
@@ -30,7 +30,7 @@ find-entry-requires : tie.Need-find-entry-requires
 find-entry-requires c κs = search needs
 
 renew-all-requires : tie.Need-renew-all-requires
-renew-all-requires c κs = 
+renew-all-requires c κs =
     let a = c .before .before .before .before .before .args in
     let x = card-of (a .w .now) in (
       search needs,
@@ -43,7 +43,7 @@ same-length-2 : tie.Need-same-length-2
 same-length-2 c = search needs
 
 returns-2 : tie.Need-returns-2
-returns-2 c = 
+returns-2 c =
     let a = c .before .before .before .before .before .before .before .before .args in
     let x = card-of (a .w .now) in
     let t = fat1-of (a .l) x in

@@ -21,14 +21,14 @@ same-length : tie.Need-same-length
 same-length c = search needs
 
 returns : tie.Need-returns
-returns c = 
+returns c =
     let a = c .before .before .before .before .before .before .args in
     let x = card-of (a .w .now) in
     rw (c .before .before .before .before .if1 .taken, write-same (a .l) (cut (fat1-of (a .l) x) (a .last) (a .old) 0) (passed (a .l) (own-fat (a .l) (a .w .now)) 0 0 0 0 0 0) (fat2-of (a .l) x) (λ s j h b. passed-none (a .l) x (a .last) (a .old) s j h))
     (c .before .before .renew-all .ensures)
 
 renew-all-requires-2 : tie.Need-renew-all-requires-2
-renew-all-requires-2 c κs = 
+renew-all-requires-2 c κs =
     let a = c .before .before .before .args in
     (search needs, search needs, no-cursor _ _, rw (own-chain (a .l) (card-of (a .w .now)) (c .before .before .before .pre .0 .fits .shape) (a .m) (a .old) (c .before .before .before .pre .1)) (c .before .before .before .pre .1))
 
@@ -36,7 +36,7 @@ same-length-2 : tie.Need-same-length-2
 same-length-2 c = search needs
 
 returns-2 : tie.Need-returns-2
-returns-2 c = 
+returns-2 c =
     let a = c .before .before .before .before .before .before .args in
     let x = card-of (a .w .now) in
     rw (write-same (a .l) (cut (fat1-of (a .l) x) (a .last) (a .old) (a .m)) (passed (a .l) (own-fat (a .l) (a .w .now)) (a .last) end-value 0 0 (a .m) (a .old)) (fat2-of (a .l) x)

@@ -47,7 +47,7 @@ same-length : tie.Need-same-length Inv-loop μ-loop
 same-length c = search needs
 
 returns-2 : tie.Need-returns-2 Inv-loop μ-loop
-returns-2 c = 
+returns-2 c =
     ran-one (store 0 (bytes-of (c .before .before .before .args .buf .now))) (c .before .before .before .args .part .now) (c .before .loop .part) (c .before .before .before .args .limit) (omega arith)
     (lent-put (c .before .before .before .args .part .now) (c .before .loop .part) (omega arith) (omega arith)
     ∙ ap (put (card-of (c .before .before .before .args .part .now))) (store-same 0 (bytes-of (c .before .loop .part)) (bytes-of (c .before .before .before .args .buf .now)) (λ j h. c .before .loop .inv .2 j (omega arith))))

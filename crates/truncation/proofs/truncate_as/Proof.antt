@@ -38,7 +38,7 @@ same-length : tie.Need-same-length
 same-length c = search needs
 
 returns-3 : tie.Need-returns-3
-returns-3 c = 
+returns-3 c =
     let a = c .before .before .before .before .before .before .before .before .before .args in
     rw (as-shorter (card-of (a .w .now)) (a .v) (a .f) (a .size) (omega arith), c .ended .ensures)
     (did-ran (a .limit) (truncate-stores (a .v) (card-of (a .w .now)) (a .f) (a .size)) (a .w .now) _ _ _ (c .before .before .before .truncate-file .ensures))
