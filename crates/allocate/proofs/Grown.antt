@@ -38,10 +38,6 @@ module _ (l : Layout) (c : Card) where
   pub own-first : (k n : ℕ) → k + n ≤ 256 * l .fatsize → first-from (holds 0 (fat1-of l c)) k n ≡ first-from (holds 0 (sectors-of l c)) k n
   own-first k n h = first-same (holds 0 (fat1-of l c)) (holds 0 (sectors-of l c)) k n (λ i lo hi. ap (λ (v : ℕ). eqb v 0) (sym (own-entry l c i (omega arith))))
 
-  pub grown-none : (last s j : ℕ) → s < l .fatsize → grown l (fat1-of l c) last 0 s j ≡ linked l (sectors-of l c) 0 0 0 0 s j
-  unfolding grown news link lead
-  grown-none last s j h = ap (λ (b : Bytes). b j) (sym (own-sector l c s h))
-
   module _ (sh : Shape l) (n first : ℕ) (enough : n ≤ length (free-clusters l (fat1-of l c))) (is : first ≡ first-from (holds 0 (sectors-of l c)) 2 (l .clusters)) where
     own-free : free-clusters l (fat1-of l c) ≡ free-from l (sectors-of l c) first
     unfolding free-clusters free-from

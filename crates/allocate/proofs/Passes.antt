@@ -6,13 +6,11 @@ use mathlib.Core.Bool.{true}
 use mathlib.Core.List.{List}
 use lib.ListN.{length, getD}
 use Rattle.model.specs.Bytes.{Bytes, bytes-of, patch}
-use Rattle.model.specs.Sector.{card-of}
-use Rattle.model.specs.Fat.{Fat, fat2-of, set-entry, link}
-use Rattle.model.specs.Promises.{Ran, up-to, Shape}
+use Rattle.model.specs.Fat.{Fat, set-entry, link}
 use Rattle.model.specs.declared.Layout.{Layout}
 use Rattle.model.proofs.Entries.{set-here, set-away, link-local, link-away}
-use Rattle.change.specs.Change.{lead, renewal, own-fat}
-use Rattle.change.proofs.Laws.{lead-away, renewals, next-kept, fat-kept}
+use Rattle.change.specs.Change.{lead}
+use Rattle.change.proofs.Laws.{lead-away}
 use Rattle.allocate.specs.Allocate.{news, following, Cursor, Above, Moved}
 use Rattle.allocate.proofs.News.{news-away, next-cursor, next-later, link-news, link-sector}
 
@@ -72,17 +70,3 @@ unchanged l t s last first at left ne up = link-away (news l t at left) (lead la
 
 pub moved-then : (l : Layout) (t : Fat) (s first n at left k m : ℕ) → Moved l t s first n at left → Moved l t (s + 1) at left k m → Moved l t (s + 1) first n k m
 moved-then l t s first n at left k m a b = record { cursor = b .cursor; later = λ f r le. b .later f r le ∙ a .later f r (omega arith) }
-
-module _ (l : Layout) (sh : Shape l) (last first n limit : ℕ) (e x : List ℕ) (s m : ℕ)
-    (so : Ran limit (up-to (renewals l (linked l (own-fat l e) last first first n) (fat2-of l (card-of e))) s) e x m true) where
-  -- FAT1 is as at the start.
-  pub fat-same : own-fat l x ≡ own-fat l e
-  fat-same = fat-kept l sh (linked l (own-fat l e) last first first n) limit s e x m so
-
-  -- A sector's store, as the turn finds the card, is that of the whole.
-  pub turn-same : (at left : ℕ) → Moved l (own-fat l e) s first n at left
-      → renewal (l .fat2 + s) (linked l (own-fat l x) last first at left s) (card-of x (l .fat2 + s)) ≡ renewals l (linked l (own-fat l e) last first first n) (fat2-of l (card-of e)) s
-  turn-same at left mv =
-      ap (λ (t : Fat). renewal (l .fat2 + s) (linked l t last first at left s) (card-of x (l .fat2 + s))) fat-same
-      ∙ ap (λ (b : Bytes). renewal (l .fat2 + s) b (card-of x (l .fat2 + s))) (mv .later (lead last first (own-fat l e)) s (omega arith))
-      ∙ ap (λ (b : Bytes). renewal (l .fat2 + s) (linked l (own-fat l e) last first first n s) b) (next-kept l sh (linked l (own-fat l e) last first first n) limit s e x m so s (omega arith))

@@ -12,18 +12,18 @@ use native.Mathlib.Nat.{zero-div}
 use borrow.Author.Tests.{ne-eqb, eq-eqb, eqb-true, ltb-true}
 use Rattle.model.specs.Bytes.{Bytes, pick}
 use Rattle.model.specs.Scan.{any, all-from, walk}
-use Rattle.model.specs.Sector.{Card, card-of}
-use Rattle.model.specs.Fat.{Fat, entry, fat1-of, fat2-of, set-entry, end-value, link, release}
+use Rattle.model.specs.Sector.{Card}
+use Rattle.model.specs.Fat.{Fat, entry, fat1-of, set-entry, end-value, link, release}
 use Rattle.model.specs.Chain.{chain}
-use Rattle.model.specs.Promises.{Ran, up-to, Shape}
+use Rattle.model.specs.Promises.{Shape}
 use Rattle.model.specs.declared.Layout.{Layout}
 use Rattle.model.proofs.Tests.{same?, and-left, and-right}
 use Rattle.model.proofs.Scan.{all-at}
 use Rattle.model.proofs.All.{All}
 use Rattle.model.proofs.Chains.{chain-same}
 use Rattle.model.proofs.Entries.{release-byte, release-local}
-use Rattle.change.specs.Change.{lead, renewal, sectors-of, own-fat}
-use Rattle.change.proofs.Laws.{own-sector, own-entry, lead-away, lead-local, renewal-same, renewals, next-kept, fat-kept}
+use Rattle.change.specs.Change.{lead, sectors-of}
+use Rattle.change.proofs.Laws.{own-sector, own-entry, lead-local}
 use Rattle.release.specs.Release.{cut, cleared, bit-of, mark-of, among, Inside, Marked}
 
 -- ---- marks
@@ -148,12 +148,6 @@ cleared-is ks marks f s h j less =
     go true = refl
     go false = refl
 
--- A sector with neither `kept` nor a mark stays as it is.
-pub unchanged : (marks : List ℕ) (t : Fat) (s kept : ℕ) → (s ≡ kept / 256 → ⊥) → ((i : ℕ) → i < 256 → mark-of marks (256 * (s % 64) + i) ≡ 0)
-    → (j : ℕ) → j < 512 → cleared marks (lead kept end-value t) s j ≡ t s j
-unfolding cleared
-unchanged marks t s kept ne none j less = rw (none (j / 2) (omega arith)) (ap (λ (b : Bytes). b j) (lead-away kept end-value t s ne))
-
 -- A buffer that holds sector s of f, cleared by the marks.
 pub cleared-of : (marks buf out : List ℕ) (f : Fat) (s at : ℕ) → at ≡ 256 * (s % 64) → ((j : ℕ) → j < 512 → getD buf j 0 ≡ f s j)
     → ((j : ℕ) → j < 512 → getD out j 0 ≡ pick (eqb (mark-of marks (at + j / 2)) 0) (getD buf j 0) 0) → (j : ℕ) → j < 512 → getD out j 0 ≡ cleared marks f s j
@@ -171,21 +165,6 @@ freed t kept first m = release (chain (entry t) m first) (lead kept end-value t)
 -- Marks serve all of their 64 sectors.
 pub next-marks : (ks marks : List ℕ) (s : ℕ) → Marked ks (16384 * (s / 64)) marks → ((s + 1) % 64 ≡ 0 → ⊥) → Marked ks (16384 * ((s + 1) / 64)) marks
 next-marks ks marks s h ne = let e : 16384 * ((s + 1) / 64) ≡ 16384 * (s / 64) = omega arith in rw e h
-
-module _ (l : Layout) (sh : Shape l) (kept first m limit : ℕ) (e x : List ℕ) (s made : ℕ)
-    (so : Ran limit (up-to (renewals l (freed (own-fat l e) kept first m) (fat2-of l (card-of e))) s) e x made true) where
-  -- FAT1 is as at the start.
-  pub fat-same : own-fat l x ≡ own-fat l e
-  fat-same = fat-kept l sh (freed (own-fat l e) kept first m) limit s e x made so
-
-  -- A sector's store, as the turn finds the card, is that of the whole.
-  pub turn-same : (marks : List ℕ) → Marked (chain (entry (own-fat l x)) m first) (16384 * (s / 64)) marks
-      → renewal (l .fat2 + s) (cleared marks (lead kept end-value (own-fat l x)) s) (card-of x (l .fat2 + s)) ≡ renewals l (freed (own-fat l e) kept first m) (fat2-of l (card-of e)) s
-  turn-same marks h =
-      renewal-same (l .fat2 + s) (cleared marks (lead kept end-value (own-fat l x)) s) (freed (own-fat l x) kept first m s) (card-of x (l .fat2 + s))
-      (cleared-is (chain (entry (own-fat l x)) m first) marks (lead kept end-value (own-fat l x)) s h)
-      ∙ ap (λ (t : Fat). renewal (l .fat2 + s) (freed t kept first m s) (card-of x (l .fat2 + s))) fat-same
-      ∙ ap (λ (b : Bytes). renewal (l .fat2 + s) (freed (own-fat l e) kept first m s) b) (next-kept l sh (freed (own-fat l e) kept first m) limit s e x made so s (omega arith))
 
 -- ---- FAT1 as it is on the card
 

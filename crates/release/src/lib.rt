@@ -1,18 +1,17 @@
-// Release: FAT2 with the end of a chain freed. The chain is walked once for each 64 sectors that hold clusters.
+// Release: the marks of freed clusters, and a sector of FAT2 with them freed. A chain is walked once for each 64 sectors that hold
+// clusters.
 use model::Layout;
-use model::Progress;
 ghost use mathlib.Core.Path.{_≡_};
 ghost use mathlib.Core.Bool.{false};
 ghost use Prim.Native.Nat.{ℕ, _+_, _*_, _/_, _%_, _≤_, _<_};
 ghost use lib.Dec.{eqb};
 ghost use lib.ListN.{length, getD};
 ghost use Rattle.model.specs.Bytes.{pick};
-ghost use Rattle.model.specs.Sector.{card-of};
-ghost use Rattle.model.specs.Fat.{entry, end-value, fat1-of, fat2-of, release, write-fat};
+ghost use Rattle.model.specs.Fat.{entry};
 ghost use Rattle.model.specs.Chain.{chain};
-ghost use Rattle.model.specs.Promises.{Held, Ran};
-ghost use Rattle.change.specs.Change.{lead, own-fat, renewal};
-ghost use Rattle.release.specs.Release.{cut, cleared, bit-of, mark-of, Inside, Marked};
+ghost use Rattle.model.specs.Promises.{Held};
+ghost use Rattle.change.specs.Change.{own-fat};
+ghost use Rattle.release.specs.Release.{bit-of, mark-of, Inside, Marked};
 
 // The marks of 16,384 clusters, one bit each.
 fn clear_marks(marks: &mut [u8])
@@ -82,14 +81,11 @@ pub fn mark_block(w: &[u8], l: Layout, marks: &mut [u8], s: u32, first: u32, m: 
     }
 }
 
-// Whether sector s may hold `kept` or, by the marks from `at` on, a freed cluster.
-pub fn is_changed(marks: &[u8], at: usize, s: u32, kept: u32) -> bool
+// Whether one of the 256 clusters from `at` on is marked.
+pub fn has_mark(marks: &[u8], at: usize) -> bool
     requires { ⌜ (at % 8 ≡ 0) × (at + 256 ≤ 8 * length (now marks)) ⌝ }
-    ensures { λ r. ⌜ (r ≡ false → (s ≡ kept / 256 → ⊥) × ((i : ℕ) → i < 256 → mark-of (now (marks .entry)) (at + i) ≡ 0)) ⌝ }
+    ensures { λ r. ⌜ (r ≡ false → (i : ℕ) → i < 256 → mark-of (now (marks .entry)) (at + i) ≡ 0) ⌝ }
 {
-    if kept / 256 == s {
-        return true;
-    }
     let mut i = 0;
     while i < 32 {
         if marks[at / 8 + i] != 0 {
@@ -119,50 +115,4 @@ pub fn clear_marked(buf: &mut [u8], marks: &[u8], at: usize)
         buf[j] = unless_marked(buf[j], mark_at(marks, at + j / 2));
         j += 1;
     }
-}
-
-// Sector s of FAT2. One with no entry to change becomes FAT1's.
-fn shorten_sector(w: &mut [u8], l: Layout, s: u32, kept: u32, marks: &[u8], limit: u32) -> Progress
-    requires { ⌜ Held l (now w) × (s < l .fatsize) × (length (now marks) ≡ 2048) ⌝ }
-    ensures { λ r. ⌜ Ran limit (renewal (l .fat2 + s) (cleared (now (marks .entry)) (lead kept end-value (own-fat l (now (w .entry)))) s) (card-of (now (w .entry)) (l .fat2 + s))) (now (w .entry)) (now (w .exit)) (r .made) (r .whole) ⌝ }
-{
-    let at = 256 * sector::index(s % 64);
-    if !is_changed(marks, at, s, kept) {
-        return change::copy_changed(w, l.fat1 + s, l.fat2 + s, limit);
-    }
-    let mut buf = change::load_leading(w, l.fat1, s, kept, 0xFFFF);
-    clear_marked(&mut buf, marks, at);
-    change::store_changed(w, l.fat2 + s, &buf, limit)
-}
-
-// All of FAT2: `kept` gets the end value, and the m clusters from `first` on are freed.
-fn shorten_all(w: &mut [u8], l: Layout, kept: u32, first: u32, m: u32, limit: u32) -> Progress
-    requires { ⌜ Held l (now w) × Inside l (chain (entry (own-fat l (now w))) m first) ⌝ }
-    ensures { λ r. ⌜ Ran limit (write-fat l (l .fat2) (release (chain (entry (own-fat l (now (w .entry)))) m first) (lead kept end-value (own-fat l (now (w .entry))))) (fat2-of l (card-of (now (w .entry))))) (now (w .entry)) (now (w .exit)) (r .made) (r .whole) ⌝ }
-{
-    let mut marks = [0u8; 2048];
-    let mut made = 0;
-    let mut s = 0;
-    while s < l.fatsize {
-        mark_block(w, l, &mut marks, s, first, m);
-        let p = shorten_sector(w, l, s, kept, &marks, limit - made);
-        made += p.made;
-        if !p.whole {
-            return Progress { made, whole: false };
-        }
-        s += 1;
-    }
-    Progress { made, whole: true }
-}
-
-// Step 2 of a truncate or a delete: the sectors of FAT2 that change when the m clusters from `first` on are freed; the last
-// one kept is `kept`, 0 if there is none.
-pub fn shorten_fat(w: &mut [u8], l: Layout, kept: u32, first: u32, m: u32, limit: u32) -> Progress
-    requires { ⌜ Held l (now w) × Inside l (chain (entry (fat1-of l (card-of (now w)))) m first) ⌝ }
-    ensures { λ r. ⌜ Ran limit (write-fat l (l .fat2) (cut (fat1-of l (card-of (now (w .entry)))) kept first m) (fat2-of l (card-of (now (w .entry))))) (now (w .entry)) (now (w .exit)) (r .made) (r .whole) ⌝ }
-{
-    if m == 0 {
-        return shorten_all(w, l, 0, 0, 0, limit);
-    }
-    shorten_all(w, l, kept, first, m, limit)
 }

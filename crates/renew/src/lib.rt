@@ -1,5 +1,4 @@
 // Renewal: FAT2 with the lowest free clusters linked after the last one kept, and the end of a chain freed, in one pass.
-use allocate::Turn;
 use model::Layout;
 use model::Progress;
 ghost use mathlib.Core.Path.{_≡_};
@@ -15,6 +14,14 @@ ghost use Rattle.allocate.specs.Allocate.{grown, news, Cursor, Above, Moved};
 ghost use Rattle.release.specs.Release.{cut, cleared, mark-of, Inside};
 ghost use Rattle.renew.specs.Renew.{renewed, passed};
 
+// What a sector's turn made, and the new cluster that comes after it, with how many are left.
+pub struct Turn {
+    pub made: u32,
+    pub whole: bool,
+    pub at: u32,
+    pub left: u32,
+}
+
 // Whether sector s may hold `last`, a new cluster or, by the marks, a freed one.
 fn is_changed(marks: &[u8], s: u32, last: u32, at: u32, left: u32) -> bool
     requires { ⌜ length (now marks) ≡ 2048 ⌝ }
@@ -23,7 +30,7 @@ fn is_changed(marks: &[u8], s: u32, last: u32, at: u32, left: u32) -> bool
     if allocate::is_changed(s, last, at, left) {
         return true;
     }
-    release::is_changed(marks, 256 * sector::index(s % 64), s, last)
+    release::has_mark(marks, 256 * sector::index(s % 64))
 }
 
 // Sector s of FAT2, from FAT1's: `last` leads to `value`, the new clusters in it are linked, the marked ones freed. One with no

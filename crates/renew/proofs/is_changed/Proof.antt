@@ -15,22 +15,16 @@ returns c = λ e. clash refl e
 index-requires : tie.Need-index-requires
 index-requires c κs = search needs
 
-mul-is-changed : tie.Need-mul-is-changed
-mul-is-changed c = search needs
+mul-has-mark : tie.Need-mul-has-mark
+mul-has-mark c = search needs
 
-is-changed-requires-2 : tie.Need-is-changed-requires-2
-is-changed-requires-2 c κs = search needs
+has-mark-requires : tie.Need-has-mark-requires
+has-mark-requires c κs = search needs
 
 returns-2 : tie.Need-returns-2
-returns-2 c = λ e. (c .before .before .before .is-changed .ensures (c .before .before .if1 .left) .0, c .before .before .before .is-changed .ensures (c .before .before .if1 .left) .1, rw (c .before .index .ensures) at (c .is-changed2 .ensures e .1))
+returns-2 c = λ e.
+    let away = c .before .before .before .is-changed .ensures (c .before .before .if1 .left) in
+    (away .0, away .1, rw (c .before .index .ensures) at (c .has-mark .ensures e))
 
 pub is-changed-spec : {M : Type 1} → statement M
-is-changed-spec =
-    tie.close
-    (tie.spec
-    is-changed-requires
-    returns
-    index-requires
-    mul-is-changed
-    is-changed-requires-2
-    returns-2)
+is-changed-spec = tie.close (tie.spec is-changed-requires returns index-requires mul-has-mark has-mark-requires returns-2)
