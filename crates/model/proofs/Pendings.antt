@@ -12,7 +12,7 @@ use Rattle.model.specs.Bytes.{Bytes, zeros, pick, byte-of, overlay}
 use Rattle.model.specs.Scan.{every, first, between}
 use Rattle.model.specs.Sector.{clip}
 use Rattle.model.specs.Log.{Log}
-use Rattle.model.specs.Record.{pends, tells, committed, record-bytes, record-of, encode, lay, records, group-size, record-at, entry-in, operation-of, group-in}
+use Rattle.model.specs.Record.{pends, tells, committed, record-bytes, record-of, encode, lay, records, group-size, record-at, operation-of, group-in}
 use Rattle.model.specs.Pending.{pending-in, first-pending, pending-at, accepted, slot-ok, record-ok, pair-ok, alike, records-ok, empty-from, group-ok, alone}
 use Rattle.model.specs.declared.Area.{Area}
 use Rattle.model.specs.declared.Name.{Name}

@@ -1,6 +1,6 @@
 -- A record from the numbers in its bytes.
 use Prim.Native.Nat.{ℕ, _+_}
-use mathlib.Core.Path.{_≡_, refl, sym, _∙_}
+use mathlib.Core.Path.{_≡_, sym, _∙_}
 use mathlib.Core.Bool.{true, false, and-true}
 use lib.Dec.{eqb}
 use Rattle.model.specs.Bytes.{Bytes, part, le}

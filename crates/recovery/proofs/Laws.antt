@@ -7,7 +7,7 @@ use mathlib.Core.List.{List}
 use lib.Dec.{eqb}
 use lib.ListN.{length}
 use Rattle.model.specs.Bytes.{Bytes}
-use Rattle.model.specs.Sector.{Card, Window, card-of}
+use Rattle.model.specs.Sector.{Window, card-of}
 use Rattle.model.specs.Root.{first-bytes, end-slot}
 use Rattle.model.specs.Log.{Log, log-of}
 use Rattle.model.specs.Record.{record-at, operation-of, group-size, group-in}

@@ -17,7 +17,7 @@ use Rattle.model.specs.declared.Operation.{Operation}
 use Rattle.operations.specs.Finish.{root-sector, effect, concerns, finish}
 use Rattle.model.proofs.Tests.{less?, told}
 use Rattle.model.proofs.All.{All, all-map}
-use Rattle.model.proofs.Cards.{put-case, clip-clip, clip-at, clip-same}
+use Rattle.model.proofs.Cards.{put-case, clip-clip, clip-same}
 use Rattle.model.proofs.Changes.{Clipped, Keeps, after-keeps, Covers, after-is}
 use Rattle.model.proofs.Records.{Fits}
 use Rattle.model.proofs.Pendings.{Stored, Named, Recorded, group-of}

@@ -19,7 +19,6 @@ use Rattle.model.specs.Record.{record-bytes, records, lay, encode, committed, c
 use Rattle.model.specs.declared.Record.{Record}
 use Rattle.model.specs.Ground.{Answer, refused, granted}
 use Rattle.model.specs.Volume.{clean, examine}
-use Rattle.model.specs.declared.Entry.{Entry}
 use Rattle.model.specs.declared.Group.{Group}
 use Rattle.model.specs.declared.Layout.{Layout}
 use Rattle.model.specs.declared.Name.{Name}

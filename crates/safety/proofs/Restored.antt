@@ -4,7 +4,6 @@ use mathlib.Core.Path.{_≡_, refl, sym, ap, _∙_, subst, fun-ext}
 use mathlib.Core.Logic.{_⊎_, inl, inr}
 use mathlib.Core.List.{[], _∷_, List·Memᴰ·head, List·Memᴰ·tail}
 use mathlib.Core.Bool.{Bool, true, false}
-use lib.ListN.{take}
 use Rattle.model.specs.Bytes.{Bytes, Span}
 use Rattle.model.specs.Sector.{Card, Window, after}
 use Rattle.model.specs.Ground.{granted}
@@ -13,19 +12,18 @@ use Rattle.model.specs.declared.Layout.{Layout}
 use Rattle.model.specs.declared.Pending.{Pending}
 use Rattle.model.specs.declared.Volume.{Volume}
 use Rattle.model.specs.declared.Outcome.the-variants.{Done}
-use Rattle.operations.specs.Program.{Program, stores}
 use Rattle.operations.specs.Calls.{Call, plan, recovers}
 use Rattle.operations.specs.Outcome.{made, left, outcome, largest}
 use Rattle.safety.specs.Sound.{Sound}
-use Rattle.safety.specs.Cuts.{program-of, Later, recovery, passes-group, now}
+use Rattle.safety.specs.Cuts.{program-of, recovery, passes-group}
 use Rattle.safety.specs.Demand3.{recoveries, Genuine, finished, group-stored}
 use Rattle.safety.specs.Saved.{Holds}
 use Rattle.safety.specs.Restored.{ReadsAs, settles-on, Restores, Restored, RestoredBack, OldOrNew, StaysInOrder}
 use Rattle.model.proofs.Volumes.{window, layout-of, volume-of}
-use Rattle.safety.proofs.Journal.{prefix-cut, Ends, idle, Goal, every-run}
+use Rattle.safety.proofs.Journal.{Ends, idle, Goal, every-run}
 use Rattle.safety.proofs.Start.{Table}
 use Rattle.safety.proofs.Before.{Wanted}
-use Rattle.safety.proofs.Theorem.{limit-made, limits-later, same-window, ends-done, ends-at-last, Kind, all-made, most-finishes, volume, the-start, fair, good-files, after-calls}
+use Rattle.safety.proofs.Theorem.{by-limits, ends-done, ends-at-last, Kind, all-made, most-finishes, volume, the-start, fair, good-files, after-calls}
 use Rattle.safety.proofs.Sounds.{all-keep}
 use Rattle.safety.proofs.Bytewise.{recovery-genuine, genuine-again}
 use Rattle.safety.proofs.Same.{clean-kept, sound-kept, reads-kept}
@@ -92,16 +90,8 @@ restored-back k w v real is zs cut y later once =
 
 -- After a cut by a limit.
 pub restored : Restored
-unfolding left
 restored k w v real is limit limits once =
-    let q : Program = program-of (plan k w) in
-    let z : Card = after (take limit (stores q)) (w .card) in
-    let start : after (made limit (plan k w)) (w .card) ≡ z = ap (λ ss. after ss (w .card)) (limit-made limit (plan k w)) in
-    let x : Card = recoveries limits (window (w .size) z) .card in
-    let later : Later (w .size) z x = limits-later (w .size) limits z z now in
-    let cut = prefix-cut q limit in
-    rw (start, same-window (w .size) limits z)
-    (subst (λ b. Restores b k w v once (window (w .size) x)) (cut .1) (restored-back k w v real is (take limit (stores q)) (cut .0) x later once))
+    by-limits (λ b x. Restores b k w v once x) k w limit limits (λ zs cut y later. restored-back k w v real is zs cut y later once)
 
 pub old-or-new : OldOrNew
 old-or-new k w v real is sound limit limits once n e = go (group-stored limit k w) (restored k w v real is limit limits once)

@@ -7,7 +7,7 @@ use lib.Dec.{eqb}
 use borrow.Author.Tests.{eq-eqb, eqb-true}
 use Rattle.model.specs.Bytes.{Bytes, Span, pick, le, byte-of, overlay, patch}
 use Rattle.model.specs.Sector.{Card}
-use Rattle.model.specs.Root.{Directory, slot-at, name-in, file-size, first-cluster, is-file, is-directory, is-label, listed, vacant, bears, same-name, find, lowest-slot}
+use Rattle.model.specs.Root.{slot-at, name-in, file-size, first-cluster, is-file, is-directory, is-label, listed, vacant, bears, same-name, find, lowest-slot}
 use Rattle.model.specs.declared.Name.{Name}
 use Rattle.model.specs.declared.Volume.{Volume}
 use Rattle.operations.specs.Calls.{slot-of, name-of}

@@ -9,7 +9,7 @@ use lib.ListN.{take, length, getD}
 use lib.Seq.{take-nil, take-all}
 use borrow.Author.Tests.{leb-true, le-leb}
 use Rattle.model.specs.Bytes.{pick}
-use Rattle.model.specs.Sector.{Card, after, Window, window-of}
+use Rattle.model.specs.Sector.{Card, Store, after, Window, window-of}
 use Rattle.model.specs.Fat.{same, fat1-of}
 use Rattle.model.specs.Chain.{file-sector}
 use Rattle.model.specs.Root.{file-at, root-place}
@@ -26,7 +26,7 @@ use Rattle.operations.specs.Outcome.{made, left, outcome, largest}
 use Rattle.operations.specs.Reading.{file-byte}
 use Rattle.safety.specs.Sound.{chain-of, Sound}
 use Rattle.safety.specs.Cuts.{program-of, Later, recovery, Cut, next, passes-group, now}
-use Rattle.safety.specs.Demand3.{recoveries, Genuine, finished, SameTables, settles-as, SameFiles, Settles, HeldBack, Demand3}
+use Rattle.safety.specs.Demand3.{recoveries, Genuine, finished, group-stored, SameTables, settles-as, SameFiles, Settles, HeldBack, Demand3}
 use Rattle.safety.specs.AfterCall.{AfterCall, AfterCalls, RecoveryRests}
 use Rattle.model.proofs.Indices.{mem-all}
 use Rattle.model.proofs.Cards.{clip-clip}
@@ -174,18 +174,25 @@ held-back k w v real is zs cut y later once =
     settled-at k w v real is (passes-group (program-of (plan k w)) zs cut) once y
     (every-run (w .size) (Kind k w v real is) (w .card) (program-of (plan k w)) (fair k w v real is .kept) zs cut y later)
 
--- Demand 3.
-pub demand3 : Demand3
+-- A cut by a limit, and recoveries cut by limits, are a cut and recoveries of a card that holds stores back.
+pub by-limits : (P : Bool → Window → Type 0) (k : Call) (w : Window) (limit : ℕ) (limits : List ℕ)
+    → ((zs : List Store) (cut : Cut (program-of (plan k w)) zs) (y : Card) → Later (w .size) (after zs (w .card)) y
+    → P (passes-group (program-of (plan k w)) zs cut) (window (w .size) y))
+    → P (group-stored limit k w) (recoveries limits (left limit k w))
 unfolding left
-demand3 k w v real is limit limits once =
+by-limits P k w limit limits back =
     let q : Program = program-of (plan k w) in
     let z : Card = after (take limit (stores q)) (w .card) in
     let start : after (made limit (plan k w)) (w .card) ≡ z = ap (λ ss. after ss (w .card)) (limit-made limit (plan k w)) in
     let x : Card = recoveries limits (window (w .size) z) .card in
-    let later : Later (w .size) z x = limits-later (w .size) limits z z now in
     let cut = prefix-cut q limit in
     rw (start, same-window (w .size) limits z)
-    (subst (λ b. Settles b k w v once (window (w .size) x)) (cut .1) (held-back k w v real is (take limit (stores q)) (cut .0) x later once))
+    (subst (λ b. P b (window (w .size) x)) (cut .1) (back (take limit (stores q)) (cut .0) x (limits-later (w .size) limits z z now)))
+
+-- Demand 3.
+pub demand3 : Demand3
+demand3 k w v real is limit limits once =
+    by-limits (λ b x. Settles b k w v once x) k w limit limits (λ zs cut y later. held-back k w v real is zs cut y later once)
 
 -- The window of a slice of bytes is genuine.
 pub genuine : (xs : List ℕ) → ((i : ℕ) → getD xs i 0 < 256) → Genuine (window-of xs)

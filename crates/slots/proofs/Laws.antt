@@ -7,8 +7,8 @@ use mathlib.Core.Bool.{Bool, true, false, _||_}
 use mathlib.Core.List.{List, [], _∷_}
 use lib.ListN.{getD}
 use lib.Dec.{eqb}
-use Rattle.model.specs.Bytes.{Bytes, bytes-of, overlay, pick}
-use Rattle.model.specs.Sector.{Card, Store, store, put, after, card-of, clip}
+use Rattle.model.specs.Bytes.{Bytes, overlay, pick}
+use Rattle.model.specs.Sector.{Card, Store, card-of, clip}
 use Rattle.model.specs.Root.{Directory, root-place, slot-at}
 use Rattle.model.specs.Promises.{Ran, up-to}
 use Rattle.model.specs.declared.Layout.{Layout}

@@ -1,6 +1,6 @@
-use mathlib.Core.Path.{_≡_, sym, ap, _∙_}
+use mathlib.Core.Path.{sym, ap, _∙_}
 use Rattle.model.specs.Sector.{card-of}
-use Rattle.model.specs.Record.{entry-in, record-at, operation-of}
+use Rattle.model.specs.Record.{entry-in, record-at}
 use Rattle.model.specs.declared.Record.{Record}
 use Rattle.model.specs.declared.Operation.the-variants.{Create, Update, Delete, Truncate, Rename}
 use Rattle.group.proofs.Laws.{told-create, told-update, told-delete, told-truncate, told-rename}

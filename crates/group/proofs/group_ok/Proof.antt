@@ -1,11 +1,10 @@
 use mathlib.Core.Path.{sym, ap, _∙_}
 use mathlib.Core.Bool.{and-true}
 use borrow.Author.Tests.{not-true, not-false}
-use Prim.Native.Nat.{ℕ, _*_}
 use Rattle.model.specs.Scan.{every, all}
 use Rattle.model.specs.Sector.{card-of}
 use Rattle.model.specs.Record.{pends}
-use Rattle.model.specs.Pending.{empty-from, group-ok}
+use Rattle.model.specs.Pending.{group-ok}
 use Rattle.model.proofs.Tests.{every-not}
 use borrow.Author.Needs.{needs}
 use Rattle.group.proofs.group_ok.Statement.{statement}

@@ -1,6 +1,6 @@
 use Prim.Native.Nat.{ℕ, _+_, _*_, _-_}
 use native.Mathlib.Omega.{arith}
-use mathlib.Core.Path.{_≡_, sym, ap, _∙_}
+use mathlib.Core.Path.{sym, ap, _∙_}
 use Rattle.journal.specs.Place.{place-of}
 use Rattle.journal.proofs.Laws.{first-part, pending-part}
 use borrow.Author.Needs.{needs}

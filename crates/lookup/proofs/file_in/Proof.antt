@@ -3,7 +3,7 @@ use native.Mathlib.Omega.{arith}
 use borrow.Author.Tests.{lt-ltb, le-ltb}
 use Rattle.model.specs.Sector.{card-of}
 use Rattle.model.specs.Root.{file-at, entry-at}
-use Rattle.model.specs.Ground.{granted, _when_, _>>=_, _>>_}
+use Rattle.model.specs.Ground.{granted, _when_, _>>_}
 use Rattle.model.specs.declared.File.{File}
 use Rattle.operations.specs.Calls.{file-in, taken}
 use borrow.Author.Needs.{needs}

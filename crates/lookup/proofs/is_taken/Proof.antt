@@ -1,7 +1,6 @@
 use mathlib.Core.Path.{ap}
 use Prim.Native.Nat.{ℕ}
 use lib.Dec.{ltb}
-use Rattle.model.specs.Ground.{_when_, _>>=_, _>>_}
 use Rattle.operations.specs.Calls.{slot-of, taken}
 use borrow.Author.Needs.{needs}
 use Rattle.lookup.proofs.is_taken.Statement.{statement}

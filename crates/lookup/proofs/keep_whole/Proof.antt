@@ -1,6 +1,6 @@
 use mathlib.Core.Path.{sym, _∙_}
 use borrow.Author.Tests.{not-true, not-false}
-use Rattle.model.specs.Ground.{_when_, _>>=_, _>>_}
+use Rattle.model.specs.Ground.{_when_, _>>_}
 use Rattle.operations.specs.Calls.{whole, taken}
 use borrow.Author.Needs.{needs}
 use Rattle.lookup.proofs.keep_whole.Statement.{statement}

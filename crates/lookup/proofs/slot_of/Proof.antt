@@ -4,7 +4,6 @@ use lib.ListN.{length}
 use borrow.Author.Tests.{eqb-true}
 use Rattle.model.specs.Sector.{card-of}
 use Rattle.model.specs.Root.{name-ok, find}
-use Rattle.model.specs.Ground.{_when_, _>>=_, _>>_}
 use Rattle.model.proofs.Tests.{every-at}
 use Rattle.operations.specs.Calls.{slot-of}
 use borrow.Author.Needs.{needs}

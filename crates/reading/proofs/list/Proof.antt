@@ -2,7 +2,6 @@ use mathlib.Core.Path.{refl, sym, ap, _∙_}
 use lib.ListN.{length}
 use Rattle.model.specs.Bytes.{bytes-of}
 use Rattle.model.specs.Sector.{window-of}
-use Rattle.model.specs.Ground.{_>>=_}
 use Rattle.model.specs.declared.Outcome.the-variants.{Done}
 use Rattle.operations.specs.Reading.{buffer-after, filled-outcome, directory-listing}
 use Rattle.volume.specs.Examined.{examined-of}

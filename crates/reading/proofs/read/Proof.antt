@@ -2,7 +2,6 @@ use mathlib.Core.Path.{refl, sym, ap, _∙_}
 use lib.ListN.{length}
 use Rattle.model.specs.Bytes.{view}
 use Rattle.model.specs.Sector.{window-of}
-use Rattle.model.specs.Ground.{_>>=_}
 use Rattle.operations.specs.Reading.{buffer-after, filled-outcome}
 use Rattle.volume.specs.Examined.{examined-of}
 use Rattle.reading.proofs.Laws.{read-refused, read-granted}

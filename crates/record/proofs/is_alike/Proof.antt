@@ -1,10 +1,9 @@
-use mathlib.Core.Path.{sym, _∙_}
-use mathlib.Core.Bool.{and-true, and-false}
-use borrow.Author.Tests.{lt-ltb, le-ltb, le-leb, lt-leb, eq-eqb, ne-eqb, not-true, not-false}
-use Rattle.model.specs.Scan.{every, between}
+use mathlib.Core.Path.{sym}
+use mathlib.Core.Bool.{and-true}
+use borrow.Author.Tests.{eq-eqb, ne-eqb}
+use Rattle.model.specs.Scan.{every}
 use Rattle.model.proofs.Tests.{every-not}
 use Rattle.model.specs.Pending.{alike}
-use borrow.Author.Needs.{needs}
 use Rattle.record.proofs.is_alike.Statement.{statement}
 use Rattle.record.proofs.is_alike.Tie as tie
 use Rattle.record.proofs.is_alike.Reads as reads

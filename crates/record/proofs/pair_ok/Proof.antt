@@ -1,7 +1,7 @@
 use mathlib.Core.Path.{sym, _∙_}
-use mathlib.Core.Bool.{and-true, and-false}
-use borrow.Author.Tests.{lt-ltb, le-ltb, le-leb, lt-leb, eq-eqb, ne-eqb, not-true, not-false}
-use Rattle.model.specs.Scan.{every, between}
+use mathlib.Core.Bool.{and-true}
+use borrow.Author.Tests.{not-true, not-false}
+use Rattle.model.specs.Scan.{every}
 use Rattle.model.proofs.Tests.{every-not}
 use Rattle.model.specs.Pending.{slot-ok, pair-ok}
 use borrow.Author.Needs.{needs}

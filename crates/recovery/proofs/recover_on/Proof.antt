@@ -1,18 +1,14 @@
-use Prim.Native.Nat.{_<_}
 use native.Mathlib.Omega.{arith}
-use mathlib.Core.Path.{sym}
 use mathlib.Core.Bool.{true}
 use mathlib.Core.List.{[]}
 use Rattle.model.specs.Sector.{card-of}
 use Rattle.model.specs.Fat.{fat1-of, fat2-of, write-fat}
-use Rattle.model.specs.Record.{group-in}
-use Rattle.model.specs.declared.Group.{Group}
 use Rattle.model.proofs.Runs.{ran-none}
 use Rattle.operations.specs.Program.{ending}
 use Rattle.operations.specs.Finish.{redo}
 use Rattle.operations.specs.Plan.{recover-stores}
 use Rattle.operate.proofs.Ends.{did-ran}
-use Rattle.recovery.proofs.Laws.{Redoable, sector-high, redoable}
+use Rattle.recovery.proofs.Laws.{sector-high, redoable}
 use borrow.Author.Needs.{needs}
 use Rattle.recovery.proofs.recover_on.Statement.{statement}
 use Rattle.recovery.proofs.recover_on.Tie as tie

@@ -1,6 +1,4 @@
-use mathlib.Core.Path.{_≡_, refl}
-use Prim.Native.Nat.{_+_, _*_, _%_}
-use native.Mathlib.Omega.{arith}
+use mathlib.Core.Path.{refl}
 use Rattle.model.proofs.Tests.{clash}
 use borrow.Author.Needs.{needs}
 use Rattle.renew.proofs.is_changed.Statement.{statement}

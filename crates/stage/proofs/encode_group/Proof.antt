@@ -4,7 +4,7 @@ use mathlib.Core.Path.{_≡_, ap, _∙_}
 use mathlib.Core.List.{List, map}
 use lib.ListN.{length, take}
 use lib.Seq.{take-all}
-use Rattle.model.specs.Bytes.{Bytes, bytes-of, overlay}
+use Rattle.model.specs.Bytes.{bytes-of, overlay}
 use Rattle.model.specs.Record.{record-bytes, records, lay, encode}
 use Rattle.model.specs.declared.Record.{Record}
 use Rattle.stage.proofs.Laws.{lay-zeros, lay-next}

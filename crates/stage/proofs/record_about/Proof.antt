@@ -1,6 +1,5 @@
 use mathlib.Core.Path.{refl}
 use Rattle.model.specs.Record.{record-of}
-use borrow.Author.Needs.{needs}
 use Rattle.stage.proofs.record_about.Statement.{statement}
 use Rattle.stage.proofs.record_about.Tie as tie
 use Rattle.stage.proofs.record_about.Reads as reads

@@ -2,7 +2,6 @@ use mathlib.Core.Path.{_≡_, sym, ap, _∙_}
 use borrow.Author.Tests.{not-true, not-false}
 use Rattle.model.specs.Sector.{card-of}
 use Rattle.model.specs.Pending.{pending, is-broken}
-use Rattle.model.specs.Ground.{_>>=_}
 use Rattle.volume.proofs.Laws.{inspect-root, inspect-record, inspect-volume}
 use borrow.Author.Needs.{needs}
 use Rattle.volume.proofs.inspect.Statement.{statement}

@@ -1,7 +1,6 @@
 use mathlib.Core.Path.{sym, _∙_}
 use native.Mathlib.Omega.{arith}
 use Rattle.model.specs.Sector.{window-of}
-use Rattle.model.specs.Ground.{_>>=_}
 use Rattle.boot.proofs.Grounds.{mount-short, mount-boot, mount-window, mount-layout}
 use borrow.Author.Needs.{needs}
 use Rattle.volume.proofs.mount.Statement.{statement}

@@ -1,7 +1,6 @@
 use mathlib.Core.Path.{sym, _∙_}
 use borrow.Author.Tests.{not-true, not-false}
 use Rattle.model.specs.Sector.{card-of}
-use Rattle.model.specs.Ground.{_>>=_}
 use Rattle.volume.proofs.Laws.{settled-held, settled-differ, settled-clean}
 use borrow.Author.Needs.{needs}
 use Rattle.volume.proofs.settle.Statement.{statement}
