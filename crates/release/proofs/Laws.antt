@@ -81,6 +81,17 @@ pub bit-zero : (b i : ℕ) → b ≡ 0 → bit-of b i ≡ 0
 unfolding bit-of
 bit-zero b i e = rw (e, zero-div (2 ^ i))
 
+-- Mark `at + m / 2`, of the entry that byte m of a sector is of, is a bit of the byte of marks for eight entries.
+pub mark-in : (marks : List ℕ) (at k m : ℕ) → at % 8 ≡ 0 → m / 16 ≡ k → bit-of (getD marks (at / 8 + k) 0) (m / 2 % 8) ≡ mark-of marks (at + m / 2)
+mark-in marks at k m z e =
+    let p : at / 8 + k ≡ (at + m / 2) / 8 = omega (arith, z, e) in
+    let q : m / 2 % 8 ≡ (at + m / 2) % 8 = omega (arith, z) in
+    ap (λ (y : ℕ). bit-of (getD marks y 0) (m / 2 % 8)) p ∙ ap (λ (y : ℕ). bit-of (getD marks ((at + m / 2) / 8) 0) y) q
+
+-- Byte j of a sector once the eight entries from byte 16 * k on are cleared by the bits of m; the bytes before them stay.
+abbrev pub eight-then : List ℕ → ℕ → ℕ → ℕ → ℕ
+eight-then xs k m j = pick (ltb j (16 * k)) (getD xs j 0) (pick (eqb (bit-of m (j / 2 % 8)) 0) (getD xs j 0) 0)
+
 -- One more mark.
 pub mark-set : (marks : List ℕ) (from k i v x : ℕ) → from ≤ k → (k - from) / 8 < length marks → x ≡ k - from
     → ((j : ℕ) → j < 8 → bit-of v j ≡ pick (eqb j (x % 8)) 1 (bit-of (getD marks (x / 8) 0) j))

@@ -25,12 +25,12 @@ fn clear_marks(marks: &mut [u8])
     }
 }
 
-// Mark i.
-fn mark_at(marks: &[u8], i: usize) -> u8
-    requires { ⌜ i / 8 < length (now marks) ⌝ }
-    ensures { λ r. ⌜ r ≡ mark-of (now (marks .entry)) i ⌝ }
+// Bit i of a byte.
+fn bit_at(b: u8, i: usize) -> u8
+    requires { ⌜ i < 8 ⌝ }
+    ensures { λ r. ⌜ r ≡ bit-of b i ⌝ }
 {
-    (marks[i / 8] >> (i % 8)) % 2
+    (b >> i) % 2
 }
 
 // A byte with bit i set.
@@ -96,23 +96,39 @@ pub fn has_mark(marks: &[u8], at: usize) -> bool
     false
 }
 
-fn unless_marked(b: u8, m: u8) -> u8
-    ensures { λ r. ⌜ r ≡ pick (eqb m 0) b 0 ⌝ }
+// A byte of an entry, 0 where the entry's bit is set.
+fn unless_marked(b: u8, bit: u8) -> u8
+    ensures { λ r. ⌜ r ≡ pick (eqb bit 0) b 0 ⌝ }
 {
-    if m == 0 {
+    if bit == 0 {
         return b;
     }
     0
 }
 
-// Clears the entries that the marks from `at` on name, in the buffer of a sector.
+// Clears those of eight entries, 16 bytes from 16 * k on, that the bits of m mark.
+fn clear_eight(buf: &mut [u8], k: usize, m: u8)
+    requires { ⌜ (length (now buf) ≡ 512) × (k < 32) ⌝ }
+    ensures { λ _. ⌜ ((j : ℕ) → j / 16 ≡ k → getD (now (buf .exit)) j 0 ≡ pick (eqb (bit-of m (j / 2 % 8)) 0) (getD (now (buf .entry)) j 0) 0) × ((j : ℕ) → (j / 16 ≡ k → ⊥) → getD (now (buf .exit)) j 0 ≡ getD (now (buf .entry)) j 0) ⌝ }
+{
+    if m == 0 {
+        return;
+    }
+    let mut i = 0;
+    while i < 16 {
+        buf[16 * k + i] = unless_marked(buf[16 * k + i], bit_at(m, i / 2));
+        i += 1;
+    }
+}
+
+// Clears the entries that the marks from `at` on name, in the buffer of a sector. Eight that have no mark are passed over.
 pub fn clear_marked(buf: &mut [u8], marks: &[u8], at: usize)
-    requires { ⌜ (length (now buf) ≡ 512) × (at + 256 ≤ 16384) × (length (now marks) ≡ 2048) ⌝ }
+    requires { ⌜ (length (now buf) ≡ 512) × (at % 8 ≡ 0) × (at + 256 ≤ 16384) × (length (now marks) ≡ 2048) ⌝ }
     ensures { λ _. ⌜ ((j : ℕ) → j < 512 → getD (now (buf .exit)) j 0 ≡ pick (eqb (mark-of (now (marks .entry)) (at + j / 2)) 0) (getD (now (buf .entry)) j 0) 0) ⌝ }
 {
-    let mut j = 0;
-    while j < 512 {
-        buf[j] = unless_marked(buf[j], mark_at(marks, at + j / 2));
-        j += 1;
+    let mut k = 0;
+    while k < 32 {
+        clear_eight(buf, k, marks[at / 8 + k]);
+        k += 1;
     }
 }
