@@ -82,7 +82,8 @@ unfolding bit-of
 bit-zero b i e = rw (e, zero-div (2 ^ i))
 
 -- Mark `at + m / 2`, of the entry that byte m of a sector is of, is a bit of the byte of marks for eight entries.
-pub mark-in : (marks : List ℕ) (at k m : ℕ) → at % 8 ≡ 0 → m / 16 ≡ k → bit-of (getD marks (at / 8 + k) 0) (m / 2 % 8) ≡ mark-of marks (at + m / 2)
+pub mark-in : (marks : List ℕ) (at k m : ℕ) → at % 8 ≡ 0 → m / 16 ≡ k
+    → bit-of (getD marks (at / 8 + k) 0) (m / 2 % 8) ≡ mark-of marks (at + m / 2)
 mark-in marks at k m z e =
     let p : at / 8 + k ≡ (at + m / 2) / 8 = omega (arith, z, e) in
     let q : m / 2 % 8 ≡ (at + m / 2) % 8 = omega (arith, z) in

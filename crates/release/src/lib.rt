@@ -109,7 +109,9 @@ fn unless_marked(b: u8, bit: u8) -> u8
 // Clears those of eight entries, 16 bytes from 16 * k on, that the bits of m mark.
 fn clear_eight(buf: &mut [u8], k: usize, m: u8)
     requires { ⌜ (length (now buf) ≡ 512) × (k < 32) ⌝ }
-    ensures { λ _. ⌜ ((j : ℕ) → j / 16 ≡ k → getD (now (buf .exit)) j 0 ≡ pick (eqb (bit-of m (j / 2 % 8)) 0) (getD (now (buf .entry)) j 0) 0) × ((j : ℕ) → (j / 16 ≡ k → ⊥) → getD (now (buf .exit)) j 0 ≡ getD (now (buf .entry)) j 0) ⌝ }
+    ensures { λ _. ⌜
+        ((j : ℕ) → j / 16 ≡ k → getD (now (buf .exit)) j 0 ≡ pick (eqb (bit-of m (j / 2 % 8)) 0) (getD (now (buf .entry)) j 0) 0)
+        × ((j : ℕ) → (j / 16 ≡ k → ⊥) → getD (now (buf .exit)) j 0 ≡ getD (now (buf .entry)) j 0) ⌝ }
 {
     if m == 0 {
         return;
@@ -124,7 +126,8 @@ fn clear_eight(buf: &mut [u8], k: usize, m: u8)
 // Clears the entries that the marks from `at` on name, in the buffer of a sector. Eight that have no mark are passed over.
 pub fn clear_marked(buf: &mut [u8], marks: &[u8], at: usize)
     requires { ⌜ (length (now buf) ≡ 512) × (at % 8 ≡ 0) × (at + 256 ≤ 16384) × (length (now marks) ≡ 2048) ⌝ }
-    ensures { λ _. ⌜ ((j : ℕ) → j < 512 → getD (now (buf .exit)) j 0 ≡ pick (eqb (mark-of (now (marks .entry)) (at + j / 2)) 0) (getD (now (buf .entry)) j 0) 0) ⌝ }
+    ensures { λ _. ⌜
+        ((j : ℕ) → j < 512 → getD (now (buf .exit)) j 0 ≡ pick (eqb (mark-of (now (marks .entry)) (at + j / 2)) 0) (getD (now (buf .entry)) j 0) 0) ⌝ }
 {
     let mut k = 0;
     while k < 32 {

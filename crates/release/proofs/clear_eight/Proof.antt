@@ -20,7 +20,9 @@ use Rattle.release.proofs.bit_at.Reads as bit-at-reads
 use Rattle.release.proofs.unless_marked.Reads as unless-marked-reads
 
 abbrev Inv-loop : tie.InvT-loop
-Inv-loop buf₀ k m i₀ buf i = (i ≤ 16) × (length buf ≡ 512) × ((j : ℕ) → j < 16 * k + i → getD buf j 0 ≡ eight-then buf₀ k m j) × ((j : ℕ) → 16 * k + i ≤ j → getD buf j 0 ≡ getD buf₀ j 0)
+Inv-loop buf₀ k m i₀ buf i =
+    (i ≤ 16) × (length buf ≡ 512) × ((j : ℕ) → j < 16 * k + i → getD buf j 0 ≡ eight-then buf₀ k m j)
+    × ((j : ℕ) → 16 * k + i ≤ j → getD buf j 0 ≡ getD buf₀ j 0)
 
 abbrev μ-loop : tie.MeasureT-loop
 μ-loop buf₀ k m i₀ buf i = 16 - i
@@ -69,7 +71,8 @@ loop-again c =
     let half : o .i / 2 ≡ x / 2 % 8 = omega arith in
     let e : c .unless-marked .result ≡ eight-then (a .buf .now) (a .k) (a .m) x =
     rw (le-ltb x (16 * a .k) (omega arith))
-    ((rw (c .before .bit-at .ensures, half) at (c .unless-marked .ensures)) ∙ ap (λ (z : ℕ). pick (eqb (bit-of (a .m) (x / 2 % 8)) 0) z 0) (o .inv .3 x (omega arith))) in (
+    ((rw (c .before .bit-at .ensures, half) at (c .unless-marked .ensures))
+    ∙ ap (λ (z : ℕ). pick (eqb (bit-of (a .m) (x / 2 % 8)) 0) z 0) (o .inv .3 x (omega arith))) in (
       search needs,
       simp length-set (o .inv .1),
       λ j h. rw e (copied-more (eight-then (a .buf .now) (a .k) (a .m)) (o .buf) x (omega arith) (o .inv .2) j (omega arith)),

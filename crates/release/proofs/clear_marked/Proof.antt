@@ -16,7 +16,9 @@ use Rattle.release.proofs.clear_marked.Lts as lts
 use Rattle.release.proofs.clear_eight.Reads as clear-eight-reads
 
 abbrev Inv-loop : tie.InvT-loop
-Inv-loop buf₀ marks at k₀ buf k = (k ≤ 32) × (length buf ≡ 512) × ((j : ℕ) → j < 16 * k → getD buf j 0 ≡ pick (eqb (mark-of marks (at + j / 2)) 0) (getD buf₀ j 0) 0) × ((j : ℕ) → 16 * k ≤ j → getD buf j 0 ≡ getD buf₀ j 0)
+Inv-loop buf₀ marks at k₀ buf k =
+    (k ≤ 32) × (length buf ≡ 512) × ((j : ℕ) → j < 16 * k → getD buf j 0 ≡ pick (eqb (mark-of marks (at + j / 2)) 0) (getD buf₀ j 0) 0)
+    × ((j : ℕ) → 16 * k ≤ j → getD buf j 0 ≡ getD buf₀ j 0)
 
 abbrev μ-loop : tie.MeasureT-loop
 μ-loop buf₀ marks at k₀ buf k = 32 - k
@@ -43,11 +45,12 @@ loop-again : tie.Need-loop-again Inv-loop μ-loop
 loop-again c =
     let a = c .before .before .before .before .before .before .before .before .before .args in
     let o = c .before .before .before .before .before .before .loop in
+    let whole = c .before .before .before .before .before .before .before .before .before .pre .1 in
     let e = c .before .before .clear-eight .ensures in (
       search needs,
       search needs,
       λ j h. ⊎-elim
-          (λ q. (rw (mark-in (a .marks .now) (a .at) (o .k) j (c .before .before .before .before .before .before .before .before .before .pre .1) q, o .inv .3 j (omega arith)) at (e .0 j q)))
+          (λ q. (rw (mark-in (a .marks .now) (a .at) (o .k) j whole q, o .inv .3 j (omega arith)) at (e .0 j q)))
           (λ ne. e .1 j ne ∙ o .inv .2 j (omega arith)) (same? (j / 16) (o .k)),
       λ j h. e .1 j (λ q. omega arith) ∙ o .inv .3 j (omega arith),
     )
