@@ -18,7 +18,7 @@ help:
 	@echo 'make lfat    build the command line, $(LFAT)'
 	@echo 'make loader  build examples/loader.c, $(LOADER)'
 	@echo 'make cases   the random tests of the library, N times as many: make cases N=10'
-	@echo 'make test    the gate, .ci/run: proves everything from nothing (15 minutes)'
+	@echo 'make test    the gate, .ci/run: proves everything from nothing (15 to 21 minutes)'
 	@echo 'make clean   remove what cargo, gcc and make run have made; proofs and library stay'
 
 # rt proves only what has changed; from nothing it takes a while.
