@@ -50,15 +50,17 @@ fn number_of(r: Outcome) -> u64
 pub extern "C" fn lfat_create(card: &mut [u8], name: &[u8], limit: u32) -> u64
     ensures { λ r. ⌜ Called limit (create (window-of (now (card .entry))) (view (now (name .entry)))) (now (card .entry)) (now (card .exit)) r ⌝ }
 {
-    number_of(directory::create(card, name, limit))
+    number_of(call_create::create(card, name, limit))
 }
 
 // Bytes at a file's end.
 #[no_mangle]
 pub extern "C" fn lfat_append(card: &mut [u8], name: &[u8], bytes: &[u8], limit: u32) -> u64
-    ensures { λ r. ⌜ Called limit (append (window-of (now (card .entry))) (view (now (name .entry))) (view (now (bytes .entry)))) (now (card .entry)) (now (card .exit)) r ⌝ }
+    ensures { λ r. ⌜
+        Called limit (append (window-of (now (card .entry))) (view (now (name .entry))) (view (now (bytes .entry)))) (now (card .entry))
+        (now (card .exit)) r ⌝ }
 {
-    number_of(appending::append(card, name, bytes, limit))
+    number_of(call_append::append(card, name, bytes, limit))
 }
 
 // The file's first `size` bytes are kept.
@@ -66,7 +68,7 @@ pub extern "C" fn lfat_append(card: &mut [u8], name: &[u8], bytes: &[u8], limit:
 pub extern "C" fn lfat_truncate(card: &mut [u8], name: &[u8], size: u64, limit: u32) -> u64
     ensures { λ r. ⌜ Called limit (truncate (window-of (now (card .entry))) (view (now (name .entry))) size) (now (card .entry)) (now (card .exit)) r ⌝ }
 {
-    number_of(truncation::truncate(card, name, size, limit))
+    number_of(call_truncate::truncate(card, name, size, limit))
 }
 
 // The file goes, and its clusters are free.
@@ -74,15 +76,16 @@ pub extern "C" fn lfat_truncate(card: &mut [u8], name: &[u8], size: u64, limit: 
 pub extern "C" fn lfat_delete(card: &mut [u8], name: &[u8], limit: u32) -> u64
     ensures { λ r. ⌜ Called limit (delete (window-of (now (card .entry))) (view (now (name .entry)))) (now (card .entry)) (now (card .exit)) r ⌝ }
 {
-    number_of(truncation::delete(card, name, limit))
+    number_of(call_truncate::delete(card, name, limit))
 }
 
 // The file gets another name.
 #[no_mangle]
 pub extern "C" fn lfat_rename(card: &mut [u8], old: &[u8], new: &[u8], limit: u32) -> u64
-    ensures { λ r. ⌜ Called limit (rename (window-of (now (card .entry))) (view (now (old .entry))) (view (now (new .entry)))) (now (card .entry)) (now (card .exit)) r ⌝ }
+    ensures { λ r. ⌜
+        Called limit (rename (window-of (now (card .entry))) (view (now (old .entry))) (view (now (new .entry)))) (now (card .entry)) (now (card .exit)) r ⌝ }
 {
-    number_of(directory::rename(card, old, new, limit))
+    number_of(call_create::rename(card, old, new, limit))
 }
 
 // Finishes or drops what a cut has left, so that the card is clean again.
@@ -90,7 +93,7 @@ pub extern "C" fn lfat_rename(card: &mut [u8], old: &[u8], new: &[u8], limit: u3
 pub extern "C" fn lfat_recover(card: &mut [u8], limit: u32) -> u64
     ensures { λ r. ⌜ Called limit (recover (window-of (now (card .entry)))) (now (card .entry)) (now (card .exit)) r ⌝ }
 {
-    number_of(recovery::recover(card, limit))
+    number_of(call_recover::recover(card, limit))
 }
 
 // Copies the entries of the root directory into the buffer, 32 bytes each, as many as fit; counts how many there are.
@@ -98,13 +101,15 @@ pub extern "C" fn lfat_recover(card: &mut [u8], limit: u32) -> u64
 pub extern "C" fn lfat_list(card: &[u8], buffer: &mut [u8]) -> u64
     ensures { λ r. ⌜ Answered (list (window-of (now (card .entry))) (length (now (buffer .entry)))) (now (buffer .entry)) (now (buffer .exit)) r ⌝ }
 {
-    number_of(reading::list(card, buffer))
+    number_of(call_read::list(card, buffer))
 }
 
 // Copies a file's bytes from an offset on into the buffer; counts how many.
 #[no_mangle]
 pub extern "C" fn lfat_read(card: &[u8], name: &[u8], offset: u64, buffer: &mut [u8]) -> u64
-    ensures { λ r. ⌜ Answered (read (window-of (now (card .entry))) (view (now (name .entry))) offset (length (now (buffer .entry)))) (now (buffer .entry)) (now (buffer .exit)) r ⌝ }
+    ensures { λ r. ⌜
+        Answered (read (window-of (now (card .entry))) (view (now (name .entry))) offset (length (now (buffer .entry)))) (now (buffer .entry))
+        (now (buffer .exit)) r ⌝ }
 {
-    number_of(reading::read(card, name, offset, buffer))
+    number_of(call_read::read(card, name, offset, buffer))
 }

@@ -9,8 +9,8 @@ use lib.Dec.{ltb}
 use borrow.Author.Tests.{lt-ltb, le-ltb}
 use Rattle.model.specs.Bytes.{Span}
 use Rattle.model.proofs.Scan.{Sofar, sofar-more, sofar-none, first-is, first-none}
-use Rattle.text.specs.Wrote.{Wrote}
-use Rattle.text.proofs.Buffer.{wrote-none, wrote-then}
+use Rattle.listing_text.specs.Wrote.{Wrote}
+use Rattle.listing_text.proofs.Buffer.{wrote-none, wrote-then}
 use Rattle.listing.specs.Pieces.{pieces, piece, text-from, next-piece, Filled}
 use Rattle.listing.proofs.Whole.{text-none, text-more}
 
@@ -32,7 +32,8 @@ module _ (t : Span) (from : ℕ) (e x : List ℕ) (at i : ℕ) where
       let a : i + 1 - from ≡ k + 1 = omega (arith, u .low) in
       let b : from + k ≡ i = omega (arith, u .low) in
       let n : at ≡ 0 + length (text-from t from k) = u .wrote .ends in
-      let z : text-from t from (i + 1 - from) ≡ text-from t from k ++ piece t i = ap (text-from t from) a ∙ text-more t from k ∙ ap (λ (q : ℕ). text-from t from k ++ piece t q) b in
+      let z : text-from t from (i + 1 - from) ≡ text-from t from k ++ piece t i = ap (text-from t from) a ∙ text-more t from k
+      ∙ ap (λ (q : ℕ). text-from t from k ++ piece t q) b in
       record {
         low = omega (arith, u .low);
         wrote = rw z (wrote-then (text-from t from k) (piece t i) e x y 0 at r (u .wrote) w);

@@ -8,7 +8,7 @@ use Rattle.model.specs.Bytes.{Bytes, Span, pick, part}
 use Rattle.model.specs.Scan.{first-from, range}
 use Rattle.model.specs.Text.{ascii, decimal, join, line}
 use Rattle.model.specs.Listing.{record-line, has-line, is-table}
-use Rattle.text.specs.Wrote.{Wrote}
+use Rattle.listing_text.specs.Wrote.{Wrote}
 
 unfoldable pub heading : Span → List ℕ
 heading t = pick (is-table t) (line (ascii "log" ∷ decimal (t .size / 512) ∷ ascii "sectors" ∷ [])) (line (ascii "not a log" ∷ []))

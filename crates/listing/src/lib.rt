@@ -4,7 +4,7 @@ ghost use Prim.Native.Nat.{_+_, _*_, _≤_, _<_};
 ghost use lib.ListN.{length};
 ghost use Rattle.model.specs.Bytes.{view, bytes-of};
 ghost use Rattle.model.specs.Listing.{is-table};
-ghost use Rattle.text.specs.Wrote.{Wrote};
+ghost use Rattle.listing_text.specs.Wrote.{Wrote};
 ghost use Rattle.listing.specs.Pieces.{heading, record-text, pieces, piece, Filled};
 
 // How many bytes of text were written, and the piece that is next.
@@ -41,10 +41,10 @@ fn put_heading(out: &mut [u8], at: usize, table: &[u8]) -> usize
 {
     if is_table(table) {
         let sectors = (table.len() / 512) as u32;
-        let end = text::put_field(out, at, b"log ", sectors);
-        return text::put_text(out, end, b" sectors\n");
+        let end = listing_text::put_field(out, at, b"log ", sectors);
+        return listing_text::put_text(out, end, b" sectors\n");
     }
-    text::put_text(out, at, b"not a log\n")
+    listing_text::put_text(out, at, b"not a log\n")
 }
 
 // The line of record k, if it has one.
@@ -56,7 +56,7 @@ fn put_line(out: &mut [u8], at: usize, table: &[u8], k: u32) -> usize
     if sector::byte(table, k / 16, 32 * (k % 16)) == 0 {
         return at;
     }
-    line::put_record(out, at, table, k)
+    listing_line::put_record(out, at, table, k)
 }
 
 // Piece i of the text. None has more than 119 bytes.

@@ -66,7 +66,8 @@ module _ (xs ys : List ℕ) (s : ℕ) (h : 512 * s + 512 ≤ length xs) (w : len
           ∙ ap (λ (b : Bytes). b j) (sym (clip-clip (bytes-of ys)) ∙ sym (put-in (card-of xs) (store s (bytes-of ys)) t e))
 
       low : (t ≡ s → ⊥) → t < s → getD came-back (512 * t + j % 512) 0 ≡ stored t j
-      low ne l = back-below xs ys (512 * s) 512 h w (512 * t + j % 512) (omega arith) ∙ ap (λ (b : Bytes). b j) (sym (put-out (card-of xs) (store s (bytes-of ys)) t ne))
+      low ne l = back-below xs ys (512 * s) 512 h w (512 * t + j % 512) (omega arith)
+          ∙ ap (λ (b : Bytes). b j) (sym (put-out (card-of xs) (store s (bytes-of ys)) t ne))
 
       high : (t ≡ s → ⊥) → s ≤ t → getD came-back (512 * t + j % 512) 0 ≡ stored t j
       high ne l =

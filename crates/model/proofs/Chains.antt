@@ -99,14 +99,16 @@ pub apart-low : (k r per q i : ℕ) → k < r → q < per → k * per + q < r * 
 apart-low k r per q i less small = let m : suc k * per ≤ r * per = mul-le-mul-right per less in omega arith
 
 -- A sector tells its cluster.
-sector-cluster : (l : Layout) (k m q r : ℕ) → 2 ≤ k → 2 ≤ m → q < l .factor → r < l .factor → cluster-sector l k + q ≡ cluster-sector l m + r → (k ≡ m) × (q ≡ r)
+sector-cluster : (l : Layout) (k m q r : ℕ) → 2 ≤ k → 2 ≤ m → q < l .factor → r < l .factor → cluster-sector l k + q ≡ cluster-sector l m + r
+    → (k ≡ m) × (q ≡ r)
 unfolding cluster-sector
 sector-cluster l k m q r a b x y e = go (less? k m) (less? m k)
   where
     go : (k < m) ⊎ (m ≤ k) → (m < k) ⊎ (k ≤ m) → (k ≡ m) × (q ≡ r)
     go (inl h) g = let z = apart-low (k - 2) (m - 2) (l .factor) q r (omega arith) x in absurd (omega arith)
     go (inr h) (inl g) = let z = apart-low (m - 2) (k - 2) (l .factor) r q (omega arith) y in absurd (omega arith)
-    go (inr h) (inr g) = let s : k ≡ m = omega arith in (s, (let t : (k - 2) * l .factor ≡ (m - 2) * l .factor = ap (λ k. (k - 2) * l .factor) s in omega arith))
+    go (inr h) (inr g) = let s : k ≡ m = omega arith in
+        (s, (let t : (k - 2) * l .factor ≡ (m - 2) * l .factor = ap (λ k. (k - 2) * l .factor) s in omega arith))
 
 -- Two sectors of files, along clusters from 2 on, that are the same sector.
 pub meet : (l : Layout) → 1 ≤ l .factor → (ks ms : List ℕ) (q r : ℕ) → All (λ k. 2 ≤ k) ks → All (λ k. 2 ≤ k) ms

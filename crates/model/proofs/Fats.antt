@@ -12,7 +12,8 @@ use borrow.Author.Tests.{eqb-true, eq-eqb, not-false, ne-eqb}
 use Rattle.model.specs.Bytes.{Bytes, le, patch, byte-of, pick}
 use Rattle.model.specs.Scan.{any}
 use Rattle.model.specs.Sector.{clip, Card, Store, store, after}
-use Rattle.model.specs.Fat.{same, fats-agree, fat1-of, fat2-of, Fat, write-fat, differing, wide-entry, set-wide-entry, entry, set-entry, is-reserved, release, link, is-free}
+use Rattle.model.specs.Fat.{same, fats-agree, fat1-of, fat2-of, Fat, write-fat, differing, wide-entry, set-wide-entry, entry, set-entry, is-reserved}
+use Rattle.model.specs.Fat.{release, link, is-free}
 use Rattle.model.specs.Log.{marked}
 use Rattle.model.specs.declared.Layout.{Layout}
 use Rattle.model.proofs.Tests.{told, by-pick, less?, same?}
@@ -55,14 +56,17 @@ module _ (l : Layout) (at : ℕ) (new old : Fat) where
   unfolding write-fat differing
   write-covers s less = go (told (not (same (new s) (old s))))
     where
-      go : (not (same (new s) (old s)) ≡ true) ⊎ (not (same (new s) (old s)) ≡ false) → Covers (at + s) (map (λ s. store (at + s) (new s)) (differing l new old)) ⊎ (clip (new s) ≡ clip (old s))
-      go (inl e) = inl (covers-image (λ k. store (at + k) (new k)) (at + s) s (differing l new old) refl (indices-has0 (λ s. not (same (new s) (old s))) (l .fatsize) s less e))
+      go : (not (same (new s) (old s)) ≡ true) ⊎ (not (same (new s) (old s)) ≡ false)
+          → Covers (at + s) (map (λ s. store (at + s) (new s)) (differing l new old)) ⊎ (clip (new s) ≡ clip (old s))
+      go (inl e) = inl (covers-image (λ k. store (at + k) (new k)) (at + s) s (differing l new old) refl
+          (indices-has0 (λ s. not (same (new s) (old s))) (l .fatsize) s less e))
       go (inr e) = inr (same-clip (new s) (old s) (not-false (same (new s) (old s)) e))
 
   -- After the stores a sector is as in the new FAT, on a card that has the old one.
   pub write-done : (x : Card) (s : ℕ) → s < l .fatsize → clip (old s) ≡ x (at + s) → after (write-fat l at new old) x (at + s) ≡ clip (new s)
   write-done x s less o = after-is (at + s) (clip (new s)) (write-fat l at new old) x
-      (write-all (λ st. at + s ≡ st .sector → clip (st .bytes) ≡ clip (new s)) (λ k less e. let i : k ≡ s = omega arith in clip-clip (new k) ∙ ap (λ k. clip (new k)) i))
+      (write-all (λ st. at + s ≡ st .sector → clip (st .bytes) ≡ clip (new s))
+      (λ k less e. let i : k ≡ s = omega arith in clip-clip (new k) ∙ ap (λ k. clip (new k)) i))
       (⊎-elim (λ k. inl k) (λ e. inr (sym o ∙ sym e)) (write-covers s less))
 
   -- No store where nothing differs.
@@ -159,7 +163,8 @@ link-marks (k ∷ (m ∷ ks)) f a j =
     let less : m < 0xFFF6 = a .1 .0 .0 in
     let kept : (i : ℕ) → marked (set-entry k m f) i ≡ marked f i = mark-kept k m f (omega arith) (ne-eqb m 0xFFF6 (λ q. omega arith)) (a .0 .1) in
     link-marks (m ∷ ks) (set-entry k m f)
-    (all-map (λ i. (i < 0xFFF6) × (marked f i ≡ false)) (λ i. (i < 0xFFF6) × (marked (set-entry k m f) i ≡ false)) (λ i q. (q .0, kept i ∙ q .1)) (m ∷ ks) (a .1)) j
+    (all-map (λ i. (i < 0xFFF6) × (marked f i ≡ false)) (λ i. (i < 0xFFF6) × (marked (set-entry k m f) i ≡ false)) (λ i q. (q .0, kept i ∙ q .1))
+    (m ∷ ks) (a .1)) j
     ∙ kept j
 
 -- ---- free clusters
@@ -195,7 +200,8 @@ link-free (k ∷ []) f a j = set-free k 0xFFFF f (omega arith) j ∙ go (eqb j k
 link-free (k ∷ (m ∷ ks)) f a j =
     let two : 2 ≤ m = a .1 .0 .0 in
     let fits : m < 65536 = a .1 .0 .1 in
-    let here : free (set-entry k m f) j ≡ pick (eqb j k) false (free f j) = set-free k m f fits j ∙ ap (λ b. pick (eqb j k) b (free f j)) (ne-eqb m 0 (λ q. omega arith)) in
+    let here : free (set-entry k m f) j ≡ pick (eqb j k) false (free f j) = set-free k m f fits j
+    ∙ ap (λ b. pick (eqb j k) b (free f j)) (ne-eqb m 0 (λ q. omega arith)) in
     link-free (m ∷ ks) (set-entry k m f) (a .1) j ∙ ap (λ b. b && not (has (m ∷ ks) j)) here ∙ go (eqb j k) (has (m ∷ ks) j) (free f j)
   where
     go : (a b x : Bool) → (pick a false x && not b) ≡ (x && not (a || b))

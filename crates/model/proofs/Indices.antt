@@ -155,4 +155,5 @@ counted i n (k ∷ ks) d a =
     omega arith
 
 pub pigeon : (i n : ℕ) (ks : List ℕ) → Distinct ks → All (λ k. (i ≤ k) × (k < i + n)) ks → length ks ≤ n
-pigeon i n ks d a = let r : length ks ≤ count-from (has ks) i n = counted i n ks d a in let s : count-from (has ks) i n ≤ n = count-le (has ks) i n in omega arith
+pigeon i n ks d a = let r : length ks ≤ count-from (has ks) i n = counted i n ks d a in let s : count-from (has ks) i n ≤ n = count-le (has ks) i n in
+    omega arith

@@ -36,9 +36,11 @@ pub overlay-next : (p : Bytes) (e x y : List ℕ) (i m : ℕ) → ((j : ℕ) →
     → ((j : ℕ) → getD y j 0 ≡ overlay m (part p i) i (bytes-of x) j) → (j : ℕ) → getD y j 0 ≡ overlay (i + m) p 0 (bytes-of e) j
 overlay-next p e x y i m so next j =
     ⊎-elim
-    (λ l. next j ∙ overlay-below (part p i) i (bytes-of x) m j l ∙ so j ∙ overlay-in p 0 (bytes-of e) i j (omega arith) (omega arith) ∙ sym (overlay-in p 0 (bytes-of e) (i + m) j (omega arith) (omega arith)))
+    (λ l. next j ∙ overlay-below (part p i) i (bytes-of x) m j l ∙ so j ∙ overlay-in p 0 (bytes-of e) i j (omega arith) (omega arith)
+    ∙ sym (overlay-in p 0 (bytes-of e) (i + m) j (omega arith) (omega arith)))
     (λ l. ⊎-elim
     (λ u. next j ∙ overlay-in (part p i) i (bytes-of x) m j l u ∙ ap p (omega arith) ∙ sym (overlay-in p 0 (bytes-of e) (i + m) j (omega arith) (omega arith)))
-    (λ u. next j ∙ overlay-above (part p i) i (bytes-of x) m j u ∙ so j ∙ overlay-above p 0 (bytes-of e) i j (omega arith) ∙ sym (overlay-above p 0 (bytes-of e) (i + m) j (omega arith)))
+    (λ u. next j ∙ overlay-above (part p i) i (bytes-of x) m j u ∙ so j ∙ overlay-above p 0 (bytes-of e) i j (omega arith)
+    ∙ sym (overlay-above p 0 (bytes-of e) (i + m) j (omega arith)))
     (less? j (i + m)))
     (less? j i)

@@ -1,4 +1,5 @@
--- A `match` on a number with ranges, against a Bool of specs/: each return asks it on an interval without the single numbers among the patterns, or of those numbers.
+-- A `match` on a number with ranges, against a Bool of specs/: each return asks it on an interval without the single numbers among
+-- the patterns, or of those numbers.
 use mathlib.Core.Path.{_≡_, refl, sym}
 use mathlib.Core.Logic.{inl, inr}
 use mathlib.Core.Bool.{Bool, true, false, _&&_, _||_, not}
@@ -31,7 +32,8 @@ or-left v a ks b h ne = go (like v a) refl (hasKey ks b) refl
 
 module _ (p : ℕ → Bool) (v : Bool) where
   -- p is v at each of the n numbers from lo but for those of ks, by a test that computes
-  pub ranged : (ks : List ℕ) (lo n : ℕ) → all (λ k. like v (p (lo + k)) || hasKey ks (lo + k)) n ≡ true → (b : ℕ) → (OneOf ks b → ⊥) → lo ≤ b → b < lo + n → p b ≡ v
+  pub ranged : (ks : List ℕ) (lo n : ℕ) → all (λ k. like v (p (lo + k)) || hasKey ks (lo + k)) n ≡ true → (b : ℕ) → (OneOf ks b → ⊥) → lo ≤ b
+      → b < lo + n → p b ≡ v
   ranged ks lo n t b ne l h =
       let e : lo + (b - lo) ≡ b = omega arith in
       or-left v (p b) ks b (rw e at (all-at (λ k. like v (p (lo + k)) || hasKey ks (lo + k)) 0 n t (b - lo) (omega arith) (omega arith))) ne

@@ -9,7 +9,8 @@ use borrow.Author.Tests.{leb-true, eqb-true, not-false, ltb-true, ne-eqb, eqb-fa
 use Rattle.model.specs.Bytes.{Bytes, byte-of, le, Span, part}
 use Rattle.model.specs.Scan.{between, first}
 use Rattle.model.specs.Sector.{Card}
-use Rattle.model.specs.Root.{name-byte, padded, stem-length, name-ok, name-in, vacant, listed, is-label, first-bytes, find, slot-at, lowest-slot, bears, same-name, free-slot, end-slot, root-ok}
+use Rattle.model.specs.Root.{name-byte, padded, stem-length, name-ok, name-in, vacant, listed, is-label, first-bytes, find, slot-at, lowest-slot}
+use Rattle.model.specs.Root.{bears, same-name, free-slot, end-slot, root-ok}
 use Rattle.model.specs.declared.Layout.{Layout}
 use Rattle.model.specs.declared.Name.{Name}
 use Rattle.model.proofs.Tests.{any-elim, between-true, and-left, and-right, told, every-at, or-left, less?, clash}
@@ -29,7 +30,19 @@ Printed b = (33 ≤ b) × (b ≤ 126)
 name-byte-in : (b : ℕ) → name-byte b ≡ true → Printed b
 unfolding name-byte
 name-byte-in b h =
-    any-elim _ (one 33 refl, (many 35 41 refl, (one 45 refl, (many 48 57 refl, (many 64 90 refl, (many 94 96 refl, (one 123 refl, (one 125 refl, (one 126 refl, tt))))))))) h
+    any-elim _ (
+      one 33 refl,
+      (
+        many 35 41 refl,
+        (
+          one 45 refl,
+          (
+            many 48 57 refl,
+            (many 64 90 refl, (many 94 96 refl, (one 123 refl, (one 125 refl, (one 126 refl, tt))))),
+          ),
+        ),
+      ),
+    ) h
   where
     many : (lo hi : ℕ) → (leb 33 lo && leb hi 126) ≡ true → between lo hi b ≡ true → Printed b
     many lo hi t e =
@@ -122,11 +135,13 @@ module _ (l : Layout) (c : Card) where
 
   pub free-low : free-slot l c ≤ end-slot (l .entries) (first-bytes l c)
   unfolding lowest-slot end-slot vacant
-  free-low = rw (free-slot-is l c) (first-mono (λ k. eqb (slot-at l c k 0) 0) (λ k. vacant (slot-at l c k)) 0 (l .entries) (λ k e. or-left (eqb (slot-at l c k 0) 0) (eqb (slot-at l c k 0) 0xE5) e))
+  free-low = rw (free-slot-is l c) (first-mono (λ k. eqb (slot-at l c k 0) 0) (λ k. vacant (slot-at l c k)) 0 (l .entries)
+      (λ k e. or-left (eqb (slot-at l c k 0) 0) (eqb (slot-at l c k 0) 0xE5) e))
 
   -- A live slot is not above the lowest beginning 0, and is not free.
   pub live-low : root-ok (l .entries) (first-bytes l c) ≡ true → (s : ℕ) → Live l c s → s ≤ end-slot (l .entries) (first-bytes l c)
-  live-low h s a = ⊎-elim (λ r. absurd (starts-not-zero (first-bytes l c s) (a .begins) (ordered (l .entries) (first-bytes l c) h .above s r (a .in-root)))) (λ r. r)
+  live-low h s a = ⊎-elim (λ r. absurd (starts-not-zero (first-bytes l c s) (a .begins)
+      (ordered (l .entries) (first-bytes l c) h .above s r (a .in-root)))) (λ r. r)
       (less? (end-slot (l .entries) (first-bytes l c)) s)
 
   pub live-not-free : (s : ℕ) → Live l c s → free-slot l c < l .entries → s ≡ free-slot l c → ⊥

@@ -1,6 +1,7 @@
 -- Laws of little-endian numbers of n bytes: how they are made up, what they depend on, and that what is written is read back.
 use Prim.Native.Nat.{ℕ, zero, suc, _+_, _-_, _*_, _/_, _%_, _^_, _<_, _≤_}
-use native.Mathlib.Nat.{add-zero, zero-add, suc-add, mul-assoc, mul-comm, one-mul, pow-suc, pow-zero, mod-one, div-one, mod-eq-of-lt, div-div-eq-div-mul, zero-lt-suc, one-le-pow}
+use native.Mathlib.Nat.{add-zero, zero-add, suc-add, mul-assoc, mul-comm, one-mul, pow-suc, pow-zero, mod-one, div-one, mod-eq-of-lt, div-div-eq-div-mul}
+use native.Mathlib.Nat.{zero-lt-suc, one-le-pow}
 use native.Mathlib.Numerals.{add-one}
 use native.Mathlib.Omega.{arith}
 use lib.Arith.{mod-mul}
@@ -43,7 +44,8 @@ le-shift (suc n) b d i j h =
     let e : i ≡ i + 0 = omega arith in
     let f : j ≡ j + 0 = omega arith in
     let here : b i ≡ d j = ap b e ∙ h 0 (omega arith) ∙ ap d (sym f) in
-    let rest : le n b (i + 1) ≡ le n d (j + 1) = le-shift n b d (i + 1) (j + 1) (λ k l. let e : i + 1 + k ≡ i + suc k = omega arith in let f : j + 1 + k ≡ j + suc k = omega arith in rw (e, f) (h (suc k) (omega arith))) in
+    let rest : le n b (i + 1) ≡ le n d (j + 1) = le-shift n b d (i + 1) (j + 1)
+    (λ k l. let e : i + 1 + k ≡ i + suc k = omega arith in let f : j + 1 + k ≡ j + suc k = omega arith in rw (e, f) (h (suc k) (omega arith))) in
     rw (le-suc n b, le-suc n d, here, rest)
 
 -- ---- bytes laid over others

@@ -39,7 +39,8 @@ module _ (p : Bytes) (at : ℕ) (b : Bytes) where
       (less? i at)
 
 -- one byte more
-pub overlay-more : (p : Bytes) (e out : List ℕ) (at k v : ℕ) → at + k < length out → v ≡ p k → ((i : ℕ) → getD out i 0 ≡ overlay k p at (bytes-of e) i) → (i : ℕ) → getD (set out (at + k) v) i 0 ≡ overlay (k + 1) p at (bytes-of e) i
+pub overlay-more : (p : Bytes) (e out : List ℕ) (at k v : ℕ) → at + k < length out → v ≡ p k
+    → ((i : ℕ) → getD out i 0 ≡ overlay k p at (bytes-of e) i) → (i : ℕ) → getD (set out (at + k) v) i 0 ≡ overlay (k + 1) p at (bytes-of e) i
 overlay-more p e out at k v l is inv i =
     ⊎-elim
     (λ q.

@@ -13,7 +13,8 @@ use Rattle.model.specs.Scan.{every, first, between}
 use Rattle.model.specs.Sector.{clip}
 use Rattle.model.specs.Log.{Log}
 use Rattle.model.specs.Record.{pends, tells, committed, record-bytes, record-of, encode, lay, records, group-size, record-at, operation-of, group-in}
-use Rattle.model.specs.Pending.{pending-in, first-pending, pending-at, accepted, slot-ok, record-ok, pair-ok, alike, records-ok, empty-from, group-ok, alone}
+use Rattle.model.specs.Pending.{pending-in, first-pending, pending-at, accepted, slot-ok, record-ok, pair-ok, alike, records-ok, empty-from, group-ok}
+use Rattle.model.specs.Pending.{alone}
 use Rattle.model.specs.declared.Area.{Area}
 use Rattle.model.specs.declared.Name.{Name}
 use Rattle.model.specs.declared.Entry.{Entry}
@@ -75,7 +76,8 @@ module _ (entries z : ℕ) (a : Area) (g : Log) where
   calm-quiet h i less r small =
       let row : (16 * i + r) / 16 ≡ i = omega arith in
       let col : (16 * i + r) % 16 ≡ r = omega arith in
-      rw (row, col) at (first-before0 (pending-at g) (16 * a .sectors) (16 * i + r) (let past = go (told (ltb (first (pending-at g) (16 * a .sectors)) (16 * a .sectors))) in omega arith))
+      rw (row, col) at (first-before0 (pending-at g) (16 * a .sectors) (16 * i + r)
+      (let past = go (told (ltb (first (pending-at g) (16 * a .sectors)) (16 * a .sectors))) in omega arith))
     where
       never : (t : Bool) (x : ℕ) → pick t (Pending.Held x) Pending.Broken ≡ Pending.Nothing → ⊥
       never true x e = let z : _≡_ {A = ℕ} 0 1 = cc in omega arith
@@ -97,7 +99,8 @@ module _ (entries z : ℕ) (a : Area) (g : Log) where
       rw (le-ltb (first (pending-at g) (16 * a .sectors)) (16 * a .sectors) past)
 
   -- A pending group stands in a sector of the log.
-  pub group-place : (x : ℕ) → pending-in entries z a g ≡ Pending.Held x → (i : ℕ) × (i < a .sectors) × (x ≡ a .sector + i) × (accepted entries z (a .sectors) g (16 * i) ≡ true)
+  pub group-place : (x : ℕ) → pending-in entries z a g ≡ Pending.Held x
+      → (i : ℕ) × (i < a .sectors) × (x ≡ a .sector + i) × (accepted entries z (a .sectors) g (16 * i) ≡ true)
   unfolding pending-in
   group-place x h = go (told (ltb j (16 * a .sectors)))
     where
@@ -162,7 +165,8 @@ module _ (n z : ℕ) (rs : ℕ → Record) (h : records-ok n z rs ≡ true) wher
   records-up : (y : ℕ) → z ≤ y → records-ok n y rs ≡ true
   unfolding records-ok record-ok pair-ok
   records-up y le =
-      each-every _ (each-every _ (every-at _ (every-at _ h 0) 0 also every-at _ (every-at _ h 0) 1 also every-at _ (every-at _ h 0) 2 also every-at _ (every-at _ h 0) 3
+      each-every _ (each-every _ (every-at _ (every-at _ h 0) 0 also every-at _ (every-at _ h 0) 1 also every-at _ (every-at _ h 0) 2 also every-at _
+      (every-at _ h 0) 3
       also every-at _ (every-at _ h 0) 4 also slot-up n z y (rs 0 .slot) le (every-at _ (every-at _ h 0) 5) also tt)
       also go (told (eqb (group-size rs) 1)) also tt)
     where
@@ -177,7 +181,8 @@ pub recorded-up : (n z y : ℕ) (o : Operation) → z ≤ y → Recorded n z o �
 recorded-up n z y o le w = (records-up n z (listed (records o)) (w .0) y le, w .1)
 
 -- What each operation supplies.
-record-fine : (n z : ℕ) (e : Entry) (number k from size : ℕ) → between 1 5 number ≡ true → from < 65536 → Seat n z (e .slot) → record-ok n z (record-of e number k from size) ≡ true
+record-fine : (n z : ℕ) (e : Entry) (number k from size : ℕ) → between 1 5 number ≡ true → from < 65536 → Seat n z (e .slot)
+    → record-ok n z (record-of e number k from size) ≡ true
 unfolding record-ok record-of
 record-fine n z e number k from size op small seat =
     each-every _ (op also refl also refl also refl also lt-ltb from 65536 small also slot-read n z (e .slot) seat also tt)
@@ -198,11 +203,13 @@ pub recorded-truncate : (n z : ℕ) (e : Entry) (k from size : ℕ) → Seat n z
 unfolding records-ok records record-of group-size between
 recorded-truncate n z e k from size w f = (each-every _ (record-fine n z e 4 k from size refl f w also refl also tt), tt)
 
-pub recorded-rename : (n z : ℕ) (e : Entry) (k size to : ℕ) (renamed : Name) → Seat n z (e .slot) → Seat n z to → (e .slot ≡ to → ⊥) → starts (byte-of (renamed .stem) 0) ≡ true
+pub recorded-rename : (n z : ℕ) (e : Entry) (k size to : ℕ) (renamed : Name) → Seat n z (e .slot) → Seat n z to → (e .slot ≡ to → ⊥)
+    → starts (byte-of (renamed .stem) 0) ≡ true
     → Recorded n z (Rename e k size to renamed)
 unfolding records-ok records record-of group-size between pair-ok alike
 recorded-rename n z e k size to renamed w v ne live =
-    let same = each-every _ (eq-eqb (e .attributes) (e .attributes) refl also refl also refl also refl also refl also eq-eqb k k refl also eq-eqb size size refl also tt) in (
+    let same = each-every _ (eq-eqb (e .attributes) (e .attributes) refl also refl also refl also refl also refl also eq-eqb k k refl also eq-eqb size
+    size refl also tt) in (
       each-every _ (record-fine n z e 5 k 0 size refl (omega arith) w
           also each-every _ (same also slot-read n z to v also ap not (ne-eqb (e .slot) to ne) also tt) also tt),
       (live, tt),
@@ -242,12 +249,14 @@ some-record (Truncate e k from size) = omega arith
 some-record (Rename e k size to renamed) = omega arith
 
 -- All records of a group are pending.
-later-starts : (rs : List Record) (k : ℕ) → 1 ≤ k → k < length rs → All (λ r. starts (byte-of (r .name .stem) 0) ≡ true) (drop 1 rs) → starts (byte-of (listed rs k .name .stem) 0) ≡ true
+later-starts : (rs : List Record) (k : ℕ) → 1 ≤ k → k < length rs → All (λ r. starts (byte-of (r .name .stem) 0) ≡ true) (drop 1 rs)
+    → starts (byte-of (listed rs k .name .stem) 0) ≡ true
 later-starts [] k lo less a = absurd (omega arith)
 later-starts (r ∷ rs) zero lo less a = absurd (omega arith)
 later-starts (r ∷ rs) (suc k) lo less a = go rs k (omega arith) a
   where
-    go : (rs : List Record) (k : ℕ) → k < length rs → All (λ r. starts (byte-of (r .name .stem) 0) ≡ true) rs → starts (byte-of (listed rs k .name .stem) 0) ≡ true
+    go : (rs : List Record) (k : ℕ) → k < length rs → All (λ r. starts (byte-of (r .name .stem) 0) ≡ true) rs
+        → starts (byte-of (listed rs k .name .stem) 0) ≡ true
     go [] k less a = absurd (omega arith)
     go (r ∷ rs) zero less a = a .0
     go (r ∷ rs) (suc k) less a = go rs k (omega arith) (a .1)
@@ -274,7 +283,8 @@ group-fine n z o h named w =
     rw (clip-size o h)
     (each-every _ (clip-ok n z o h ∙ w .0
     also all-of0 (pends (clip (encode o))) (length (records o)) (record-pends n z o named w)
-    also empty-clip (32 * length (records o)) (encode o) ∙ all-of (λ j. eqb (encode o j) 0) (32 * length (records o)) (512 - 32 * length (records o)) (λ j lo hi. eq-eqb (encode o j) 0 (encode-after o j lo))
+    also empty-clip (32 * length (records o)) (encode o)
+    ∙ all-of (λ j. eqb (encode o j) 0) (32 * length (records o)) (512 - 32 * length (records o)) (λ j lo hi. eq-eqb (encode o j) 0 (encode-after o j lo))
     also tt))
 
 named-pends : (o : Operation) → Named o → pends (clip (encode o)) 0 ≡ true
@@ -319,7 +329,8 @@ module _ (entries z : ℕ) (a : Area) (g : Log) (u : ℕ) (o : Operation) (h : S
       own : ℕ → Bool
       own k = leb (16 * u) k && ltb k (16 * u + length (records o))
 
-      go : (k : ℕ) → k < 16 * a .sectors → (k / 16 ≡ u) ⊎ (k / 16 ≡ u → ⊥) → (k < 16 * u + length (records o)) ⊎ (16 * u + length (records o) ≤ k) → (own k || not (pending-at g k)) ≡ true
+      go : (k : ℕ) → k < 16 * a .sectors → (k / 16 ≡ u) ⊎ (k / 16 ≡ u → ⊥) → (k < 16 * u + length (records o)) ⊎ (16 * u + length (records o) ≤ k)
+          → (own k || not (pending-at g k)) ≡ true
       go k less (inr ne) t = or-right (own k) _ (ap not (h .others (k / 16) (omega arith) ne (k % 16) (omega arith)))
       go k less (inl e) (inl t) = or-left (own k) _ (and-both _ _ (le-leb (16 * u) k (omega arith)) (lt-ltb k (16 * u + length (records o)) t))
       go k less (inl e) (inr t) = or-right (own k) _ (ap not (at-sector k e ∙ rest-quiet o (k % 16) (omega arith) (omega arith)))

@@ -47,14 +47,16 @@ lay-more rs r = fun-ext (λ j. ⊎-elim (low j) (λ l. ⊎-elim (mid j l) (high 
         ap (λ (b : Bytes). b (j % 32)) (List·getD-append rs (r ∷ []) zeros (j / 32) (omega arith))
         ∙ sym (overlay-below r (32 * length rs) (λ j. getD rs (j / 32) zeros (j % 32)) 32 j h)
 
-    mid : (j : ℕ) → 32 * length rs ≤ j → j < 32 * length rs + 32 → getD (rs ++ r ∷ []) (j / 32) zeros (j % 32) ≡ overlay 32 r (32 * length rs) (λ j. getD rs (j / 32) zeros (j % 32)) j
+    mid : (j : ℕ) → 32 * length rs ≤ j → j < 32 * length rs + 32
+        → getD (rs ++ r ∷ []) (j / 32) zeros (j % 32) ≡ overlay 32 r (32 * length rs) (λ j. getD rs (j / 32) zeros (j % 32)) j
     mid j l h =
         let e : j / 32 ≡ length rs + 0 = omega arith in
         let f : j % 32 ≡ j - 32 * length rs = omega arith in
         ap (λ (i : ℕ). getD (rs ++ r ∷ []) i zeros (j % 32)) e ∙ ap (λ (b : Bytes). b (j % 32)) (getD-append-add rs (r ∷ []) 0 zeros) ∙ ap r f
         ∙ sym (overlay-in r (32 * length rs) (λ j. getD rs (j / 32) zeros (j % 32)) 32 j l h)
 
-    high : (j : ℕ) → 32 * length rs + 32 ≤ j → getD (rs ++ r ∷ []) (j / 32) zeros (j % 32) ≡ overlay 32 r (32 * length rs) (λ j. getD rs (j / 32) zeros (j % 32)) j
+    high : (j : ℕ) → 32 * length rs + 32 ≤ j → getD (rs ++ r ∷ []) (j / 32) zeros (j % 32) ≡ overlay 32 r (32 * length rs)
+        (λ j. getD rs (j / 32) zeros (j % 32)) j
     high j h =
         ap (λ (b : Bytes). b (j % 32)) (List·getD-eq-default (rs ++ r ∷ []) zeros {n = j / 32} (omega (arith, length-append rs (r ∷ []))))
         ∙ sym (overlay-above r (32 * length rs) (λ j. getD rs (j / 32) zeros (j % 32)) 32 j h

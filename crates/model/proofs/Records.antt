@@ -83,7 +83,11 @@ pub fits-rename : (e : Entry) (first size to : ℕ) (renamed : Name) → EntryFi
 unfolding records
 fits-rename e first size to renamed h c s t n = (
   entry-record e 5 first 0 size (omega arith) h c (omega arith) s,
-  (entry-record (record { slot = to; name = renamed; attributes = e .attributes }) 0 first 0 size (omega arith) (record { slot = t; name = n; attributes = h .attributes }) c (omega arith) s, tt),
+  (
+    entry-record (record { slot = to; name = renamed; attributes = e .attributes }) 0 first 0 size (omega arith)
+        (record { slot = t; name = n; attributes = h .attributes }) c (omega arith) s,
+    tt,
+  ),
 )
 
 -- ---- one record

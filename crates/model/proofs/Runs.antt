@@ -57,7 +57,8 @@ module _ (limit : ℕ) (ss : List Store) (e x : List ℕ) (m : ℕ) where
       let f : length ss + (limit - m) ≡ limit = omega (arith, so .stores) in
       record {
         stores = omega (arith, so .stores, next .stores, length-append ss ts);
-        all = next .all ∙ leb-same (length ts) (limit - m) (length (ss ++ ts)) limit (λ h. omega (arith, so .stores, length-append ss ts)) (λ h. omega (arith, so .stores, length-append ss ts));
+        all = next .all ∙ leb-same (length ts) (limit - m) (length (ss ++ ts)) limit (λ h. omega (arith, so .stores, length-append ss ts))
+            (λ h. omega (arith, so .stores, length-append ss ts));
         card =
             next .card
             ∙ ap (after (take (limit - m) ts)) (ran-card so)

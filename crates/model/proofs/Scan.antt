@@ -134,7 +134,9 @@ module _ (p : ℕ → Bool) where
       let f : suc n + 1 ≡ suc (n + 1) = omega arith in
       rw (e, f) (go (p i) (count-step (i + 1) n))
     where
-      go : (b : Bool) → count-from p (i + 1) (n + 1) ≡ count-from p (i + 1) n + pick (p (i + 1 + n)) 1 0 → pick b (suc (count-from p (i + 1) (n + 1))) (count-from p (i + 1) (n + 1)) ≡ pick b (suc (count-from p (i + 1) n)) (count-from p (i + 1) n) + pick (p (i + 1 + n)) 1 0
+      go : (b : Bool) → count-from p (i + 1) (n + 1) ≡ count-from p (i + 1) n + pick (p (i + 1 + n)) 1 0
+          → pick b (suc (count-from p (i + 1) (n + 1))) (count-from p (i + 1) (n + 1)) ≡ pick b (suc (count-from p (i + 1) n))
+          (count-from p (i + 1) n) + pick (p (i + 1 + n)) 1 0
       go true h = omega (arith, h)
       go false h = h
 
@@ -153,7 +155,8 @@ module _ (p : ℕ → Bool) where
   first-count i zero = omega arith
   first-count i (suc n) = go (p i) (first-count (i + 1) n) (count-le (i + 1) n)
     where
-      go : (b : Bool) → first-from p (i + 1) n + count-from p (i + 1) n ≤ i + 1 + n → count-from p (i + 1) n ≤ n → pick b i (first-from p (i + 1) n) + pick b (suc (count-from p (i + 1) n)) (count-from p (i + 1) n) ≤ i + suc n
+      go : (b : Bool) → first-from p (i + 1) n + count-from p (i + 1) n ≤ i + 1 + n → count-from p (i + 1) n ≤ n
+          → pick b i (first-from p (i + 1) n) + pick b (suc (count-from p (i + 1) n)) (count-from p (i + 1) n) ≤ i + suc n
       go true h l = omega arith
       go false h l = omega arith
 
@@ -177,7 +180,9 @@ module _ (p : ℕ → Bool) where
       let f : suc n + 1 ≡ suc (n + 1) = omega arith in
       rw (e, f) (go (p i) (indices-step (i + 1) n))
     where
-      go : (b : Bool) → indices-from p (i + 1) (n + 1) ≡ indices-from p (i + 1) n ++ pick (p (i + 1 + n)) ((i + 1 + n) ∷ []) [] → pick b (i ∷ indices-from p (i + 1) (n + 1)) (indices-from p (i + 1) (n + 1)) ≡ pick b (i ∷ indices-from p (i + 1) n) (indices-from p (i + 1) n) ++ pick (p (i + 1 + n)) ((i + 1 + n) ∷ []) []
+      go : (b : Bool) → indices-from p (i + 1) (n + 1) ≡ indices-from p (i + 1) n ++ pick (p (i + 1 + n)) ((i + 1 + n) ∷ []) []
+          → pick b (i ∷ indices-from p (i + 1) (n + 1)) (indices-from p (i + 1) (n + 1)) ≡ pick b (i ∷ indices-from p (i + 1) n)
+          (indices-from p (i + 1) n) ++ pick (p (i + 1 + n)) ((i + 1 + n) ∷ []) []
       go true h = ap (λ (x : List ℕ). i ∷ x) h
       go false h = h
 

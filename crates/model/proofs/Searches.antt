@@ -92,7 +92,8 @@ indices-first p i zero h = absurd (omega arith)
 indices-first p i (suc n) h = go (p i) refl (indices-first p (i + 1) n)
   where
     go : (b : Bool) → p i ≡ b
-        → (first-from p (i + 1) n < i + 1 + n → indices-from p (i + 1) n ≡ first-from p (i + 1) n ∷ indices-from p (first-from p (i + 1) n + 1) (i + 1 + n - (first-from p (i + 1) n + 1)))
+        → (first-from p (i + 1) n < i + 1 + n → indices-from p (i + 1) n ≡ first-from p (i + 1) n ∷ indices-from p (first-from p (i + 1) n + 1)
+        (i + 1 + n - (first-from p (i + 1) n + 1)))
         → indices-from p i (suc n) ≡ first-from p i (suc n) ∷ indices-from p (first-from p i (suc n) + 1) (i + suc n - (first-from p i (suc n) + 1))
     go true e f = let z : i + suc n - (i + 1) ≡ n = omega arith in rw (e, z) refl
     go false e f =

@@ -16,12 +16,14 @@ byte-in xs s j h = ap (λ (z : ℕ). getD xs (512 * s + z) 0) (mod-eq-of-lt h)
 
 -- A number in the bytes from j on.
 pub le-in : (n : ℕ) (xs : List ℕ) (s j : ℕ) → j + n ≤ 512 → le n (card-of xs s) j ≡ le n (bytes-of xs) (512 * s + j)
-le-in n xs s j h = le-shift n (card-of xs s) (bytes-of xs) j (512 * s + j) (λ k l. byte-in xs s (j + k) (omega arith) ∙ ap (λ (z : ℕ). getD xs z 0) (omega arith))
+le-in n xs s j h = le-shift n (card-of xs s) (bytes-of xs) j (512 * s + j)
+    (λ k l. byte-in xs s (j + k) (omega arith) ∙ ap (λ (z : ℕ). getD xs z 0) (omega arith))
 
 -- The sectors of a part that starts at sector a.
 pub part-sector : (xs : List ℕ) (a k s : ℕ) → 512 * s + 512 ≤ k → card-of (take k (drop (512 * a) xs)) s ≡ card-of xs (a + s)
 part-sector xs a k s h =
-    fun-ext (λ j. getD-take k (drop (512 * a) xs) (512 * s + j % 512) 0 (omega arith) ∙ getD-drop (512 * a) xs (512 * s + j % 512) 0 ∙ ap (λ (z : ℕ). getD xs z 0) (omega arith))
+    fun-ext (λ j. getD-take k (drop (512 * a) xs) (512 * s + j % 512) 0 (omega arith) ∙ getD-drop (512 * a) xs (512 * s + j % 512) 0
+    ∙ ap (λ (z : ℕ). getD xs z 0) (omega arith))
 
 -- A number of a part.
 pub le-part : (n : ℕ) (b : Bytes) (at i : ℕ) → le n (part b at) i ≡ le n b (at + i)

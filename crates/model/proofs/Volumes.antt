@@ -207,7 +207,8 @@ module _ (size : ℕ) (c x : Card) (h : Alike c x) where
   layout-same = ap layout (h .boot)
 
   pub area-same : area-of x ≡ area-of c
-  area-same = ap (λ l. area l (run l (fat1-of l x))) layout-same ∙ ap (area (layout-of c)) (run-same (layout-of c) (fat1-of (layout-of c) x) (first-fat c) (h .marks))
+  area-same = ap (λ l. area l (run l (fat1-of l x))) layout-same
+      ∙ ap (area (layout-of c)) (run-same (layout-of c) (fat1-of (layout-of c) x) (first-fat c) (h .marks))
 
   mount-same : mount (window size x) ≡ mount (window size c)
   unfolding mount
@@ -226,11 +227,17 @@ module _ (size : ℕ) (c x : Card) (h : Alike c x) where
       → pending (layout-of c) (area-of c) x ≡ p → is-broken p ≡ false → examine (window size x) ≡ granted (volume-of c p)
   examine-same f p root at sound =
       let same : pending-of x ≡ p = (λ t. pending (layout-same t) (area-same t) x) ∙ at in
-      examine-of size x (record { fit = fit-same f; root = ap (λ l. root-ok (l .entries) (first-bytes l x)) layout-same ∙ root; sound = ap is-broken same ∙ sound })
+      examine-of size x (record {
+        fit = fit-same f;
+        root = ap (λ l. root-ok (l .entries) (first-bytes l x)) layout-same ∙ root;
+        sound = ap is-broken
+            same ∙ sound;
+      })
       ∙ (λ t. granted (record { layout = layout-same t; log = area-same t; pending = same t }))
 
   pub clean-same : Fit size c → root-ok (layout-of c .entries) (first-bytes (layout-of c) x) ≡ true
-      → pending (layout-of c) (area-of c) x ≡ Pending.Nothing → fats-agree (layout-of c) x ≡ true → clean (window size x) ≡ granted (volume-of c Pending.Nothing)
+      → pending (layout-of c) (area-of c) x ≡ Pending.Nothing → fats-agree (layout-of c) x ≡ true
+      → clean (window size x) ≡ granted (volume-of c Pending.Nothing)
   unfolding clean settled
   clean-same f root calm agree =
       then (examine (window size x)) _ (volume-of c Pending.Nothing) (examine-same f Pending.Nothing root calm refl)

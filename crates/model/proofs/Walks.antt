@@ -125,7 +125,8 @@ module _ (l : Layout) (few : l .clusters ≤ 65524) (e : ℕ → ℕ) where
   ends-unique (suc (suc n)) (suc zero) k h g =
       not-both (suc n) (e k) (both (in-range l k) (is-end (e k)) g .1) (both (in-range l k) (ends-after l e (suc n) (e k)) h .1)
   ends-unique (suc (suc n)) (suc (suc m)) k h g =
-      ap suc (ends-unique (suc n) (suc m) (e k) (both (in-range l k) (ends-after l e (suc n) (e k)) h .1) (both (in-range l k) (ends-after l e (suc m) (e k)) g .1))
+      ap suc (ends-unique (suc n) (suc m) (e k) (both (in-range l k) (ends-after l e (suc n) (e k)) h .1)
+      (both (in-range l k) (ends-after l e (suc m) (e k)) g .1))
 
   nearer : (n k : ℕ) → ends-after l e n k ≡ true → (m : ℕ) → n ≤ m → All (λ j. (r : ℕ) × (r ≤ m) × (ends-after l e r j ≡ true)) (chain e n k)
   unfolding ends-after chain
@@ -145,7 +146,8 @@ module _ (l : Layout) (few : l .clusters ≤ 65524) (e : ℕ → ℕ) where
   distinct-chain (suc (suc n)) k h =
       let rest : ends-after l e (suc n) (e k) ≡ true = both (in-range l k) (ends-after l e (suc n) (e k)) h .1 in (
         all-map (λ j. (r : ℕ) × (r ≤ suc n) × (ends-after l e r j ≡ true)) (λ j. k ≡ j → ⊥)
-            (λ j q same. let z : suc (suc n) ≡ q .0 = ends-unique (suc (suc n)) (q .0) k h (rw (← same) at (q .2)) in let le : q .0 ≤ suc n = q .1 in omega arith)
+            (λ j q same. let z : suc (suc n) ≡ q .0 = ends-unique (suc (suc n)) (q .0) k h (rw (← same) at (q .2)) in let le : q .0 ≤ suc n = q .1 in
+            omega arith)
             (chain e (suc n) (e k)) (nearer (suc n) (e k) rest (suc n) (omega arith)),
         distinct-chain (suc n) (e k) rest,
       )

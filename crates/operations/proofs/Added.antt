@@ -33,7 +33,8 @@ module _ (l : Layout) (one : 1 ≤ l .factor) (f : File) (n : ℕ) where
         let d : m * b + (n - spare - 1) % b ≡ n - spare - 1 = div-add-mod' (n - spare - 1) b in
         let r : (n - spare - 1) % b < b = mod-lt (n - spare - 1) (omega arith) in
         let s : (needed l (f .size) + (m + 1)) * b ≡ needed l (f .size) * b + (m * b + b) = omega arith in
-        let e : needed l (f .size + n) ≡ needed l (f .size) + (m + 1) = needed-is l one (f .size + n) (needed l (f .size) + (m + 1)) (omega arith) (omega arith) in
+        let e : needed l (f .size + n) ≡ needed l (f .size) + (m + 1) = needed-is l one (f .size + n) (needed l (f .size) + (m + 1)) (omega arith)
+        (omega arith) in
         omega arith
 
   -- The same, with these numbers as code has them.

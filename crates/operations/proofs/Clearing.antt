@@ -25,7 +25,8 @@ clearing-all a g P h =
     let sectors : All (λ s. P (store s zeros)) (range (a .sector) (a .sectors)) =
     indices-all (λ s. P (store s zeros)) (λ k. true) (a .sector) (a .sectors) (λ j lo hi e. each j lo hi) in
     by-pick (All P) (ltb (unused (a .sectors) g) (a .sectors)) [] _ (λ _. tt)
-    (λ _. all-image P (λ s. store s zeros) (reverse (range (a .sector) (a .sectors))) (all-reverse (λ s. P (store s zeros)) (range (a .sector) (a .sectors)) sectors))
+    (λ _. all-image P (λ s. store s zeros) (reverse (range (a .sector) (a .sectors)))
+    (all-reverse (λ s. P (store s zeros)) (range (a .sector) (a .sectors)) sectors))
 
 pub clearing-length : (a : Area) (g : Log) → length (clearing a g) ≤ a .sectors
 unfolding clearing clear-all

@@ -22,7 +22,8 @@ use Rattle.operations.specs.Plan.{append-sector, data-stores}
 -- ---- where they lie
 
 -- A sector of a cluster below the last one lies in the data.
-pub in-data : (l : Layout) → Shape l → (k q : ℕ) → k < 2 + l .clusters → (l .start ≤ cluster-sector l k + q % l .factor) × (cluster-sector l k + q % l .factor < l .total)
+pub in-data : (l : Layout) → Shape l → (k q : ℕ) → k < 2 + l .clusters
+    → (l .start ≤ cluster-sector l k + q % l .factor) × (cluster-sector l k + q % l .factor < l .total)
 unfolding cluster-sector
 in-data l sh k q less =
     let e : suc (k - 2) * l .factor ≤ l .clusters * l .factor = mul-le-mul-right (l .factor) (omega arith) in
@@ -31,7 +32,8 @@ in-data l sh k q less =
 
 module _ (l : Layout) (c : Card) (ks : List ℕ) (old : ℕ) (d : Span) where
   -- What holds of each sector's store holds of all.
-  pub data-all : (P : Store → Type 0) → ((q : ℕ) → 512 * q < old + d .size → P (append-sector c (file-sector l ks q) old d q)) → All P (data-stores l c ks old d)
+  pub data-all : (P : Store → Type 0) → ((q : ℕ) → 512 * q < old + d .size → P (append-sector c (file-sector l ks q) old d q))
+      → All P (data-stores l c ks old d)
   unfolding data-stores
   data-all P h =
       let n : ℕ = (old + d .size + 511) / 512 - old / 512 in

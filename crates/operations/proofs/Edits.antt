@@ -16,7 +16,8 @@ use Rattle.model.specs.declared.Layout.{Layout}
 use Rattle.model.specs.declared.Name.{Name}
 use Rattle.model.specs.declared.Operation.{Operation}
 use Rattle.model.specs.declared.Operation.the-variants.{Create, Update, Delete, Truncate, Rename}
-use Rattle.operations.specs.Finish.{set-size, set-first, mark-deleted, set-name, new-entry, Edit, edit, edit-from, set-slots, edits, effect, Slots, root-sector, concerns}
+use Rattle.operations.specs.Finish.{set-size, set-first, mark-deleted, set-name, new-entry, Edit, edit, edit-from, set-slots, edits, effect, Slots}
+use Rattle.operations.specs.Finish.{root-sector, concerns}
 use Rattle.model.proofs.Tests.{told, less?, same?, or-false}
 use Rattle.model.proofs.All.{All}
 use Rattle.model.proofs.Cards.{clip-at}
@@ -65,7 +66,8 @@ laid-resized t k size j =
     (laid-if t (λ b. set-first k b) j (laid-over 2 (byte-of k) 26 j))
 
 pub laid-name : (n : Name) (j : ℕ) → Laid (λ b. set-name n b) j
-laid-name n j = laid-then (λ b. patch 8 (n .stem) 0 b) (λ b. patch 3 (n .extension) 8 b) j (laid-over 8 (byte-of (n .stem)) 0 j) (laid-over 3 (byte-of (n .extension)) 8 j)
+laid-name n j = laid-then (λ b. patch 8 (n .stem) 0 b) (λ b. patch 3 (n .extension) 8 b) j (laid-over 8 (byte-of (n .stem)) 0 j)
+    (laid-over 3 (byte-of (n .extension)) 8 j)
 
 pub laid-mark : (j : ℕ) → Laid (λ b. mark-deleted b) j
 laid-mark j = laid-over 1 (byte-of 0xE5) 0 j
@@ -95,7 +97,8 @@ pub edit-made : (e : Edit) (es : List Edit) (d : Directory) (k j : ℕ) (b : Byt
     → e .change b j ≡ set-slots (e ∷ es) d k j
 edit-made e es d k j b h own same = laid-local (e .change) j own (d (e .source)) b same ∙ sym (λ t. set-in e es d k h t j)
 
-pub own-made : (s : ℕ) (f : Bytes → Bytes) (es : List Edit) (d : Directory) (k j : ℕ) (b : Bytes) → k ≡ s → Laid f j → b j ≡ d k j → f b j ≡ set-slots (edit s f ∷ es) d k j
+pub own-made : (s : ℕ) (f : Bytes → Bytes) (es : List Edit) (d : Directory) (k j : ℕ) (b : Bytes) → k ≡ s → Laid f j → b j ≡ d k j
+    → f b j ≡ set-slots (edit s f ∷ es) d k j
 own-made s f es d k j b h own same = edit-made (edit s f) es d k j b h own (same ∙ ap (λ (i : ℕ). d i j) h)
 
 pub edit-past : (e : Edit) (es : List Edit) (d : Directory) (k j v : ℕ) → (k ≡ e .slot → ⊥) → v ≡ set-slots es d k j → v ≡ set-slots (e ∷ es) d k j
@@ -168,9 +171,17 @@ own-again s f j k = (k, ((λ _. (refl, laid-again f j k)), λ _. tt))
 pub again : (o : Operation) (j : ℕ) → Again (edits o) j
 unfolding edits
 again (Create e) j = (own-again (e .slot) (λ b. new-entry (e .name)) j (inl (new-entry (e .name) j, λ b. refl)), tt)
-again (Update e last from size) j = (own-again (e .slot) (λ b. set-size size (pick (eqb last 0) (set-first from b) b)) j (laid-resized (eqb last 0) from size j), tt)
+again (Update e last from size) j = (
+  own-again (e .slot) (λ b. set-size size (pick (eqb last 0) (set-first from b) b)) j
+      (laid-resized (eqb last 0) from size j),
+  tt,
+)
 again (Delete e first size) j = (own-again (e .slot) (λ b. mark-deleted b) j (laid-mark j), tt)
-again (Truncate e first from size) j = (own-again (e .slot) (λ b. set-size size (pick (eqb size 0) (set-first 0 b) b)) j (laid-resized (eqb size 0) 0 size j), tt)
+again (Truncate e first from size) j = (
+  own-again (e .slot) (λ b. set-size size (pick (eqb size 0) (set-first 0 b) b)) j
+      (laid-resized (eqb size 0) 0 size j),
+  tt,
+)
 again (Rename e first size to renamed) j = (
   (laid-mark j, ((λ _. (refl, laid-again (λ b. mark-deleted b) j (laid-mark j))), λ ne. absurd (ne refl))),
   ((laid-name renamed j, ((λ _. (refl, name-over renamed j)), λ ne. absurd (ne refl))), tt),
@@ -236,4 +247,5 @@ pub sector-mix : (l : Layout) (c y : Card) (o : Operation) → l .entries % 16 �
     → (r : ℕ) → r < l .entries / 16 → (j : ℕ) → j < 512 → root-sector (effect o (slot-at l y)) r j ≡ root-sector (effect o (slot-at l c)) r j
 unfolding root-sector
 sector-mix l c y o whole fit near r less j small =
-    effect-mix (l .entries) o (slot-at l c) (slot-at l y) fit (j % 32) (slot-near l c y (effect o (slot-at l c)) whole near (j % 32) (omega arith)) (16 * r + j / 32) (omega arith)
+    effect-mix (l .entries) o (slot-at l c) (slot-at l y) fit (j % 32) (slot-near l c y (effect o (slot-at l c)) whole near (j % 32) (omega arith))
+    (16 * r + j / 32) (omega arith)

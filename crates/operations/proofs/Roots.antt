@@ -30,7 +30,8 @@ pub root-stores-same : (l : Layout) (o : Operation) (c d : Card) → l .entries 
     → ((r : ℕ) → r < l .entries / 16 → c (root-place l r) ≡ d (root-place l r)) → root-stores l o c ≡ root-stores l o d
 unfolding root-stores effect root-sector
 root-stores-same l o c d whole fit h =
-    map-same (sector-of c) (sector-of d) (concerns o) (l .entries / 16) (λ r less. store-same (root-place l r) (bytes-in c r) (bytes-in d r) (λ j b. same-byte r j less b))
+    map-same (sector-of c) (sector-of d) (concerns o) (l .entries / 16)
+    (λ r less. store-same (root-place l r) (bytes-in c r) (bytes-in d r) (λ j b. same-byte r j less b))
   where
     bytes-in : Card → ℕ → Bytes
     bytes-in x r = root-sector (effect o (slot-at l x)) r
@@ -42,9 +43,11 @@ root-stores-same l o c d whole fit h =
     slots k less = slot-same l c d k (h (k / 16) (omega arith))
 
     same-byte : (r j : ℕ) → r < l .entries / 16 → j < 512 → bytes-in c r j ≡ bytes-in d r j
-    same-byte r j less b = ap (λ (x : Bytes). x (j % 32)) (set-slots-same (l .entries) (edits o) (slot-at l c) (slot-at l d) slots fit (16 * r + j / 32) (omega arith))
+    same-byte r j less b = ap (λ (x : Bytes). x (j % 32))
+        (set-slots-same (l .entries) (edits o) (slot-at l c) (slot-at l d) slots fit (16 * r + j / 32) (omega arith))
 
 pub root-stores-away : (l : Layout) (o : Operation) (c : Card) (s : ℕ) → (l .root ≤ s → s < l .root + l .entries / 16 → ⊥) → Away (root-stores l o c) s
 unfolding root-stores
 root-stores-away l o c s out =
-    map-away (λ r. store (root-place l r) (root-sector (effect o (slot-at l c)) r)) (concerns o) (l .entries / 16) s (λ k less e. out (omega arith) (omega arith))
+    map-away (λ r. store (root-place l r) (root-sector (effect o (slot-at l c)) r)) (concerns o) (l .entries / 16) s
+    (λ k less e. out (omega arith) (omega arith))

@@ -32,7 +32,8 @@ told-seats n z rs h =
     by-pick (λ (o : Operation). All (Seated n z) (edits o)) (eqb (rs 0 .number) 4) _ _ (λ _. ((s, s), tt)) (λ n4.
     ((s, s), ((second-seat n z rs h (five n1 n2 n3 n4), s), tt))))))
   where
-    five : eqb (rs 0 .number) 1 ≡ false → eqb (rs 0 .number) 2 ≡ false → eqb (rs 0 .number) 3 ≡ false → eqb (rs 0 .number) 4 ≡ false → eqb (rs 0 .number) 5 ≡ true
+    five : eqb (rs 0 .number) 1 ≡ false → eqb (rs 0 .number) 2 ≡ false → eqb (rs 0 .number) 3 ≡ false → eqb (rs 0 .number) 4 ≡ false
+        → eqb (rs 0 .number) 5 ≡ true
     five n1 n2 n3 n4 =
         let r = between-true 1 5 (rs 0 .number) (first-number n z rs h) in
         let two : 2 ≤ rs 0 .number = above (rs 0 .number) 1 (r .0) n1 in

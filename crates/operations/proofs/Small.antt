@@ -146,7 +146,8 @@ shortening-row : (d : Bytes) → (sectors (stores (shortening d)) ≡ 2 ∷ 5 �
 unfolding compute
 shortening-row d = (refl, refl, refl)
 
-deletion-row : (d : Bytes) → (sectors (stores (deletion d)) ≡ 2 ∷ 5 ∷ 4 ∷ 4 ∷ 1 ∷ 3 ∷ 4 ∷ []) × (slot-at l (after (stores (deletion d)) (appended d)) 0 0 ≡ 0xE5)
+deletion-row : (d : Bytes) → (sectors (stores (deletion d)) ≡ 2 ∷ 5 ∷ 4 ∷ 4 ∷ 1 ∷ 3 ∷ 4 ∷ [])
+    × (slot-at l (after (stores (deletion d)) (appended d)) 0 0 ≡ 0xE5)
 unfolding compute
 deletion-row d = (refl, refl)
 

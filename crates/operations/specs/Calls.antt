@@ -16,7 +16,8 @@ use Rattle.model.specs.declared.File.{File}
 use Rattle.model.specs.declared.Volume.{Volume}
 use Rattle.model.specs.declared.Ground.the-variants as Ground
 use Rattle.operations.specs.Program.{Program, ending}
-use Rattle.operations.specs.Plan.{clusters-of, old-fat, added, new-clusters, create-stores, append-stores, truncate-stores, delete-stores, rename-stores, recover-stores}
+use Rattle.operations.specs.Plan.{clusters-of, old-fat, added, new-clusters, create-stores, append-stores, truncate-stores, delete-stores}
+use Rattle.operations.specs.Plan.{rename-stores, recover-stores}
 
 -- The name in a span of 11 bytes, and the slot that it means.
 abbrev pub name-of : Span → Name

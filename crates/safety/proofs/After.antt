@@ -118,7 +118,8 @@ module _ {size : ℕ} {c : Card} (st : Start size c) {u : Card} {i : ℕ} {o : O
   place? : (n : ℕ) → Place n
   place? n = go (less? n (l .fat1)) (less? n (l .fat1 + l .fatsize)) (less? n (l .root)) (less? n (l .start))
     where
-      go : (n < l .fat1) ⊎ (l .fat1 ≤ n) → (n < l .fat1 + l .fatsize) ⊎ (l .fat1 + l .fatsize ≤ n) → (n < l .root) ⊎ (l .root ≤ n) → (n < l .start) ⊎ (l .start ≤ n) → Place n
+      go : (n < l .fat1) ⊎ (l .fat1 ≤ n) → (n < l .fat1 + l .fatsize) ⊎ (l .fat1 + l .fatsize ≤ n) → (n < l .root) ⊎ (l .root ≤ n)
+          → (n < l .start) ⊎ (l .start ≤ n) → Place n
       go (inl a) b d e = inr (inr (λ s k q. omega (arith, sh), λ r k q. omega (arith, sh)))
       go (inr a) (inl b) d e = inl (n - l .fat1, omega (arith, sh), omega (arith, sh))
       go (inr a) (inr b) (inl d) e = inr (inr (λ s k q. omega (arith, sh), λ r k q. omega (arith, sh)))
@@ -163,14 +164,16 @@ module _ {size : ℕ} {c : Card} (st : Start size c) {u : Card} {i : ℕ} {o : O
 
     unconcerned-same : (r : ℕ) → r < l .entries / 16 → concerns o r ≡ false → y (root-place l r) ≡ clip (root-sector new-root r)
     unconcerned-same r less e =
-        let same : clip (root-sector new-root r) ≡ c (root-place l r) = clip-same (root-sector new-root r) (c (root-place l r)) (byte-kept r e) ∙ st .clipped (root-place l r) in
+        let same : clip (root-sector new-root r) ≡ c (root-place l r) = clip-same (root-sector new-root r) (c (root-place l r)) (byte-kept r e)
+        ∙ st .clipped (root-place l r) in
         ⊎-elim (λ q. q ∙ sym same) (λ q. q) (root-near r less)
 
     -- ---- what is left to store
 
     finish-hits : All Hits (finish l o y)
     finish-hits = finish-all l o y Hits
-        (λ s less. Target.fat1 s less refl (clip-clip (y (l .fat2 + s)) ∙ ap (λ (b : Bytes). clip b) (still-kept (l .fat2 + s) (still-fat2 s less)) ∙ h .clipped (l .fat2 + s)))
+        (λ s less. Target.fat1 s less refl (clip-clip (y (l .fat2 + s)) ∙ ap (λ (b : Bytes). clip b) (still-kept (l .fat2 + s) (still-fat2 s less)) ∙
+        h .clipped (l .fat2 + s)))
         (λ r less. Target.root r less refl (clip-clip (root-sector (effect o (slot-at l y)) r) ∙ effect-same r less))
 
     pub finish-keeps : All (Keeps Mixed) (finish l o y)
@@ -185,13 +188,15 @@ module _ {size : ℕ} {c : Card} (st : Start size c) {u : Card} {i : ℕ} {o : O
     -- A sector is at the end what every store of it makes it, if one is made or it is so already.
     done-at : (n : ℕ) (b : Bytes) → ((a : Bytes) → Aim n a → a ≡ b) → Covers n (finish l o y) ⊎ (y n ≡ b) → done n ≡ b
     done-at n b aim k = after-is n b (finish l o y) y
-        (all-map Hits (λ s. n ≡ s .sector → clip (s .bytes) ≡ b) (λ s g e. aim (clip (s .bytes)) (subst (λ i. Aim i (clip (s .bytes))) (sym e) g)) (finish l o y) finish-hits) k
+        (all-map Hits (λ s. n ≡ s .sector → clip (s .bytes) ≡ b) (λ s g e. aim (clip (s .bytes)) (subst (λ i. Aim i (clip (s .bytes))) (sym e) g))
+        (finish l o y) finish-hits) k
 
     pub done-fat1 : (s : ℕ) → s < l .fatsize → done (l .fat1 + s) ≡ u (l .fat2 + s)
     done-fat1 s less =
         let same : clip (y (l .fat2 + s)) ≡ clip (y (l .fat1 + s)) → y (l .fat1 + s) ≡ u (l .fat2 + s) =
         λ e. sym (mixed-clipped (l .fat1 + s)) ∙ sym e ∙ mixed-clipped (l .fat2 + s) ∙ still-kept (l .fat2 + s) (still-fat2 s less) in
-        done-at (l .fat1 + s) (u (l .fat2 + s)) (λ a g. aim-fat1 s (l .fat1 + s) a less refl g) (⊎-elim (λ k. inl k) (λ e. inr (same e)) (finish-fat l o y s less))
+        done-at (l .fat1 + s) (u (l .fat2 + s)) (λ a g. aim-fat1 s (l .fat1 + s) a less refl g)
+        (⊎-elim (λ k. inl k) (λ e. inr (same e)) (finish-fat l o y s less))
 
     pub done-root : (r : ℕ) → r < l .entries / 16 → done (root-place l r) ≡ clip (root-sector new-root r)
     done-root r less = done-at (root-place l r) (clip (root-sector new-root r)) (λ a g. aim-root r (root-place l r) a less refl g)

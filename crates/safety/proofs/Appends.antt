@@ -90,7 +90,8 @@ module _ {size : ℕ} {c : Card} (st : Start size c) (s : ℕ) (live : Live (lay
   unfolding free-clusters
   distinct =
       let olds : Distinct ks = chain-distinct l (sh .few) (entry fat) (sh .factor-low) (first-cluster b) (file-size b) whole in
-      let news : Distinct new = distinct-take (needed l total - needed l (file-size b)) (free-clusters l fat) (distinct-indices (λ k. is-free (entry fat k)) 2 (l .clusters)) in
+      let news : Distinct new = distinct-take (needed l total - needed l (file-size b)) (free-clusters l fat)
+      (distinct-indices (λ k. is-free (entry fat k)) 2 (l .clusters)) in
       let apart : (k : ℕ) → Used l (entry fat) k → All (λ j. k ≡ j → ⊥) new =
       λ k u. all-map (Fresh l fat) (λ j. k ≡ j → ⊥) (λ j w e. u .busy (rw e (w .none))) new fresh in
       distinct-append ks new olds news (all-map (Used l (entry fat)) (λ k. All (λ j. k ≡ j → ⊥) new) apart ks (old-used st s live whole))
@@ -103,7 +104,8 @@ module _ {size : ℕ} {c : Card} (st : Start size c) (s : ℕ) (live : Live (lay
       rw (length-append ks new) (omega arith)
 
   few-clusters : length both-lists ≤ l .clusters
-  few-clusters = pigeon 2 (l .clusters) both-lists distinct (all-map (Plain l fat) (λ k. (2 ≤ k) × (k < 2 + l .clusters)) (λ k u. (u .low, u .high)) both-lists all-plain)
+  few-clusters = pigeon 2 (l .clusters) both-lists distinct
+      (all-map (Plain l fat) (λ k. (2 ≤ k) × (k < 2 + l .clusters)) (λ k u. (u .low, u .high)) both-lists all-plain)
 
   -- So the new size fits its four bytes.
   pub total-fits : total < 4294967296
@@ -148,11 +150,13 @@ module _ {size : ℕ} {c : Card} (st : Start size c) (s : ℕ) (live : Live (lay
 
   module _ (sound : Sound l c) (file : is-file b ≡ true) where
     -- The file itself keeps its old bytes.
-    own-place : (i q : ℕ) → i < file-size b → q / l .factor < length both-lists → file-sector l (chain-of l c s) (i / 512) ≡ place q → 512 * q + i % 512 < file-size b
+    own-place : (i q : ℕ) → i < file-size b → q / l .factor < length both-lists → file-sector l (chain-of l c s) (i / 512) ≡ place q
+        → 512 * q + i % 512 < file-size b
     unfolding chain-of clusters-of file-at
     own-place i q less within e =
         let k : i / 512 / l .factor < length ks = file-within st sound s (live .in-root) file i less in
-        let r : i / 512 ≡ q = one-place l (sh .factor-low) both-lists (i / 512) q all-low distinct (rw (length-append ks new) (omega arith)) within (longer l ks new (i / 512) k ∙ e) in
+        let r : i / 512 ≡ q = one-place l (sh .factor-low) both-lists (i / 512) q all-low distinct (rw (length-append ks new) (omega arith)) within
+        (longer l ks new (i / 512) k ∙ e) in
         omega arith
 
     -- No other file has a cluster that is written.
@@ -168,7 +172,8 @@ module _ {size : ℕ} {c : Card} (st : Start size c) (s : ℕ) (live : Live (lay
         let u : Used l (entry fat) (getD ts n 0) = all-getD (Used l (entry fat)) ts us n k in
         let not-old : All (λ j. getD ts n 0 ≡ j → ⊥) ks =
         all-mem (λ j. getD ts n 0 ≡ j → ⊥) ks (λ j in-s same. sound .apart s t (live .in-root) in-root file is ne j in-s (rw same at (mem-getD ts n k))) in
-        let not-new : All (λ j. getD ts n 0 ≡ j → ⊥) new = all-map (Fresh l fat) (λ j. getD ts n 0 ≡ j → ⊥) (λ j w same. u .busy (rw same (w .none))) new fresh in
+        let not-new : All (λ j. getD ts n 0 ≡ j → ⊥) new = all-map (Fresh l fat) (λ j. getD ts n 0 ≡ j → ⊥) (λ j w same. u .busy (rw same (w .none)))
+        new fresh in
         all-getD (λ j. getD ts n 0 ≡ j → ⊥) both-lists (all-append (λ j. getD ts n 0 ≡ j → ⊥) ks new not-old not-new) (q / l .factor) within (m .0)
 
     pub append-spared : (t i : ℕ) → t < l .entries → is-file (slot-at l c t) ≡ true → i < file-size (slot-at l c t)
@@ -182,7 +187,9 @@ module _ {size : ℕ} {c : Card} (st : Start size c) (s : ℕ) (live : Live (lay
         n : ℕ
         n = file-sector l (chain-of l c t) (i / 512)
 
-        go : (q : ℕ) → q / l .factor < length both-lists → n ≡ place q → (s ≡ t) ⊎ (s ≡ t → ⊥) → clip (clip (appended (c (place q)) (file-size b) d q)) (i % 512) ≡ c n (i % 512)
+        go : (q : ℕ) → q / l .factor < length both-lists → n ≡ place q → (s ≡ t) ⊎ (s ≡ t → ⊥)
+            → clip (clip (appended (c (place q)) (file-size b) d q)) (i % 512) ≡ c n (i % 512)
         go q within at (inr ne) = absurd (other-place t i q in-root is less ne within at)
         go q within at (inl e) =
-            appended-old (c (place q)) (file-size b) d q (i % 512) (omega arith) (own-place i q (rw (← e) at less) within (rw (← e) at at)) ∙ ap (λ m. c m (i % 512)) (sym at)
+            appended-old (c (place q)) (file-size b) d q (i % 512) (omega arith) (own-place i q (rw (← e) at less) within (rw (← e) at at))
+            ∙ ap (λ m. c m (i % 512)) (sym at)

@@ -25,7 +25,8 @@ use Rattle.model.proofs.Fats.{write-all, write-done, write-none, write-length}
 use Rattle.model.proofs.Pendings.{Quiet, quiet-calm}
 use Rattle.model.proofs.Volumes.{layout-of, area-of, Alike}
 use Rattle.safety.proofs.Journal.{Back, idle}
-use Rattle.safety.proofs.Start.{Clear, Table, Fixed, Start, shape-of, log-quiet, fat2-free, log-low, marks-same, root-kept, recovery-is, fats-same, fatsize-few}
+use Rattle.safety.proofs.Start.{Clear, Table, Fixed, Start, shape-of, log-quiet, fat2-free, log-low, marks-same, root-kept, recovery-is, fats-same}
+use Rattle.safety.proofs.Start.{fatsize-few}
 use Rattle.model.specs.declared.Pending.the-variants as Pending
 
 -- Byte j of sector n is a data byte outside the log, and the data stores ds leave it as it is in c.

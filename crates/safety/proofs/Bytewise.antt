@@ -28,7 +28,8 @@ use Rattle.model.specs.declared.Pending.{Pending}
 use Rattle.model.specs.declared.Volume.{Volume}
 use Rattle.operations.specs.Program.{Program, stores, ending}
 use Rattle.operations.specs.Finish.{Edit, set-slots, set-name, new-entry, edits, effect, root-sector, finish, redo}
-use Rattle.operations.specs.Plan.{prepare, group-store, operate, journal, new-group, last-of, extend, shorten, appended, append-sector, data-stores, recover-stores}
+use Rattle.operations.specs.Plan.{prepare, group-store, operate, journal, new-group, last-of, extend, shorten, appended, append-sector, data-stores}
+use Rattle.operations.specs.Plan.{recover-stores}
 use Rattle.operations.specs.Calls.{Call, plan, creates, appends, truncates, deletes, renames, recovers, recover}
 use Rattle.operations.specs.Outcome.{left, made}
 use Rattle.safety.specs.Demand3.{Genuine, recoveries}
@@ -62,7 +63,8 @@ SmallCard x = (n : ℕ) → Small (x n)
 
 patched : (n v at : ℕ) (b : Bytes) → Small b → Small (patch n v at b)
 unfolding overlay byte-of
-patched n v at b h j = by-pick (λ x. x < 256) (leb at j && ltb j (at + n)) (v / 256 ^ (j - at) % 256) (b j) (λ _. mod-lt (v / 256 ^ (j - at)) (omega arith)) (λ _. h j)
+patched n v at b h j = by-pick (λ x. x < 256) (leb at j && ltb j (at + n)) (v / 256 ^ (j - at) % 256) (b j)
+    (λ _. mod-lt (v / 256 ^ (j - at)) (omega arith)) (λ _. h j)
 
 none : Small zeros
 none j = omega arith
@@ -79,7 +81,8 @@ record-small : (r : Record) → Small (record-bytes r)
 unfolding record-bytes
 record-small r =
     patched 8 (r .name .stem) 0 _ (patched 3 (r .name .extension) 8 _ (patched 1 (r .attributes) 11 _ (patched 1 (r .count) 12 _ (patched 1 (r .number) 13 _
-    (patched 4 (r .directory) 14 _ (patched 2 (r .slot) 18 _ (patched 2 (r .high) 20 _ (patched 4 (r .from) 22 _ (patched 2 (r .cluster) 26 _ (patched 4 (r .size) 28 zeros none))))))))))
+    (patched 4 (r .directory) 14 _ (patched 2 (r .slot) 18 _ (patched 2 (r .high) 20 _
+    (patched 4 (r .from) 22 _ (patched 2 (r .cluster) 26 _ (patched 4 (r .size) 28 zeros none))))))))))
 
 records-small : (rs : List Record) → All Small (map record-bytes rs)
 records-small [] = tt
@@ -115,7 +118,8 @@ edits-small (Rename e first size to renamed) = ((λ b h. patched 1 0xE5 0 b h), 
 set-small : (es : List Edit) (d : Directory) → All Makes es → ((k : ℕ) → Small (d k)) → (k : ℕ) → Small (set-slots es d k)
 unfolding set-slots
 set-small [] d a h k = h k
-set-small (e ∷ es) d a h k = if-small (eqb k (e .slot)) (e .change (d (e .source))) (set-slots es d k) (a .0 (d (e .source)) (h (e .source))) (set-small es d (a .1) h k)
+set-small (e ∷ es) d a h k = if-small (eqb k (e .slot)) (e .change (d (e .source))) (set-slots es d k) (a .0 (d (e .source)) (h (e .source)))
+    (set-small es d (a .1) h k)
 
 effect-small : (o : Operation) (d : Directory) → ((k : ℕ) → Small (d k)) → (k : ℕ) → Small (effect o d k)
 unfolding effect
@@ -163,19 +167,23 @@ after-clipped ss x h = after-keeps Clipped ss (each ss) x h
     each [] = tt
     each (s ∷ ss) = (λ x. put-clipped x s, each ss)
 
-data-small : (l : Layout) (c : Card) (ks : List ℕ) (old : ℕ) (d : Span) → SmallCard c → ((i : ℕ) → i < d .size → d .byte i < 256) → All SmallStore (data-stores l c ks old d)
+data-small : (l : Layout) (c : Card) (ks : List ℕ) (old : ℕ) (d : Span) → SmallCard c → ((i : ℕ) → i < d .size → d .byte i < 256)
+    → All SmallStore (data-stores l c ks old d)
 unfolding data-stores append-sector appended
 data-small l c ks old d h small =
     let st : ℕ → Store = λ q. append-sector c (file-sector l ks q) old d q in
     all-image SmallStore st (range (old / 512) ((old + d .size + 511) / 512 - old / 512))
-    (indices-all (λ q. SmallStore (st q)) (λ k. true) (old / 512) _ (λ q lo hi e j. one (c (file-sector l ks q)) (h (file-sector l ks q)) (512 * q + j % 512) (j % 512)))
+    (indices-all (λ q. SmallStore (st q)) (λ k. true) (old / 512) _
+    (λ q lo hi e j. one (c (file-sector l ks q)) (h (file-sector l ks q)) (512 * q + j % 512) (j % 512)))
   where
     one : (b : Bytes) → Small b → (i j : ℕ) → pick (ltb i old) (b j) (pick (ltb i (old + d .size)) (d .byte (i - old)) 0) < 256
     one b k i j = by-pick (λ x. x < 256) (ltb i old) (b j) _ (λ _. k j)
         (λ e. by-pick (λ x. x < 256) (ltb i (old + d .size)) (d .byte (i - old)) 0
-        (λ f. let low : old ≤ i = ltb-false i old e in let high : i < old + d .size = ltb-true i (old + d .size) f in small (i - old) (omega arith)) (λ _. omega arith))
+        (λ f. let low : old ≤ i = ltb-false i old e in let high : i < old + d .size = ltb-true i (old + d .size) f in small (i - old) (omega arith))
+        (λ _. omega arith))
 
-operate-small : (v : Volume) (c : Card) (ds : List Store) (f : Fat) (o : Operation) → SmallCard c → All SmallStore ds → SmallCard f → All SmallStore (stores (operate v c ds f o))
+operate-small : (v : Volume) (c : Card) (ds : List Store) (f : Fat) (o : Operation) → SmallCard c → All SmallStore ds → SmallCard f
+    → All SmallStore (stores (operate v c ds f o))
 unfolding operate journal redo new-group group-store commit root-sector slot-at
 operate-small v c ds f o h own fat =
     let l : Layout = v .layout in
@@ -218,7 +226,8 @@ module _ {size : ℕ} {c : Card} (st : Start size c) (is : clean (window size c)
   granted-fine (deletes n) p b h = subst Fine (delete-granted st is n p h .same) (fine [] _ _ tt (release-small _ (first-fat c) old-small))
   granted-fine (truncates n m) p b h = unless-fine _ _ p (truncate-granted st is n m p h .same) (fine [] _ _ tt (shorten-small _ _ (first-fat c) old-small))
   granted-fine (appends n d) p b h =
-      unless-fine _ _ p (append-granted st is n d p h .same) (fine _ _ _ (data-small (layout-of c) c _ _ d (st .small) b) (extend-small _ _ (first-fat c) old-small))
+      unless-fine _ _ p (append-granted st is n d p h .same)
+      (fine _ _ _ (data-small (layout-of c) c _ _ d (st .small) b) (extend-small _ _ (first-fat c) old-small))
   granted-fine recovers p b h = let e : granted (ending []) ≡ granted p = sym (start-rests st) ∙ h in let same : ending [] ≡ p = cc in subst Fine same tt
 
   made-fine : (k : Call) (limit : ℕ) (a : Answer Program) → OfBytes k → plan k w ≡ a → All SmallStore (made limit a)
@@ -232,7 +241,11 @@ stays-genuine k w v real is b limit =
     let h = cleaned (w .size) (w .card) v is in
     let st : Start (w .size) (w .card) = record { clean = h .0; clipped = real .sectors; small = real .bytes } in
     let fine : All SmallStore (made limit (plan k w)) = made-fine st (is ∙ ap granted (h .1)) k limit (plan k w) b refl in
-    record { sectors = after-clipped (made limit (plan k w)) (w .card) (real .sectors); bytes = after-small (made limit (plan k w)) (w .card) fine (real .bytes) }
+    record {
+      sectors = after-clipped (made limit (plan k w)) (w .card) (real .sectors);
+      bytes = after-small (made limit (plan k w)) (w .card) fine
+          (real .bytes);
+    }
 
 -- ---- recovery, on any card of bytes
 

@@ -32,7 +32,8 @@ use Rattle.safety.proofs.Clusters.{Plain, none-free, released-free, sho
 use Rattle.safety.proofs.Fair.{Fair, idle-fair, plain-fair, operate-fair}
 use Rattle.safety.proofs.Operations.{old-plain, old-busy}
 use Rattle.safety.proofs.Appends.{new, ds, new-plain, few-data, append-spared}
-use Rattle.safety.proofs.Supplied.{creates-as, create-supplies, renames-as, rename-supplies, ks, deletes-as, delete-supplies, cut-fat, truncates-as, truncate-supplies, longer-fat, updates-as, append-supplies}
+use Rattle.safety.proofs.Supplied.{creates-as, create-supplies, renames-as, rename-supplies, ks, deletes-as, delete-supplies, cut-fat, truncates-as}
+use Rattle.safety.proofs.Supplied.{truncate-supplies, longer-fat, updates-as, append-supplies}
 use Rattle.safety.proofs.Granted.{create-granted, rename-granted, delete-granted, Truncated, truncate-granted, Appended, append-granted}
 use Rattle.model.specs.declared.Pending.the-variants as Pending
 
@@ -84,7 +85,8 @@ module _ {size : ℕ} {c : Card} (st : Start size c) (is : clean (window size c)
       let live = a .it .live in
       let keeps = a .it .keeps in
       let js : List ℕ = ks st (at n) live keeps in
-      subst (Fair size c [] js) (a .same) (plain-fair st (release js fat) (deletes-as st (at n) live keeps) (delete-supplies st (at n) live keeps) [] js (released-free js fat))
+      subst (Fair size c [] js) (a .same) (plain-fair st (release js fat) (deletes-as st (at n) live keeps) (delete-supplies st (at n) live keeps) []
+      js (released-free js fat))
 
   -- A call that stores nothing takes and releases nothing.
   idle-shown : (ts rs : List ℕ) (p : Program) → ts ≡ [] → rs ≡ [] → p ≡ ending [] → Fair size c ts rs p
@@ -133,7 +135,8 @@ module _ {size : ℕ} {c : Card} (st : Start size c) (is : clean (window size c)
       ⊎-elim
       (λ z. idle-shown more [] p (nothing-taken s (d .size) (z .0)) refl (z .1))
       (λ z. subst (Fair size c more []) (z .1)
-      (operate-fair st (ds st s live keeps d (a .room)) (longer-fat st s live keeps d (a .room)) (updates-as st s live keeps d (a .room)) (append-supplies st s live keeps d (a .room))
+      (operate-fair st (ds st s live keeps d (a .room)) (longer-fat st s live keeps d (a .room)) (updates-as st s live keeps d (a .room))
+      (append-supplies st s live keeps d (a .room))
       more [] (few-data st s live keeps d (a .room))
       (extend-free l (sh .few) fat js (old-plain st s live keeps) (old-busy st s live keeps) more (new-plain st s live keeps d (a .room)))
       (λ sound t i in-root file less. append-spared st s live keeps d (a .room) sound (a .it .file) t i in-root file less)))

@@ -51,7 +51,8 @@ module _ {size : ℕ} {c : Card} (st : Start size c) {ds : List Store} {f : Fat}
   e = entry (fat1-of l t)
 
   -- By the first cluster and the size of a slot.
-  by-slot : (s k n : ℕ) (ks : List ℕ) → first-cluster (slot-at l t s) ≡ k → file-size (slot-at l t s) ≡ n → (keeps-chain l e k n ≡ true) × (chain e (needed l n) k ≡ ks) → HasChain l t s ks
+  by-slot : (s k n : ℕ) (ks : List ℕ) → first-cluster (slot-at l t s) ≡ k → file-size (slot-at l t s) ≡ n
+      → (keeps-chain l e k n ≡ true) × (chain e (needed l n) k ≡ ks) → HasChain l t s ks
   unfolding proper chain-of clusters-of file-at
   by-slot s k n ks first sized h = record {
     keeps = (λ i. keeps-chain l e (first i) (sized i)) ∙ h .0;
@@ -77,7 +78,8 @@ module _ {size : ℕ} {c : Card} (st : Start size c) {ds : List Store} {f : Fat}
     empty-then none no-size = by-slot s 0 0 [] (first-is ∙ none) (size-is ∙ no-size) (refl, rw (needed-none l (sh .factor-low)))
 
     -- A chain that the new FAT links.
-    pub linked-then : (ks : List ℕ) → Linked l (entry f) ks → All (λ k. k < 2 + l .clusters) ks → getD ks 0 0 ≡ first-cluster b → length ks ≡ needed l (file-size b) → (file-size b ≡ 0 → ⊥)
+    pub linked-then : (ks : List ℕ) → Linked l (entry f) ks → All (λ k. k < 2 + l .clusters) ks → getD ks 0 0 ≡ first-cluster b
+        → length ks ≡ needed l (file-size b) → (file-size b ≡ 0 → ⊥)
         → HasChain l t s ks
     linked-then ks h a first long some = by-slot s (first-cluster b) (file-size b) ks first-is size-is
         (linked-keeps l e (first-cluster b) (file-size b) ks

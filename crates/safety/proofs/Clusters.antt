@@ -135,14 +135,16 @@ module _ (l : Layout) (few : l .clusters ≤ 65524) (f : Fat) where
     pub shorten-marks : (freed : List ℕ) → All P freed → (j : ℕ) → marked (shorten old freed f) j ≡ marked f j
     unfolding shorten
     shorten-marks [] a j = refl
-    shorten-marks (k ∷ ks) a j = release-marks (k ∷ ks) cut (all-map P (λ k. marked cut k ≡ false) (λ k u. cut-marks k ∙ u .unmarked) (k ∷ ks) a) j ∙ cut-marks j
+    shorten-marks (k ∷ ks) a j = release-marks (k ∷ ks) cut (all-map P (λ k. marked cut k ≡ false) (λ k u. cut-marks k ∙ u .unmarked) (k ∷ ks) a) j
+        ∙ cut-marks j
 
     pub shorten-free : (freed : List ℕ) (j : ℕ) → free (shorten old freed f) j ≡ FreeThen f [] freed j
     unfolding shorten any
     shorten-free [] j = sym (and-true (free f j))
     shorten-free (k ∷ ks) j =
         released-free (k ∷ ks) cut j
-        ∙ ap (λ b. has (k ∷ ks) j || (b && true)) (link-free (last-of old) f (ranged (last-of old) last-plain) j ∙ no-busy (has (last-of old) j) (free f j) (has-busy (last-of old) last-busy j))
+        ∙ ap (λ b. has (k ∷ ks) j || (b && true))
+        (link-free (last-of old) f (ranged (last-of old) last-plain) j ∙ no-busy (has (last-of old) j) (free f j) (has-busy (last-of old) last-busy j))
       where
         no-busy : (a x : Bool) → (a ≡ true → x ≡ false) → (x && not a) ≡ x
         no-busy true x h = rw (h refl)

@@ -58,7 +58,8 @@ pub needed-less : (l : Layout) → 1 ≤ l .factor → (n m : ℕ) → n ≤ m �
 unfolding needed cluster-bytes
 needed-less l one n m less =
     let pos : 0 < 512 * l .factor = omega arith in
-    let low : (n + (512 * l .factor - 1)) / (512 * l .factor) * (512 * l .factor) ≤ n + (512 * l .factor - 1) = div-mul-le-self (n + (512 * l .factor - 1)) (512 * l .factor) in
+    let low : (n + (512 * l .factor - 1)) / (512 * l .factor) * (512 * l .factor) ≤ n + (512 * l .factor - 1) = div-mul-le-self
+    (n + (512 * l .factor - 1)) (512 * l .factor) in
     le-div-iff-mul-le pos .1 (trans _ n m (512 * l .factor - 1) low less)
   where
     trans : (a n m k : ℕ) → a ≤ n + k → n ≤ m → a ≤ m + k
@@ -68,7 +69,8 @@ pub needed-some : (l : Layout) → 1 ≤ l .factor → (n : ℕ) → (n ≡ 0 �
 needed-some l one n ne = let h : 0 / l .factor < needed l n = in-cluster l one 0 n (omega arith) in omega arith
 
 -- The clusters of a file that keeps the chain rule.
-module _ {size : ℕ} {c : Card} (st : Start size c) (s : ℕ) (live : Live (layout-of c) c s) (keeps : keeps-chain (layout-of c) (entry (first-fat c)) (first-cluster (slot-at (layout-of c) c s)) (file-size (slot-at (layout-of c) c s)) ≡ true) where
+module _ {size : ℕ} {c : Card} (st : Start size c) (s : ℕ) (live : Live (layout-of c) c s)
+    (keeps : keeps-chain (layout-of c) (entry (first-fat c)) (first-cluster (slot-at (layout-of c) c s)) (file-size (slot-at (layout-of c) c s)) ≡ true) where
   abbrev l : Layout
   l = layout-of c
 
@@ -140,7 +142,8 @@ module _ {size : ℕ} {c : Card} (st : Start size c) (s : ℕ) (live : Live (lay
         go : (n ≡ 0) ⊎ (n ≡ 0 → ⊥) → HasChain l t s (take few own)
         go (inl z) =
             let none : take few own ≡ [] = ap (λ m. take m own) (ap (needed l) z ∙ needed-none l (sh .factor-low)) in
-            subst (HasChain l t s) (sym none) (empty-then st end s (live .in-root) new cut-slot (cut-first ∙ ap (λ a. pick a 0 (first-cluster b)) (eq-eqb n 0 z)) (cut-size ∙ z))
+            subst (HasChain l t s) (sym none) (empty-then st end s (live .in-root) new cut-slot
+            (cut-first ∙ ap (λ a. pick a 0 (first-cluster b)) (eq-eqb n 0 z)) (cut-size ∙ z))
         go (inr ne) =
             let some : 0 < few = needed-some l (sh .factor-low) n ne in
             let old : file-size b ≡ 0 → ⊥ = λ e. omega arith in
@@ -186,7 +189,8 @@ module _ {size : ℕ} {c : Card} (st : Start size c) (is : clean (window size c)
     cut-found : Found v t n x
     cut-found = record {
       ok = g .found .ok;
-      at = resized-means st is end n x R (cut-slot st x (g .live) (g .keeps) m less end) (cut-head st x (g .live) (g .keeps) m less end) (uncut-slot st x (g .live) (g .keeps) m less end);
+      at = resized-means st is end n x R (cut-slot st x (g .live) (g .keeps) m less end) (cut-head st x (g .live) (g .keeps) m less end)
+          (uncut-slot st x (g .live) (g .keeps) m less end);
       in-root = g .live .in-root;
       plain =
           same-directory (slot-at (layout-of c) t x) R (head-is st end x (g .live .in-root) R (cut-slot st x (g .live) (g .keeps) m less end))
@@ -215,5 +219,6 @@ module _ {size : ℕ} {c : Card} (st : Start size c) (is : clean (window size c)
       (unstored n m content (subst (λ k. Holds w n k content) (let e : size′ ≡ m = omega arith in e) holds)))
       (λ a. let some : old - m ≡ 0 → ⊥ = a .0 in
       finish-with st is (λ x. Holds x n m content) (truncates n m) p _ h (a .1)
-      (cut-then n m f (omega arith) (ended st [] _ (truncates-as st (at n) (f .live) (f .keeps) m) (truncate-supplies st (at n) (f .live) (f .keeps) m le)) size′ content holds))
+      (cut-then n m f (omega arith) (ended st [] _ (truncates-as st (at n) (f .live) (f .keeps) m)
+      (truncate-supplies st (at n) (f .live) (f .keeps) m le)) size′ content holds))
       (g .same)

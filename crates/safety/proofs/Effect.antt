@@ -36,7 +36,8 @@ Lives d (Rename e k size to renamed) = Unit {0}
 abbrev pub Begins : ℕ → ℕ → ℕ → ℕ → Type 0
 Begins z k old new = (new ≡ old) ⊎ ((k ≤ z) × (new ≡ 0 → ⊥))
 
-edits-begin : (z : ℕ) (es : List Edit) (d : Directory) (k : ℕ) → All (λ e. (e .slot ≤ z) × (e .change (d (e .source)) 0 ≡ 0 → ⊥)) es → Begins z k (d k 0) (set-slots es d k 0)
+edits-begin : (z : ℕ) (es : List Edit) (d : Directory) (k : ℕ) → All (λ e. (e .slot ≤ z) × (e .change (d (e .source)) 0 ≡ 0 → ⊥)) es
+    → Begins z k (d k 0) (set-slots es d k 0)
 unfolding set-slots
 edits-begin z [] d k a = inl refl
 edits-begin z (e ∷ es) d k a = go (same? k (e .slot)) (edits-begin z es d k (a .1))

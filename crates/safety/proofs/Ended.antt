@@ -66,7 +66,8 @@ module _ {size : ℕ} {c : Card} (st : Start size c) (ds : List Store) (f : Fat)
       let Off : Store → Type 0 = λ s. n ≡ s .sector → ⊥ in
       let at : n ≡ log .sector + spot st → ⊥ = λ e. k .no-log (spot st) (spot-in st) (sym e) in
       let first : Away (fats ++ cleared) n = all-append Off fats cleared
-      (write-all l (l .fat2) f (fat2-of l c) Off (λ s less e. omega (arith, sh, k .in-data))) (clearing-all log (log-of log c) Off (λ i less e. k .no-log i less (sym e))) in
+      (write-all l (l .fat2) f (fat2-of l c) Off (λ s less e. omega (arith, sh, k .in-data)))
+      (clearing-all log (log-of log c) Off (λ i less e. k .no-log i less (sym e))) in
       let then : Away (finish l o u) n = finish-all l o u Off (λ s less e. omega (arith, sh, k .in-data)) (λ r less e. omega (arith, sh, k .in-data)) in
       let rest : List Store = group-store g ∷ (finish l o u ++ (commit u g ∷ [])) in
       (λ i. after-append prep rest c i n)

@@ -47,7 +47,8 @@ pub record Fair (size : ℕ) (c : Card) (taken released : List ℕ) (q : Program
   pub cleans : clean (window size (after (stores q) c)) ≡ granted (volume-of c Pending.Nothing)
   pub frees : (j : ℕ) → j < 2 + layout-of c .clusters → free (fat1-of (layout-of c) (after (stores q) c)) j ≡ FreeThen (first-fat c) taken released j
   -- On a sound card the data stores spare every byte of every file.
-  pub spares : Sound (layout-of c) c → (s i : ℕ) → s < layout-of c .entries → is-file (slot-at (layout-of c) c s) ≡ true → i < file-size (slot-at (layout-of c) c s)
+  pub spares : Sound (layout-of c) c → (s i : ℕ) → s < layout-of c .entries → is-file (slot-at (layout-of c) c s) ≡ true
+      → i < file-size (slot-at (layout-of c) c s)
       → Spared c data-stores (file-sector (layout-of c) (chain-of (layout-of c) c s) (i / 512)) (i % 512)
 
 module _ {size : ℕ} {c : Card} (st : Start size c) where
@@ -83,7 +84,8 @@ module _ {size : ℕ} {c : Card} (st : Start size c) where
       short = omega (arith, operate-length ds f o);
       inside = operate-inside st ds f o given;
       cleans = leaves st ds f o given .cleans;
-      frees = λ j less. ap (λ y. is-free y) (entry-clip f (fat1-of l (after (stores (operate v c ds f o)) c)) j (leaves st ds f o given .fat1 (j / 256) (omega (arith, sh)))) ∙ frees j;
+      frees = λ j less. ap (λ y. is-free y) (entry-clip f (fat1-of l (after (stores (operate v c ds f o)) c)) j
+          (leaves st ds f o given .fat1 (j / 256) (omega (arith, sh)))) ∙ frees j;
       spares = spares;
     }
 

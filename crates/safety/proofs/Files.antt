@@ -41,7 +41,8 @@ module _ {size : ℕ} {c : Card} (st : Start size c) (sound : Sound (layout-of c
 
     pub file-within : (i : ℕ) → i < n → i / 512 / l .factor < length ks
     unfolding chain-of clusters-of file-at
-    file-within i less = rw (chain-length (entry (first-fat c)) (needed l n) (first-cluster (slot-at l c s))) (in-cluster l (sh .factor-low) (i / 512) n (omega arith))
+    file-within i less = rw (chain-length (entry (first-fat c)) (needed l n) (first-cluster (slot-at l c s)))
+        (in-cluster l (sh .factor-low) (i / 512) n (omega arith))
 
     pub file-clear : (i : ℕ) → i < n → Clear c (file-sector l ks (i / 512))
     file-clear i less = sector-clear st ks (used-plain l (first-fat c) ks file-used) (i / 512) (file-within i less)

@@ -20,8 +20,10 @@ use Rattle.model.specs.declared.Layout.{Layout}
 use Rattle.model.specs.declared.Pending.{Pending}
 use Rattle.model.specs.declared.Volume.{Volume}
 use Rattle.operations.specs.Program.{Program, ending}
-use Rattle.operations.specs.Plan.{operate, create-stores, rename-stores, delete-stores, truncate-stores, truncate-along, append-stores, append-along, clusters-of, new-clusters, added}
-use Rattle.operations.specs.Calls.{creates, renames, deletes, truncates, appends, plan, create, rename, delete, truncate, append, unless-none, taken, root-full, file-in, file-of, slot-of, name-of}
+use Rattle.operations.specs.Plan.{operate, create-stores, rename-stores, delete-stores, truncate-stores, truncate-along, append-stores, append-along}
+use Rattle.operations.specs.Plan.{clusters-of, new-clusters, added}
+use Rattle.operations.specs.Calls.{creates, renames, deletes, truncates, appends, plan, create, rename, delete, truncate, append, unless-none, taken}
+use Rattle.operations.specs.Calls.{root-full, file-in, file-of, slot-of, name-of}
 use Rattle.safety.specs.Sound.{proper}
 use Rattle.model.proofs.Tests.{which, and-left, and-right, and-both}
 use Rattle.model.proofs.Grounds.{then, asked, bound}
@@ -129,7 +131,8 @@ module _ {size : ℕ} {c : Card} (st : Start size c) (is : clean (window size c)
 
   named-in : (n : Span) (f : File) → file-of v c n ≡ granted f → Named n
   unfolding proper
-  named-in n f h = let a = found-in w v is n f h in record { found = a; live = live-at n (a .in-root); keeps = a .keeps; file = file-at-name n (a .in-root) (a .plain) }
+  named-in n f h = let a = found-in w v is n f h in record
+      { found = a; live = live-at n (a .in-root); keeps = a .keeps; file = file-at-name n (a .in-root) (a .plain) }
 
   pub record Deleted (n : Span) (p : Program) : Type 0 where
     pub it : Named n
@@ -154,7 +157,8 @@ module _ {size : ℕ} {c : Card} (st : Start size c) (is : clean (window size c)
   pub record Truncated (n : Span) (m : ℕ) (p : Program) : Type 0 where
     pub it : Named n
     pub less : m ≤ file-size (slot-at l c (at n))
-    pub same : Unless (file-size (slot-at l c (at n)) - m) (operate v c [] (cut-fat st (at n) (it .live) (it .keeps) m) (truncates-as st (at n) (it .live) (it .keeps) m)) p
+    pub same : Unless (file-size (slot-at l c (at n)) - m)
+        (operate v c [] (cut-fat st (at n) (it .live) (it .keeps) m) (truncates-as st (at n) (it .live) (it .keeps) m)) p
 
   pub truncate-granted : (n : Span) (m : ℕ) (p : Program) → plan (truncates n m) w ≡ granted p → Truncated n m p
   unfolding plan truncate truncate-stores truncate-along file-at clusters-of
@@ -167,7 +171,12 @@ module _ {size : ℕ} {c : Card} (st : Start size c) (is : clean (window size c)
       let mine : file-at l c (at n) ≡ f = found-file w v is n f (b .1) in
       let sized : file-size (slot-at l c (at n)) ≡ f .size = ap (λ f. f .size) mine in
       let le : m ≤ f .size = ltb-false (f .size) m (h2 .0) in
-      record { it = named-in n f (b .1); less = omega arith; same = unless-is _ _ p (ap (λ (g : File). unless-none (g .size - m) (truncate-stores v c g m)) mine ∙ s) }
+      record {
+        it = named-in n f (b .1);
+        less = omega arith;
+        same = unless-is _ _ p
+            (ap (λ (g : File). unless-none (g .size - m) (truncate-stores v c g m)) mine ∙ s);
+      }
 
   abbrev pub Room : ℕ → Span → Type 0
   Room s d = added l (file-at l c s) (d .size) ≤ length (free-clusters l fat)
@@ -175,7 +184,8 @@ module _ {size : ℕ} {c : Card} (st : Start size c) (is : clean (window size c)
   pub record Appended (n d : Span) (p : Program) : Type 0 where
     pub it : Named n
     pub room : Room (at n) d
-    pub same : Unless (d .size) (operate v c (ds st (at n) (it .live) (it .keeps) d room) (longer-fat st (at n) (it .live) (it .keeps) d room) (updates-as st (at n) (it .live) (it .keeps) d room)) p
+    pub same : Unless (d .size) (operate v c (ds st (at n) (it .live) (it .keeps) d room) (longer-fat st (at n) (it .live) (it .keeps) d room)
+        (updates-as st (at n) (it .live) (it .keeps) d room)) p
 
   pub append-granted : (n d : Span) (p : Program) → plan (appends n d) w ≡ granted p → Appended n d p
   unfolding plan append append-stores append-along file-at clusters-of new-clusters added
@@ -187,4 +197,9 @@ module _ {size : ℕ} {c : Card} (st : Start size c) (is : clean (window size c)
       let s : unless-none (d .size) (append-stores v c f d) ≡ p = cc in
       let mine : file-at l c (at n) ≡ f = found-file w v is n f (b .1) in
       let space : added l f (d .size) ≤ length (free-clusters l fat) = ltb-false (length (free-clusters l fat)) (added l f (d .size)) (h2 .0) in
-      record { it = named-in n f (b .1); room = rw (ap (λ g. added l g (d .size)) mine) space; same = unless-is _ _ p (ap (λ g. unless-none (d .size) (append-stores v c g d)) mine ∙ s) }
+      record {
+        it = named-in n f (b .1);
+        room = rw (ap (λ g. added l g (d .size)) mine) space;
+        same = unless-is _ _ p
+            (ap (λ g. unless-none (d .size) (append-stores v c g d)) mine ∙ s);
+      }

@@ -58,7 +58,8 @@ use Rattle.model.specs.declared.Pending.the-variants as Pending
 
 module _ {size : ℕ} {c : Card} (st : Start size c) (s : ℕ) (live : Live (layout-of c) c s)
     (keeps : keeps-chain (layout-of c) (entry (first-fat c)) (first-cluster (slot-at (layout-of c) c s)) (file-size (slot-at (layout-of c) c s)) ≡ true)
-    (d : Span) (room : added (layout-of c) (file-at (layout-of c) c s) (d .size) ≤ length (free-clusters (layout-of c) (first-fat c))) (some : d .size ≡ 0 → ⊥) where
+    (d : Span) (room : added (layout-of c) (file-at (layout-of c) c s) (d .size) ≤ length (free-clusters (layout-of c) (first-fat c)))
+    (some : d .size ≡ 0 → ⊥) where
   abbrev l : Layout
   l = layout-of c
 
@@ -145,7 +146,8 @@ module _ {size : ℕ} {c : Card} (st : Start size c) (s : ℕ) (live : Live (lay
   within q less = rw both-length (in-cluster l (sh .factor-low) q total less)
 
   one : (q r : ℕ) → 512 * q < total → 512 * r < total → place q ≡ place r → q ≡ r
-  one q r x y e = one-place l (sh .factor-low) both q r (Appends.all-low st s live keeps d room) (Appends.distinct st s live keeps d room) (within q x) (within r y) e
+  one q r x y e = one-place l (sh .factor-low) both q r (Appends.all-low st s live keeps d room) (Appends.distinct st s live keeps d room)
+      (within q x) (within r y) e
 
   -- A sector that gets new bytes, and one before them.
   sector-new : (q : ℕ) → start ≤ q → 512 * q < total → after ds c (place q) ≡ clip (appended (c (place q)) old d q)
@@ -153,11 +155,13 @@ module _ {size : ℕ} {c : Card} (st : Start size c) (s : ℕ) (live : Live (lay
   sector-new q lo less = after-is (place q) (clip (appended (c (place q)) old d q)) ds c
       (data-each (λ s. place q ≡ s .sector → clip (s .bytes) ≡ clip (appended (c (place q)) old d q))
       (λ r low high e. clip-clip (appended (c (place r)) old d r) ∙ ap (λ r. clip (appended (c (place r)) old d r)) (sym (one q r less (omega arith) e))))
-      (inl (covers-image (λ q. append-sector c (place q) old d q) (place q) q (range start many) refl (indices-has (λ k. true) start many q lo (omega arith) refl)))
+      (inl (covers-image (λ q. append-sector c (place q) old d q) (place q) q (range start many) refl
+      (indices-has (λ k. true) start many q lo (omega arith) refl)))
 
   sector-old : (q : ℕ) → q < start → 512 * q < total → after ds c (place q) ≡ c (place q)
   unfolding append-sector
-  sector-old q low less = after-away ds c (place q) (data-each (λ s. place q ≡ s .sector → ⊥) (λ r lo hi e. let same : q ≡ r = one q r less (omega arith) e in omega arith))
+  sector-old q low less = after-away ds c (place q)
+      (data-each (λ s. place q ≡ s .sector → ⊥) (λ r lo hi e. let same : q ≡ r = one q r less (omega arith) e in omega arith))
 
   -- ---- the card at the end
 
@@ -184,11 +188,14 @@ module _ {size : ℕ} {c : Card} (st : Start size c) (s : ℕ) (live : Live (lay
 
     pub grown-chain : HasChain l t s both
     grown-chain = linked-then st end s (live .in-root) grown grown-slot both both-linked both-high
-        (sym (resized-first (eqb (last-cluster own) 0) (getD new 0 0) total b (plain-fits l (sh .few) fat new (Appends.new-plain st s live keeps d room) 0) ∙ head-then)) (both-length ∙ ap (needed l) (sym grown-size)) (λ e. some (let z : total ≡ 0 = sym grown-size ∙ e in omega arith))
+        (sym (resized-first (eqb (last-cluster own) 0) (getD new 0 0) total b
+        (plain-fits l (sh .few) fat new (Appends.new-plain st s live keeps d room) 0) ∙ head-then)) (both-length ∙ ap (needed l) (sym grown-size))
+        (λ e. some (let z : total ≡ 0 = sym grown-size ∙ e in omega arith))
 
     at-place : (i : ℕ) → i < total → file-byte l t (file-at l t s) i ≡ after ds c (place (i / 512)) (i % 512)
     at-place i less = along l t s both i (grown-chain .chain)
-        ∙ (λ j. end .sectors (place (i / 512)) (sector-clear st both (Appends.all-plain st s live keeps d room) (i / 512) (within (i / 512) (omega arith))) j (i % 512))
+        ∙ (λ j. end .sectors (place (i / 512)) (sector-clear st both (Appends.all-plain st s live keeps d room) (i / 512)
+        (within (i / 512) (omega arith))) j (i % 512))
 
     laid : (i : ℕ) → start ≤ i / 512 → i < total → file-byte l t (file-at l t s) i ≡ pick (ltb i old) (c (place (i / 512)) (i % 512)) (d .byte (i - old))
     unfolding appended
@@ -227,7 +234,8 @@ module _ {size : ℕ} {c : Card} (st : Start size c) (is : clean (window size c)
   then-new size content d i = pick (ltb i size) (content i) (d .byte (i - size))
 
   module _ (n d : Span) (g : Named st is n) (room : Room st is (at n) d) (some : d .size ≡ 0 → ⊥) {t : Card}
-      (end : Ended size c (Appends.ds st (at n) (g .live) (g .keeps) d room) (longer-fat st (at n) (g .live) (g .keeps) d room) (updates-as st (at n) (g .live) (g .keeps) d room) t) where
+      (end : Ended size c (Appends.ds st (at n) (g .live) (g .keeps) d room) (longer-fat st (at n) (g .live) (g .keeps) d room)
+      (updates-as st (at n) (g .live) (g .keeps) d room) t) where
     abbrev x : ℕ
     x = at n
 
@@ -235,7 +243,8 @@ module _ {size : ℕ} {c : Card} (st : Start size c) (is : clean (window size c)
     R = grown st x (g .live) (g .keeps) d room some end
 
     head-x : SameHead (slot-at (layout-of c) t x) (slot-at (layout-of c) c x)
-    head-x j small = head-is st end x (g .live .in-root) R (grown-slot st x (g .live) (g .keeps) d room some end) j small ∙ grown-head st x (g .live) (g .keeps) d room some end j small
+    head-x j small = head-is st end x (g .live .in-root) R (grown-slot st x (g .live) (g .keeps) d room some end) j small
+        ∙ grown-head st x (g .live) (g .keeps) d room some end j small
 
     grown-found : Found v t n x
     grown-found = record {
@@ -252,9 +261,11 @@ module _ {size : ℕ} {c : Card} (st : Start size c) (is : clean (window size c)
         let r : Read w v is n size′ content = holds-read w v is n size′ content h in
         let sized : file-size (slot-at (layout-of c) c x) ≡ size′ = r .sized in
         holds-of (window size t) v (end .cleans) n x grown-found (size′ + d .size) (then-new size′ content d)
-        (size-is st end x (g .live .in-root) R (grown-slot st x (g .live) (g .keeps) d room some end) ∙ grown-size st x (g .live) (g .keeps) d room some end ∙ ap (λ m. m + d .size) sized)
+        (size-is st end x (g .live .in-root) R (grown-slot st x (g .live) (g .keeps) d room some end)
+        ∙ grown-size st x (g .live) (g .keeps) d room some end ∙ ap (λ m. m + d .size) sized)
         (λ i less. ⊎-elim
-        (λ low. old-bytes st x (g .live) (g .keeps) d room some end i (omega arith) ∙ r .same i low ∙ sym (ap (λ t. pick t (content i) (d .byte (i - size′))) (lt-ltb i size′ low)))
+        (λ low. old-bytes st x (g .live) (g .keeps) d room some end i (omega arith) ∙ r .same i low
+        ∙ sym (ap (λ t. pick t (content i) (d .byte (i - size′))) (lt-ltb i size′ low)))
         (λ high. new-bytes st x (g .live) (g .keeps) d room some end i (omega arith) (omega arith) ∙ ap (λ m. d .byte (i - m)) sized
         ∙ sym (ap (λ t. pick t (content i) (d .byte (i - size′))) (le-ltb i size′ high)))
         (less? i size′))
@@ -275,5 +286,6 @@ module _ {size : ℕ} {c : Card} (st : Start size c) (is : clean (window size c)
       (λ a. finish-with st is (λ x. Holds x n (size′ + d .size) (then-new size′ content d)) (appends n d) p (ending []) h (sym (a .1))
       (unstored st is n (size′ + d .size) (then-new size′ content d) (none-then n d size′ content (a .0) holds)))
       (λ a. finish-with st is (λ x. Holds x n (size′ + d .size) (then-new size′ content d)) (appends n d) p _ h (a .1)
-      (grown-then n d f (g .room) (a .0) (ended st _ _ (updates-as st (at n) (f .live) (f .keeps) d (g .room)) (append-supplies st (at n) (f .live) (f .keeps) d (g .room))) size′ content holds))
+      (grown-then n d f (g .room) (a .0) (ended st _ _ (updates-as st (at n) (f .live) (f .keeps) d (g .room))
+      (append-supplies st (at n) (f .live) (f .keeps) d (g .room))) size′ content holds))
       (g .same)

@@ -125,7 +125,8 @@ module _ (size : ℕ) (Want : ℕ → ℕ → Type 0) (Before After : Card → T
   -- rests.
   pub two-run : (zs : List Store) (k : Cut (grouped prep g fin m) zs) (y : Card) → Later size (after zs c) y
       → Ends size (Goal Want c (after (stores (grouped prep g fin m)) c) (passes-group (grouped prep g fin m) zs k)) (recovery size y) y
-  two-run zs k y l = rw end-card (ends (passes-group (grouped prep g fin m) zs k) y (later (passes-group (grouped prep g fin m) zs k) (after zs c) y l (op-cut zs k)))
+  two-run zs k y l = rw end-card (ends (passes-group (grouped prep g fin m) zs k) y
+      (later (passes-group (grouped prep g fin m) zs k) (after zs c) y l (op-cut zs k)))
 
 -- ---- one theorem for every call: it has the laws of a group, or makes no store on a card at rest
 
@@ -147,7 +148,8 @@ pub every-run : (size : ℕ) (Want : ℕ → ℕ → Type 0) (c : Card) (q : Pro
 every-run size Want c q (Kept.none h) zs k y l =
     let e : y ≡ c = rest-later size c y h (rw (Sublistᴰ·eq-nil k, after-nil c) at l) in
     rw (e, h) (rw (after-nil c) ((λ n j w. refl), h, omega arith))
-every-run size Want c q (Kept.group {prep} {g} {fin} {m} {u} {v} {Before = B} {After = A} laws) zs k y l = two-run size Want B A c prep g fin m u v laws zs k y l
+every-run size Want c q (Kept.group {prep} {g} {fin} {m} {u} {v} {Before = B} {After = A} laws) zs k y l = two-run size Want B A c prep g fin m u v
+    laws zs k y l
 
 -- ---- the cut of a card that holds nothing back
 

@@ -83,7 +83,8 @@ chain-head l e zero k h = absurd h
 chain-head l e (suc n) k h = refl
 
 -- A file that keeps the chain rule keeps it along entries that agree on its chain.
-pub keeps-same : (l : Layout) (e f : ℕ → ℕ) (k size : ℕ) → All (λ j. f j ≡ e j) (chain e (needed l size) k) → keeps-chain l e k size ≡ true → keeps-chain l f k size ≡ true
+pub keeps-same : (l : Layout) (e f : ℕ → ℕ) (k size : ℕ) → All (λ j. f j ≡ e j) (chain e (needed l size) k) → keeps-chain l e k size ≡ true
+    → keeps-chain l f k size ≡ true
 keeps-same l e f k size a h = go (same? size 0)
   where
     go : (size ≡ 0) ⊎ (size ≡ 0 → ⊥) → keeps-chain l f k size ≡ true
@@ -109,7 +110,8 @@ release-other (k ∷ ks) f j a = release-other ks (set-entry k 0 f) j (a .1) ∙
 pub extend-other : (old new : List ℕ) (f : Fat) (j : ℕ) → Off old j → Off new j → entry (extend old new f) j ≡ entry f j
 unfolding extend
 extend-other old [] f j a b = refl
-extend-other old (k ∷ ks) f j a b = link-other (last-of old ++ (k ∷ ks)) f j (all-append (λ k. j ≡ k → ⊥) (last-of old) (k ∷ ks) (all-drop (λ k. j ≡ k → ⊥) (length old - 1) old a) b)
+extend-other old (k ∷ ks) f j a b = link-other (last-of old ++ (k ∷ ks)) f j
+    (all-append (λ k. j ≡ k → ⊥) (last-of old) (k ∷ ks) (all-drop (λ k. j ≡ k → ⊥) (length old - 1) old a) b)
 
 pub shorten-other : (kept freed : List ℕ) (f : Fat) (j : ℕ) → Off kept j → Off freed j → entry (shorten kept freed f) j ≡ entry f j
 unfolding shorten
@@ -159,7 +161,8 @@ module _ (l : Layout) where
   leads-take e (k ∷ (j ∷ r)) (suc (suc n)) (suc m) h less = (h .1 .0, leads-take e (j ∷ r) (suc n) m (h .1 .1) (omega arith))
 
   -- New clusters linked after the old last.
-  pub extend-linked : (old new : List ℕ) (f : Fat) → Distinct (old ++ new) → All (Ranged l) (old ++ new) → (0 < length old → Linked l (entry f) old) → 0 < length (old ++ new)
+  pub extend-linked : (old new : List ℕ) (f : Fat) → Distinct (old ++ new) → All (Ranged l) (old ++ new) → (0 < length old → Linked l (entry f) old)
+      → 0 < length (old ++ new)
       → Linked l (entry (extend old new f)) (old ++ new)
   unfolding extend
   extend-linked [] [] f d a h some = absurd (omega arith)
@@ -168,7 +171,8 @@ module _ (l : Layout) where
   extend-linked (j ∷ r) (k ∷ ks) f d a h some =
       let m : ℕ = length (j ∷ r) - 1 in
       subst (λ (xs : List ℕ). Linked l (entry (link xs f)) ((j ∷ r) ++ (k ∷ ks))) (drop-append-le m (j ∷ r) (k ∷ ks) (omega arith))
-      (relinked m ((j ∷ r) ++ (k ∷ ks)) f (longer m (j ∷ r) (k ∷ ks) (omega arith)) d a (leads-more (entry f) (j ∷ r) (k ∷ ks) m (h (omega arith)) (omega arith)))
+      (relinked m ((j ∷ r) ++ (k ∷ ks)) f (longer m (j ∷ r) (k ∷ ks) (omega arith)) d a
+      (leads-more (entry f) (j ∷ r) (k ∷ ks) m (h (omega arith)) (omega arith)))
     where
       longer : (m : ℕ) (xs ys : List ℕ) → m < length xs → m < length (xs ++ ys)
       longer m xs ys less = rw (length-append xs ys) (omega arith)
@@ -187,7 +191,8 @@ module _ (l : Layout) where
       some (k ∷ (j ∷ r)) g = omega arith
 
       go : (freed : List ℕ) → drop n ks ≡ freed → Linked l (entry (shorten kept freed f)) kept
-      go [] e = rw (let whole : take n ks ≡ ks = sym (append-nil (take n ks)) ∙ ap (λ (xs : List ℕ). take n ks ++ xs) (sym e) ∙ take-append-drop n ks in whole) h
+      go [] e = rw (let whole : take n ks ≡ ks = sym (append-nil (take n ks)) ∙ ap (λ (xs : List ℕ). take n ks ++ xs) (sym e)
+          ∙ take-append-drop n ks in whole) h
       go (k ∷ r) e =
           let one : 0 < length kept = rw (length-take n ks) (omega (arith, some ks h)) in
           let m : ℕ = length kept - 1 in
@@ -195,4 +200,5 @@ module _ (l : Layout) where
           relinked m kept f (omega arith) (distinct-take n ks d) (all-take (Ranged l) n ks a) (leads-take (entry f) ks n m h (omega arith)) in
           linked-same l (entry (link (last-of kept) f)) (entry (release (k ∷ r) (link (last-of kept) f))) kept
           (all-map (Off (k ∷ r)) (λ j. entry (release (k ∷ r) (link (last-of kept) f)) j ≡ entry (link (last-of kept) f) j)
-          (λ j off. release-other (k ∷ r) (link (last-of kept) f) j off) kept (subst (λ (xs : List ℕ). All (Off xs) kept) e (distinct-parts kept (drop n ks) (rw (take-append-drop n ks) d)))) cut
+          (λ j off. release-other (k ∷ r) (link (last-of kept) f) j off) kept
+          (subst (λ (xs : List ℕ). All (Off xs) kept) e (distinct-parts kept (drop n ks) (rw (take-append-drop n ks) d)))) cut

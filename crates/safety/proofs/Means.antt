@@ -57,12 +57,14 @@ module _ {size : ℕ} {c : Card} (st : Start size c) (is : clean (window size c)
       (told (bears (name-of m) (d (at n))))
 
   -- Nor does a slot that was given a name that meant none.
-  not-new : (n m : Span) (b : Bytes) → l .entries ≤ at n → at m < l .entries → (bears (name-of m) b ≡ true → name-of n ≡ name-of m) → bears (name-of m) b ≡ false
+  not-new : (n m : Span) (b : Bytes) → l .entries ≤ at n → at m < l .entries → (bears (name-of m) b ≡ true → name-of n ≡ name-of m)
+      → bears (name-of m) b ≡ false
   not-new n m b none less h = ⊎-elim (λ e. absurd (let same : at n ≡ at m = same-at m n (h e) in omega arith)) (λ f. f) (told (bears (name-of m) b))
 
   module _ {ds : List Store} {f : Fat} {o : Operation} {t : Card} (end : Ended size c ds f o t) (m : Span) where
     -- A slot that is edited, and one that is not.
-    edited : (k : ℕ) → k < l .entries → (b : Bytes) → effect o d k ≡ b → bears (name-of m) b ≡ bears (name-of m) (d k) → bears (name-of m) (slot-at l t k) ≡ bears (name-of m) (d k)
+    edited : (k : ℕ) → k < l .entries → (b : Bytes) → effect o d k ≡ b → bears (name-of m) b ≡ bears (name-of m) (d k)
+        → bears (name-of m) (slot-at l t k) ≡ bears (name-of m) (d k)
     edited k less b e h = same-bears (slot-at l t k) b (head-is st end k less b e) (name-of m) ∙ h
 
     -- One slot edited, whose name stays.
@@ -71,14 +73,16 @@ module _ {size : ℕ} {c : Card} (st : Start size c) (is : clean (window size c)
         (λ q. edited k less b (ap (effect o d) q ∙ e) (same-bears b (d x) h (name-of m) ∙ ap (λ k. bears (name-of m) (d k)) (sym q)))
         (λ ne. edited k less (d k) (out k ne) refl) (same? k x))
 
-  pub create-means : (n : Span) (p : Program) (g : Created st is n p) {t : Card} (end : Ended size c [] (first-fat c) (creates-as st n) t) (m : Span) → at m < l .entries → slot-of v t m ≡ at m
+  pub create-means : (n : Span) (p : Program) (g : Created st is n p) {t : Card} (end : Ended size c [] (first-fat c) (creates-as st n) t) (m : Span)
+      → at m < l .entries → slot-of v t m ≡ at m
   create-means n p g {t} end m there = means-same v c m t (λ k less. ⊎-elim
       (λ q. edited end m k less (new-entry (name-of n)) (ap (effect (creates-as st n) d) q ∙ new-slot st is n p g end)
       (not-new n m (new-entry (name-of n)) (g .unused) there (new-named (name-of m) (name-of n) (name-fits n (g .ok)))
       ∙ sym (ap (λ k. bears (name-of m) (d k)) q ∙ vacant-bears (name-of m) (d z) (free-vacant l c (g .room)))))
       (λ ne. edited end m k less (d k) (old-slot st is n p g end k ne) refl) (same? k z))
 
-  pub rename-means : (n n′ : Span) (p : Program) (g : Renamed st is n n′ p) {t : Card} (end : Ended size c [] (first-fat c) (renames-as st (at n) (g .live) n′) t) (m : Span)
+  pub rename-means : (n n′ : Span) (p : Program) (g : Renamed st is n n′ p) {t : Card}
+      (end : Ended size c [] (first-fat c) (renames-as st (at n) (g .live) n′) t) (m : Span)
       → at m < l .entries → (at m ≡ at n → ⊥) → slot-of v t m ≡ at m
   rename-means n n′ p g {t} end m there other = means-same v c m t (λ k less. ⊎-elim
       (λ q. edited end m k less (mark-deleted (d (at n))) (ap (effect (renames-as st (at n) (g .live) n′) d) q ∙ left-slot st is n n′ p g end)
@@ -91,7 +95,8 @@ module _ {size : ℕ} {c : Card} (st : Start size c) (is : clean (window size c)
       (same? k (at n)))
 
   pub delete-means : (n : Span) (p : Program) (g : Deleted st is n p) {t : Card}
-      (end : Ended size c [] (release (ks st (at n) (g .it .live) (g .it .keeps)) (first-fat c)) (deletes-as st (at n) (g .it .live) (g .it .keeps)) t) (m : Span)
+      (end : Ended size c [] (release (ks st (at n) (g .it .live) (g .it .keeps)) (first-fat c)) (deletes-as st (at n) (g .it .live) (g .it .keeps))
+      t) (m : Span)
       → (at m ≡ at n → ⊥) → slot-of v t m ≡ at m
   delete-means n p g {t} end m other = means-same v c m t (λ k less. ⊎-elim
       (λ q. edited end m k less (mark-deleted (d (at n))) (ap (effect (deletes-as st (at n) (g .it .live) (g .it .keeps)) d) q ∙ gone-slot st is n p g end)

@@ -40,7 +40,8 @@ use Rattle.safety.proofs.Ended.{Ended, ended, same-bears, same-director
 use Rattle.safety.proofs.Chained.{HasChain, head-is, size-is, empty-then, kept-then}
 use Rattle.safety.proofs.Readings.{Found, Read, holds-of, holds-read, gone-of}
 use Rattle.operations.proofs.Edits.{one-in, one-out, two-first, two-second, two-out}
-use Rattle.safety.proofs.Slots.{new-size, new-first, new-directory, new-bears, named-size, named-first, named-directory, named-bears, named-only, deleted-bears, means, means-none, lower-not, bearer}
+use Rattle.safety.proofs.Slots.{new-size, new-first, new-directory, new-bears, named-size, named-first, named-directory, named-bears, named-only}
+use Rattle.safety.proofs.Slots.{deleted-bears, means, means-none, lower-not, bearer}
 use Rattle.safety.proofs.Supplied.{creates-as, renames-as, deletes-as, create-supplies, rename-supplies, delete-supplies, ks}
 use Rattle.safety.proofs.Calls.{left-is}
 use Rattle.safety.proofs.Granted.{Created, create-granted, Renamed, rename-granted, Deleted, delete-granted}
@@ -57,7 +58,8 @@ proper-clear {size} {c} st s h i less =
     let k : ℕ = first-cluster (slot-at l c s) in
     let sh : Shape l = shape-of st in
     let used : All (Used l g) (chain g (needed l n) k) = chain-used l (sh .few) g (sh .factor-low) k n h in
-    let within : i / 512 / l .factor < length (chain g (needed l n) k) = rw (chain-length g (needed l n) k) (in-cluster l (sh .factor-low) (i / 512) n (omega arith)) in
+    let within : i / 512 / l .factor < length (chain g (needed l n) k) = rw (chain-length g (needed l n) k)
+    (in-cluster l (sh .factor-low) (i / 512) n (omega arith)) in
     (within, sector-clear st (chain g (needed l n) k) (used-plain l (first-fat c) (chain g (needed l n) k) used) (i / 512) within)
 
 module _ {size : ℕ} {c : Card} (st : Start size c) (is : clean (window size c) ≡ granted (volume-of c Pending.Nothing)) where
@@ -83,7 +85,8 @@ module _ {size : ℕ} {c : Card} (st : Start size c) (is : clean (window size c)
   z = free-slot l c
 
   -- What holds of the card that a program's stores leave holds of the window that the call leaves.
-  pub finish-with : (P : Window → Type 0) (k : Call) (p q : Program) → plan k w ≡ granted p → q ≡ p → P (window size (after (stores q) c)) → P (left largest k w)
+  pub finish-with : (P : Window → Type 0) (k : Call) (p q : Program) → plan k w ≡ granted p → q ≡ p → P (window size (after (stores q) c))
+      → P (left largest k w)
   finish-with P k p q h e x = subst P (sym (left-is st is k p h)) (subst (λ q. P (window size (after (stores q) c))) e x)
 
   -- ---- create
@@ -101,8 +104,10 @@ module _ {size : ℕ} {c : Card} (st : Start size c) (is : clean (window size c)
     create-found = record {
       ok = g .ok;
       at = means v t n z (g .room)
-          (same-bears (slot-at l t z) (new-entry (name-of n)) (head-is st end z (g .room) (new-entry (name-of n)) new-slot) (name-of n) ∙ new-bears (name-of n) (name-fits n (g .ok)) (name-starts n (g .ok)))
-          (λ j less. same-bears (slot-at l t j) (d j) (head-is st end j (omega (arith, g .room)) (d j) (old-slot j (λ e. omega arith))) (name-of n) ∙ lower-not v c n j (omega (arith, g .room, g .unused)));
+          (same-bears (slot-at l t z) (new-entry (name-of n)) (head-is st end z (g .room) (new-entry (name-of n)) new-slot) (name-of n)
+          ∙ new-bears (name-of n) (name-fits n (g .ok)) (name-starts n (g .ok)))
+          (λ j less. same-bears (slot-at l t j) (d j) (head-is st end j (omega (arith, g .room)) (d j) (old-slot j (λ e. omega arith))) (name-of n)
+          ∙ lower-not v c n j (omega (arith, g .room, g .unused)));
       in-root = g .room;
       plain = same-directory (slot-at l t z) (new-entry (name-of n)) (head-is st end z (g .room) (new-entry (name-of n)) new-slot) ∙ new-directory (name-of n);
       keeps = empty-then st end z (g .room) (new-entry (name-of n)) new-slot (new-first (name-of n)) (new-size (name-of n)) .keeps;
@@ -151,7 +156,8 @@ module _ {size : ℕ} {c : Card} (st : Start size c) (is : clean (window size c)
     no-label = not-true (is-label (d x)) (and-right (not (vacant (d x))) (not (is-label (d x))) x-listed)
 
     x-not : (name : Span) → bears (name-of name) (slot-at l t x) ≡ false
-    x-not name = same-bears (slot-at l t x) (mark-deleted (d x)) (head-is st end x (g .live .in-root) (mark-deleted (d x)) left-slot) (name-of name) ∙ deleted-bears (name-of name) (d x)
+    x-not name = same-bears (slot-at l t x) (mark-deleted (d x)) (head-is st end x (g .live .in-root) (mark-deleted (d x)) left-slot) (name-of name)
+        ∙ deleted-bears (name-of name) (d x)
 
     rest-bears : (name : Span) (k : ℕ) → k < l .entries → (k ≡ x → ⊥) → (k ≡ z → ⊥) → bears (name-of name) (slot-at l t k) ≡ bears (name-of name) (d k)
     rest-bears name k less ne other = same-bears (slot-at l t k) (d k) (head-is st end k less (d k) (rest-slot k ne other)) (name-of name)
@@ -162,7 +168,8 @@ module _ {size : ℕ} {c : Card} (st : Start size c) (is : clean (window size c)
 
     module _ (keeps : proper l c x ≡ true) where
       pub rename-chain : HasChain l t z (chain-of l c x)
-      rename-chain = kept-then st end z (g .room) b named-slot x (named-first (name-of m) (d x)) (named-size (name-of m) (d x)) keeps (all-same (chain-of l c x))
+      rename-chain = kept-then st end z (g .room) b named-slot x (named-first (name-of m) (d x)) (named-size (name-of m) (d x)) keeps
+          (all-same (chain-of l c x))
         where
           all-same : (js : List ℕ) → All (λ k. entry fat k ≡ entry fat k) js
           all-same [] = tt
@@ -172,7 +179,8 @@ module _ {size : ℕ} {c : Card} (st : Start size c) (is : clean (window size c)
       rename-found = record {
         ok = g .new-ok;
         at = means v t m z (g .room)
-            (same-bears (slot-at l t z) b (head-is st end z (g .room) b named-slot) (name-of m) ∙ named-bears (name-of m) (d x) (name-fits m (g .new-ok)) (name-starts m (g .new-ok)) no-label) lower;
+            (same-bears (slot-at l t z) b (head-is st end z (g .room) b named-slot) (name-of m)
+            ∙ named-bears (name-of m) (d x) (name-fits m (g .new-ok)) (name-starts m (g .new-ok)) no-label) lower;
         in-root = g .room;
         plain = same-directory (slot-at l t z) b (head-is st end z (g .room) b named-slot) ∙ named-directory (name-of m) (d x) ∙ g .plain;
         keeps = rename-chain .keeps;
@@ -199,14 +207,17 @@ module _ {size : ℕ} {c : Card} (st : Start size c) (is : clean (window size c)
         clash (rw e at (bearer v t n less)) (x-not n)
 
     rename-gone : Alone v c n → Gone (window size t) n
-    rename-gone alone = gone-of (window size t) v (end .cleans) n (g .ok) (means-none v t n (λ j less. go j less (same? j x) (same? j z) (told (bears (name-of n) (slot-at l t j)))))
+    rename-gone alone = gone-of (window size t) v (end .cleans) n (g .ok)
+        (means-none v t n (λ j less. go j less (same? j x) (same? j z) (told (bears (name-of n) (slot-at l t j)))))
       where
         other-name : bears (name-of n) (slot-at l t z) ≡ true → ⊥
         other-name h =
-            let same : name-of m ≡ name-of n = named-only (name-of n) (name-of m) (d x) (name-fits m (g .new-ok)) (sym (same-bears (slot-at l t z) b (head-is st end z (g .room) b named-slot) (name-of n)) ∙ h) in
+            let same : name-of m ≡ name-of n = named-only (name-of n) (name-of m) (d x) (name-fits m (g .new-ok))
+            (sym (same-bears (slot-at l t z) b (head-is st end z (g .room) b named-slot) (name-of n)) ∙ h) in
             clash (bearer v c n (g .live .in-root)) (ap (λ name. bears name (d x)) (sym same) ∙ lower-not v c m x (omega (arith, g .live .in-root, g .unused)))
 
-        go : (j : ℕ) → j < l .entries → (j ≡ x) ⊎ (j ≡ x → ⊥) → (j ≡ z) ⊎ (j ≡ z → ⊥) → (bears (name-of n) (slot-at l t j) ≡ true) ⊎ (bears (name-of n) (slot-at l t j) ≡ false)
+        go : (j : ℕ) → j < l .entries → (j ≡ x) ⊎ (j ≡ x → ⊥) → (j ≡ z) ⊎ (j ≡ z → ⊥)
+            → (bears (name-of n) (slot-at l t j) ≡ true) ⊎ (bears (name-of n) (slot-at l t j) ≡ false)
             → bears (name-of n) (slot-at l t j) ≡ false
         go j less a b (inr f) = f
         go j less (inl e) b (inl h) = rw e (x-not n)
@@ -246,7 +257,8 @@ module _ {size : ℕ} {c : Card} (st : Start size c) (is : clean (window size c)
     kept-slot k ne = one-out (deletes-as st (at n) (g .it .live) (g .it .keeps)) d (at n) (λ b. mark-deleted b) refl k ne
 
     not-there : bears (name-of n) (slot-at l t (at n)) ≡ false
-    not-there = same-bears (slot-at l t (at n)) (mark-deleted (d (at n))) (head-is st end (at n) (g .it .live .in-root) (mark-deleted (d (at n))) gone-slot) (name-of n)
+    not-there = same-bears (slot-at l t (at n)) (mark-deleted (d (at n)))
+        (head-is st end (at n) (g .it .live .in-root) (mark-deleted (d (at n))) gone-slot) (name-of n)
         ∙ deleted-bears (name-of n) (d (at n))
 
     delete-from : slot-of v t n ≡ at n → ⊥
@@ -255,13 +267,15 @@ module _ {size : ℕ} {c : Card} (st : Start size c) (is : clean (window size c)
         clash (rw e at (bearer v t n less)) not-there
 
     delete-gone : Alone v c n → Gone (window size t) n
-    delete-gone alone = gone-of (window size t) v (end .cleans) n (g .it .found .ok) (means-none v t n (λ j less. go j less (same? j (at n)) (told (bears (name-of n) (slot-at l t j)))))
+    delete-gone alone = gone-of (window size t) v (end .cleans) n (g .it .found .ok)
+        (means-none v t n (λ j less. go j less (same? j (at n)) (told (bears (name-of n) (slot-at l t j)))))
       where
         go : (j : ℕ) → j < l .entries → (j ≡ at n) ⊎ (j ≡ at n → ⊥) → (bears (name-of n) (slot-at l t j) ≡ true) ⊎ (bears (name-of n) (slot-at l t j) ≡ false)
             → bears (name-of n) (slot-at l t j) ≡ false
         go j less a (inr f) = f
         go j less (inl e) (inl h) = rw e not-there
-        go j less (inr ne) (inl h) = absurd (ne (alone j less (sym (same-bears (slot-at l t j) (d j) (head-is st end j less (d j) (kept-slot j ne)) (name-of n)) ∙ h)))
+        go j less (inr ne) (inl h) = absurd (ne (alone j less (sym (same-bears (slot-at l t j) (d j) (head-is st end j less (d j) (kept-slot j ne))
+            (name-of n)) ∙ h)))
 
   pub delete-end : (n : Span) (p : Program) (g : Deleted st is n p)
       → Ended size c [] (release (ks st (at n) (g .it .live) (g .it .keeps)) fat) (deletes-as st (at n) (g .it .live) (g .it .keeps))

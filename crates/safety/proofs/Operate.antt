@@ -126,7 +126,8 @@ module _ {size : ℕ} {c : Card} (st : Start size c) where
         let cleared : List Store = clearing log (log-of log c) in
         let data-away : Away ds (l .fat2 + s) =
         all-map (λ t. Clear c (t .sector)) (λ t. l .fat2 + s ≡ t .sector → ⊥) (λ t k q. omega (arith, sh, k .in-data)) ds (given .outside) in
-        let log-away : Away cleared (l .fat2 + s) = clearing-all log (log-of log c) (λ t. l .fat2 + s ≡ t .sector → ⊥) (λ i k q. omega (arith, sh, log-low st)) in
+        let log-away : Away cleared (l .fat2 + s) = clearing-all log (log-of log c) (λ t. l .fat2 + s ≡ t .sector → ⊥)
+        (λ i k q. omega (arith, sh, log-low st)) in
         (λ t. (after-append ds (fats ++ cleared) c ∙ after-append fats cleared (after ds c)) t (l .fat2 + s))
         ∙ after-away cleared (after fats (after ds c)) (l .fat2 + s) log-away
         ∙ write-done l (l .fat2) f (fat2-of l c) (after ds c) s less (st .clipped (l .fat2 + s) ∙ sym (after-away ds c (l .fat2 + s) data-away))
@@ -185,7 +186,8 @@ module _ {size : ℕ} {c : Card} (st : Start size c) where
     pub leaves : Leaves size c f o (after (stores (operate v c ds f o)) c)
     unfolding operate journal redo new-group group-sector
     leaves = subst (Leaves size c f o)
-        (sym (end-card size (Wanted c ds) (Before c ds) (Mixed st entered) c prep (group-store the-group) (finish l o with-group) (commit with-group the-group) with-group (complete st entered) laws))
+        (sym (end-card size (Wanted c ds) (Before c ds) (Mixed st entered) c prep (group-store the-group) (finish l o with-group)
+        (commit with-group the-group) with-group (complete st entered) laws))
         (record {
           cleans = ended-clean st entered;
           fat1 = λ s less. ended-fat1 st entered s less ∙ fat2-is s less;

@@ -33,14 +33,16 @@ use Rattle.safety.proofs.Chained.{HasChain, slot-is, head-is, kept-then
 -- A spared byte is as it was.
 spared-after : (c : Card) (ds : List Store) (n j : ℕ) → Spared c ds n j → after ds c n j ≡ c n j
 spared-after c ds n j h = after-keeps (λ x. x n j ≡ c n j) ds
-    (all-map (λ s. n ≡ s .sector → clip (s .bytes) j ≡ c n j) (Keeps (λ x. x n j ≡ c n j)) (λ s k x e. put-case (λ (y : Bytes). y j ≡ c n j) x s n k (λ _. e)) ds (h .kept)) c refl
+    (all-map (λ s. n ≡ s .sector → clip (s .bytes) j ≡ c n j) (Keeps (λ x. x n j ≡ c n j))
+    (λ s k x e. put-case (λ (y : Bytes). y j ≡ c n j) x s n k (λ _. e)) ds (h .kept)) c refl
 
 -- A root file's slot is live, and so not the free one.
 pub file-live : (l : Layout) (c : Card) (s : ℕ) → s < l .entries → is-file (slot-at l c s) ≡ true → Live l c s
 unfolding is-file listed
 file-live l c s less h = record {
   in-root = less;
-  begins = sym (vacant-starts (slot-at l c s)) ∙ and-left (not (vacant (slot-at l c s))) (not (is-label (slot-at l c s))) (and-left (listed (slot-at l c s)) (not (is-directory (slot-at l c s))) h);
+  begins = sym (vacant-starts (slot-at l c s)) ∙ and-left (not (vacant (slot-at l c s))) (not (is-label (slot-at l c s)))
+      (and-left (listed (slot-at l c s)) (not (is-directory (slot-at l c s))) h);
 }
 
 pub file-not-free : (l : Layout) (c : Card) (s : ℕ) → s < l .entries → is-file (slot-at l c s) ≡ true → free-slot l c < l .entries → s ≡ free-slot l c → ⊥
@@ -48,15 +50,18 @@ file-not-free l c s less h room e = live-not-free l c s (file-live l c s less h)
 
 -- What an operation supplies of each root file but the one in slot x: the slot, the entries along the chain and the bytes stay.
 pub record Spares (c : Card) (ds : List Store) (f : Fat) (o : Operation) (x : ℕ) : Type 0 where
-  pub slot : (s : ℕ) → s < layout-of c .entries → is-file (slot-at (layout-of c) c s) ≡ true → (s ≡ x → ⊥) → effect o (slot-at (layout-of c) c) s ≡ slot-at (layout-of c) c s
-  pub fat : (s : ℕ) → s < layout-of c .entries → is-file (slot-at (layout-of c) c s) ≡ true → (s ≡ x → ⊥) → All (λ k. entry f k ≡ entry (first-fat c) k) (chain-of (layout-of c) c s)
+  pub slot : (s : ℕ) → s < layout-of c .entries → is-file (slot-at (layout-of c) c s) ≡ true → (s ≡ x → ⊥)
+      → effect o (slot-at (layout-of c) c) s ≡ slot-at (layout-of c) c s
+  pub fat : (s : ℕ) → s < layout-of c .entries → is-file (slot-at (layout-of c) c s) ≡ true → (s ≡ x → ⊥)
+      → All (λ k. entry f k ≡ entry (first-fat c) k) (chain-of (layout-of c) c s)
   pub bytes : (s i : ℕ) → s < layout-of c .entries → is-file (slot-at (layout-of c) c s) ≡ true → i < file-size (slot-at (layout-of c) c s)
       → Spared c ds (file-sector (layout-of c) (chain-of (layout-of c) c s) (i / 512)) (i % 512)
 
 -- Where cluster k of the file in slot s of the new card comes from: a file of the old one, in the slot r that became s, or the free
 -- clusters, for the file in slot x alone.
 pub data Owner (c : Card) (becomes : ℕ → ℕ) (x s k : ℕ) : Type 0 where
-  old : (r : ℕ) → r < layout-of c .entries → is-file (slot-at (layout-of c) c r) ≡ true → List·Memᴰ k (chain-of (layout-of c) c r) → becomes r ≡ s → Owner c becomes x s k
+  old : (r : ℕ) → r < layout-of c .entries → is-file (slot-at (layout-of c) c r) ≡ true → List·Memᴰ k (chain-of (layout-of c) c r) → becomes r ≡ s
+      → Owner c becomes x s k
   new : entry (first-fat c) k ≡ 0 → s ≡ x → Owner c becomes x s k
 
 module _ {size : ℕ} {c : Card} (st : Start size c) (sound : Sound (layout-of c) c) where
@@ -70,7 +75,8 @@ module _ {size : ℕ} {c : Card} (st : Start size c) (sound : Sound (layout-of c
   g = entry (first-fat c)
 
   -- The chain of another file has no cluster of this one.
-  pub chains-apart : (s x : ℕ) → s < l .entries → x < l .entries → is-file (d s) ≡ true → is-file (d x) ≡ true → (s ≡ x → ⊥) → All (Off (chain-of l c x)) (chain-of l c s)
+  pub chains-apart : (s x : ℕ) → s < l .entries → x < l .entries → is-file (d s) ≡ true → is-file (d x) ≡ true → (s ≡ x → ⊥)
+      → All (Off (chain-of l c x)) (chain-of l c s)
   chains-apart s x less in-root file it ne = all-mem (Off (chain-of l c x)) (chain-of l c s)
       (λ k m. all-mem (λ j. k ≡ j → ⊥) (chain-of l c x) (λ j n e. sound .apart s x less in-root file it ne j (subst (λ j. List·Memᴰ j (chain-of l c s)) e m) n))
 
@@ -117,13 +123,16 @@ module _ {size : ℕ} {c : Card} (st : Start size c) (sound : Sound (layout-of c
       one-owner : (s r k : ℕ) → Owner c becomes y s k → Owner c becomes y r k → s ≡ r
       one-owner s r k (Owner.old a less file m e) (Owner.old b less′ file′ m′ e′) =
           ⊎-elim (λ q. sym e ∙ ap becomes q ∙ e′) (λ ne. absurd (sound .apart a b less less′ file file′ ne k m m′)) (same? a b)
-      one-owner s r k (Owner.old a less file m e) (Owner.new none q) = absurd (mem-all (Used l g) (chain-of l c a) (file-used st sound a less file) k m .busy none)
-      one-owner s r k (Owner.new none q) (Owner.old a less file m e) = absurd (mem-all (Used l g) (chain-of l c a) (file-used st sound a less file) k m .busy none)
+      one-owner s r k (Owner.old a less file m e) (Owner.new none q) = absurd
+          (mem-all (Used l g) (chain-of l c a) (file-used st sound a less file) k m .busy none)
+      one-owner s r k (Owner.new none q) (Owner.old a less file m e) = absurd
+          (mem-all (Used l g) (chain-of l c a) (file-used st sound a less file) k m .busy none)
       one-owner s r k (Owner.new none q) (Owner.new none′ q′) = q ∙ sym q′
 
       pub sound-then : ((s : ℕ) → s < l .entries → is-file (slot-at l t s) ≡ true → Owned s) → Sound l t
       sound-then h = record {
         chains = λ s less file. h s less file .keeps;
         apart = λ s r less less′ file file′ ne k m m′. ne (one-owner s r k
-            (mem-all (Owner c becomes y s) (chain-of l t s) (h s less file .owners) k m) (mem-all (Owner c becomes y r) (chain-of l t r) (h r less′ file′ .owners) k m′));
+            (mem-all (Owner c becomes y s) (chain-of l t s) (h s less file .owners) k m)
+            (mem-all (Owner c becomes y r) (chain-of l t r) (h r less′ file′ .owners) k m′));
       }

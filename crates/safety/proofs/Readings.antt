@@ -55,7 +55,8 @@ module _ (w : Window) (v : Volume) (is : clean w ≡ granted v) where
       passed Ground.Name (not (name-ok n)) _ (ap not (h .ok))
       ∙ ap (λ s. file-in v x s >>= whole v x) (h .at)
       ∙ then (file-in v x s) (whole v x) (file-at l x s)
-      (passed Ground.Absent (not (ltb s (l .entries))) _ (ap not (lt-ltb s (l .entries) (h .in-root))) ∙ passed Ground.Directory (is-directory (slot-at l x s)) _ (h .plain))
+      (passed Ground.Absent (not (ltb s (l .entries))) _ (ap not (lt-ltb s (l .entries) (h .in-root)))
+      ∙ passed Ground.Directory (is-directory (slot-at l x s)) _ (h .plain))
       ∙ passed Ground.Chain _ _ (ap not (h .keeps))
 
   read-granted : (n : Span) (s : ℕ) → Found v x n s → (offset room : ℕ) → read w n offset room ≡ granted (reading l x (file-at l x s) offset room)
@@ -69,7 +70,8 @@ module _ (w : Window) (v : Volume) (is : clean w ≡ granted v) where
     bytes = λ offset room b i.
         (λ t. buffer-after (read-granted n s h offset room t) b i)
         ∙ (λ t. overlay (min room (sized t - offset)) (λ j. file-byte l x (file-at l x s) (offset + j)) 0 b i)
-        ∙ overlay-same (min room (size - offset)) (λ j. file-byte l x (file-at l x s) (offset + j)) (λ j. content (offset + j)) b i (λ j less. same (offset + j) (omega arith));
+        ∙ overlay-same (min room (size - offset)) (λ j. file-byte l x (file-at l x s) (offset + j)) (λ j. content (offset + j)) b i
+        (λ j less. same (offset + j) (omega arith));
   }
 
   -- A name that no slot bears.
@@ -79,7 +81,8 @@ module _ (w : Window) (v : Volume) (is : clean w ≡ granted v) where
       opened n offset room
       ∙ ends (file-of v x n) _ Ground.Absent
       (passed Ground.Name (not (name-ok n)) _ (ap not ok)
-      ∙ ends (file-in v x (slot-of v x n)) (whole v x) Ground.Absent (stopped Ground.Absent (not (ltb (slot-of v x n) (l .entries))) _ (ap not (le-ltb (slot-of v x n) (l .entries) above))))
+      ∙ ends (file-in v x (slot-of v x n)) (whole v x) Ground.Absent
+      (stopped Ground.Absent (not (ltb (slot-of v x n) (l .entries))) _ (ap not (le-ltb (slot-of v x n) (l .entries) above))))
 
   -- ---- what a granted read tells of the card
 
@@ -115,7 +118,8 @@ module _ (w : Window) (v : Volume) (is : clean w ≡ granted v) where
   found-read n size content h f =
       let s : ℕ = slot-of v x n in
       let m : ℕ = file-size (slot-at l x s) in
-      let counts : Done (min (size + m) (m - 0)) ≡ Done (min (size + m) (size - 0)) = sym (ap filled-outcome (read-granted n s f 0 (size + m))) ∙ h .count 0 (size + m) in
+      let counts : Done (min (size + m) (m - 0)) ≡ Done (min (size + m) (size - 0)) = sym (ap filled-outcome (read-granted n s f 0 (size + m)))
+      ∙ h .count 0 (size + m) in
       let equal : min (size + m) (m - 0) ≡ min (size + m) (size - 0) = cc in
       record {
         found = f;
@@ -123,7 +127,8 @@ module _ (w : Window) (v : Volume) (is : clean w ≡ granted v) where
         same = λ i less.
             let none : Bytes = λ j. 0 in
             let at : 0 + (i - 0) ≡ i = omega arith in
-            let laid : overlay (min size (m - 0)) (λ j. file-byte l x (file-at l x s) (0 + j)) 0 none i ≡ overlay (min size (size - 0)) (λ j. content (0 + j)) 0 none i =
+            let laid : overlay (min size (m - 0)) (λ j. file-byte l x (file-at l x s) (0 + j)) 0 none i ≡ overlay (min size (size - 0))
+            (λ j. content (0 + j)) 0 none i =
             sym (λ t. buffer-after (read-granted n s f 0 size t) none i) ∙ h .bytes 0 size none i in
             ap (file-byte l x (file-at l x s)) (sym at)
             ∙ sym (overlay-in (λ j. file-byte l x (file-at l x s) (0 + j)) 0 none (min size (m - 0)) i (omega arith) (omega arith))

@@ -45,7 +45,9 @@ module _ (size : ℕ) (c : Card) (h : Examined size c) where
       let p = group-place (l .entries) (end-slot (l .entries) (first-bytes l c)) (area-of c) (log-of (area-of c) c) n e in
       let less : p .0 < area-of c .sectors = p .1 in
       let at : n ≡ area-of c .sector + p .0 = p .2 in
-      all-append (Inside c) (finish l (g .operation) c) _ (finish-all l (g .operation) c (Inside c) (λ s less. omega (arith, sh)) (λ r less. omega (arith, sh))) (omega (arith, area-high l (first-fat c) sh), tt)
+      all-append (Inside c) (finish l (g .operation) c) _
+      (finish-all l (g .operation) c (Inside c) (λ s less. omega (arith, sh)) (λ r less. omega (arith, sh)))
+      (omega (arith, area-high l (first-fat c) sh), tt)
 
 pub recovery-within : RecoveryWithin
 unfolding plan recover
@@ -54,5 +56,7 @@ recovery-within w p h =
     let e = examined (w .size) (w .card) (b .0) (b .1) in
     let same : granted (recover-stores (b .0 .layout) (w .card) (b .0 .pending)) ≡ granted p = b .2 in
     let is : recover-stores (b .0 .layout) (w .card) (b .0 .pending) ≡ p = cc in
-    let at : recover-stores (layout-of (w .card)) (w .card) (pending-of (w .card)) ≡ p = ap (λ v. recover-stores (v .layout) (w .card) (v .pending)) (sym (e .1)) ∙ is in
-    mem-all (Inside (w .card)) (stores p) (subst (λ p. All (Inside (w .card)) (stores p)) at (recovery-inside (w .size) (w .card) (e .0) (pending-of (w .card)) refl))
+    let at : recover-stores (layout-of (w .card)) (w .card) (pending-of (w .card)) ≡ p = ap (λ v. recover-stores (v .layout) (w .card) (v .pending))
+    (sym (e .1)) ∙ is in
+    mem-all (Inside (w .card)) (stores p) (subst (λ p. All (Inside (w .card)) (stores p)) at (recovery-inside (w .size) (w .card) (e .0)
+    (pending-of (w .card)) refl))

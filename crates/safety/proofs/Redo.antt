@@ -35,7 +35,8 @@ use Rattle.safety.proofs.Start.{Start, shape-of, Fixed, root-order, log
 use Rattle.safety.proofs.Steps.{finish-length}
 use Rattle.operations.proofs.Edits.{Near}
 use Rattle.safety.proofs.Effect.{begins, Begins}
-use Rattle.safety.proofs.After.{Entered, last-slot, Mixed, still-kept, still-boot, fat1-near, slot-near, new-root, still-data, grp, complete, finish-keeps, finish-whole, done-mixed, start-mixed, done-fat1, still-fat2, done-root}
+use Rattle.safety.proofs.After.{Entered, last-slot, Mixed, still-kept, still-boot, fat1-near, slot-near, new-root, still-data, grp, complete}
+use Rattle.safety.proofs.After.{finish-keeps, finish-whole, done-mixed, start-mixed, done-fat1, still-fat2, done-root}
 use Rattle.model.specs.declared.Pending.the-variants as Pending
 
 module _ {size : ℕ} {c : Card} (st : Start size c) {u : Card} {i : ℕ} {o : Operation} (h : Entered c u i o) where
@@ -67,16 +68,19 @@ module _ {size : ℕ} {c : Card} (st : Start size c) {u : Card} {i : ℕ} {o : O
     mixed-order : Ordered (l .entries) z (first-bytes l y)
     mixed-order = record {
       within = root-order st .within;
-      below = λ k less. under k less (slot-near st h y m 0 (omega arith) k (omega (arith, root-order st .within))) (begins (l .entries) z o (slot-at l c) (h .recorded) (h .lives) k);
+      below = λ k less. under k less (slot-near st h y m 0 (omega arith) k (omega (arith, root-order st .within)))
+          (begins (l .entries) z o (slot-at l c) (h .recorded) (h .lives) k);
       above = λ k more less. over k more less (slot-near st h y m 0 (omega arith) k less) (begins (l .entries) z o (slot-at l c) (h .recorded) (h .lives) k);
     }
       where
-        under : (k : ℕ) → k < z → Near (slot-at l c) (new-root st h) (slot-at l y) k 0 → Begins z k (first-bytes l c k) (new-root st h k 0) → first-bytes l y k ≡ 0 → ⊥
+        under : (k : ℕ) → k < z → Near (slot-at l c) (new-root st h) (slot-at l y) k 0 → Begins z k (first-bytes l c k) (new-root st h k 0)
+            → first-bytes l y k ≡ 0 → ⊥
         under k less (inl a) b e = root-order st .below k less (sym a ∙ e)
         under k less (inr a) (inl b) e = root-order st .below k less (sym b ∙ sym a ∙ e)
         under k less (inr a) (inr b) e = b .1 (sym a ∙ e)
 
-        over : (k : ℕ) → z < k → k < l .entries → Near (slot-at l c) (new-root st h) (slot-at l y) k 0 → Begins z k (first-bytes l c k) (new-root st h k 0) → first-bytes l y k ≡ 0
+        over : (k : ℕ) → z < k → k < l .entries → Near (slot-at l c) (new-root st h) (slot-at l y) k 0
+            → Begins z k (first-bytes l c k) (new-root st h k 0) → first-bytes l y k ≡ 0
         over k more less (inl a) b = a ∙ root-order st .above k more less
         over k more less (inr a) (inl b) = a ∙ b ∙ root-order st .above k more less
         over k more less (inr a) (inr b) = let low : k ≤ z = b .0 in absurd (omega arith)
@@ -141,7 +145,8 @@ module _ {size : ℕ} {c : Card} (st : Start size c) {u : Card} {i : ℕ} {o : O
 
   ended-order : root-ok (l .entries) (first-bytes l ended) ≡ true
   ended-order =
-      let roots : (r : ℕ) → r < l .entries / 16 → ended (root-place l r) ≡ complete st h (root-place l r) = λ r less. ended-low (root-place l r) (omega (arith, sh)) in
+      let roots : (r : ℕ) → r < l .entries / 16 → ended (root-place l r) ≡ complete st h (root-place l r) = λ r less. ended-low (root-place l r)
+      (omega (arith, sh)) in
       let firsts : (k : ℕ) → k < l .entries → first-bytes l ended k ≡ first-bytes l (complete st h) k =
       λ k less. ap (λ (b : Bytes). b 0) (slots-same l sh ended (complete st h) roots k less) in
       ordered-ok (l .entries) (first-bytes l ended) z
@@ -153,7 +158,8 @@ module _ {size : ℕ} {c : Card} (st : Start size c) {u : Card} {i : ℕ} {o : O
   ended-quiet j less =
       let mark : Bytes = committed (length (records o)) (u (log .sector + i)) in
       let marked-quiet : Quiet (clip mark) =
-      subst (λ (b : Bytes). Quiet (clip (committed (length (records o)) b))) (sym (h .stored .bytes)) (committed-quiet (length (records o)) (clip (encode o)) (rest-quiet o)) in
+      subst (λ (b : Bytes). Quiet (clip (committed (length (records o)) b))) (sym (h .stored .bytes))
+      (committed-quiet (length (records o)) (clip (encode o)) (rest-quiet o)) in
       put-case Quiet (complete st h) (commit u (grp st h)) (log .sector + j)
       (λ _. subst Quiet (sym (clip-clip mark)) marked-quiet)
       (λ ne. subst Quiet (sym (log-kept (complete st h) all-mixed j)) (h .stored .others j less (λ e. ne (ap (λ j. log .sector + j) e))))
@@ -169,4 +175,5 @@ module _ {size : ℕ} {c : Card} (st : Start size c) {u : Card} {i : ℕ} {o : O
       ∙ ap (λ ss. granted (ending ss)) (write-none l (l .fat2) (fat1-of l ended) (fat2-of l ended) (λ s less. ended-fat1 s less ∙ sym (ended-fat2 s less)))
 
   pub ended-clean : clean (window size ended) ≡ granted (volume-of c Pending.Nothing)
-  ended-clean = clean-same size c ended ended-alike (st .clean .fit) ended-order ended-calm (agree-of l ended (λ s less. ended-fat1 s less ∙ sym (ended-fat2 s less)))
+  ended-clean = clean-same size c ended ended-alike (st .clean .fit) ended-order ended-calm
+      (agree-of l ended (λ s less. ended-fat1 s less ∙ sym (ended-fat2 s less)))

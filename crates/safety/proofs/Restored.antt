@@ -34,7 +34,8 @@ reads-refl w n = record { answers = λ offset room. refl; buffer = λ offset roo
 
 -- So what a name holds it holds again.
 pub holds-as : (y z : Window) (n : Span) → ReadsAs y z n → (size : ℕ) (content : Bytes) → Holds z n size content → Holds y n size content
-holds-as y z n r size content h = record { count = λ offset room. r .answers offset room ∙ h .count offset room; bytes = λ offset room b i. r .buffer offset room b i ∙ h .bytes offset room b i }
+holds-as y z n r size content h = record
+    { count = λ offset room. r .answers offset room ∙ h .count offset room; bytes = λ offset room b i. r .buffer offset room b i ∙ h .bytes offset room b i }
 
 module _ (k : Call) (w : Window) (v : Volume) (real : Genuine w) (is : clean w ≡ granted v) where
   abbrev c : Card
@@ -66,7 +67,8 @@ module _ (k : Call) (w : Window) (v : Volume) (real : Genuine w) (is : clean w �
       record {
         cleans = again;
         sounds = sound-kept (the-start k w v real is) y boot tables;
-        reads = λ sound n. reads-kept (the-start k w v real is) y boot tables sound (good-files k w v real is sound false y g) (is ∙ ap granted (volume k w v real is)) again n;
+        reads = λ sound n. reads-kept (the-start k w v real is) y boot tables sound (good-files k w v real is sound false y g)
+            (is ∙ ap granted (volume k w v real is)) again n;
       }
 
   restored-at : (b : Bool) (once : ℕ) (x : Card) → Ends (w .size) (Goal (Kind k w v real is) c (all-made k w v real is) b) (recovery (w .size) x) x
@@ -74,7 +76,8 @@ module _ (k : Call) (w : Window) (v : Volume) (real : Genuine w) (is : clean w �
   unfolding left
   restored-at b once x h = rw (volume k w v real is) (
       let at : (n : ℕ) → outcome once (recovery (w .size) x) ≡ Done n → Back b (after (made once (recovery (w .size) x)) x) =
-      λ n e. let d = ends-done (w .size) (Goal (Kind k w v real is) c (all-made k w v real is) b) x once (recovery (w .size) x) h n e in back b _ (d .0) (d .1) in
+      λ n e. let d = ends-done (w .size) (Goal (Kind k w v real is) c (all-made k w v real is) b) x once (recovery (w .size) x) h n e in back b _
+      (d .0) (d .1) in
       record {
         ends = ends-at-last (w .size) (Goal (Kind k w v real is) c (all-made k w v real is) b) x (recovery (w .size) x) h;
         clean-again = λ n e. at n e .cleans;

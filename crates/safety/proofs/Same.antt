@@ -85,14 +85,16 @@ sized : (l : Layout) (c : Card) (s : ℕ) → file-size (slot-at l c s) ≡ file
 unfolding file-at
 sized l c s = refl
 
-counts : (l : Layout) (y c : Card) (f : File) (offset room : ℕ) → filled-outcome (granted (reading l y f offset room)) ≡ filled-outcome (granted (reading l c f offset room))
+counts : (l : Layout) (y c : Card) (f : File) (offset room : ℕ)
+    → filled-outcome (granted (reading l y f offset room)) ≡ filled-outcome (granted (reading l c f offset room))
 unfolding filled-outcome reading
 counts l y c f offset room = refl
 
 lays : (l : Layout) (y c : Card) (f : File) (offset room : ℕ) (b : Bytes) (i : ℕ) → ((i : ℕ) → i < f .size → file-byte l y f i ≡ file-byte l c f i)
     → buffer-after (granted (reading l y f offset room)) b i ≡ buffer-after (granted (reading l c f offset room)) b i
 unfolding buffer-after reading
-lays l y c f offset room b i h = overlay-same (min room (f .size - offset)) (λ j. file-byte l y f (offset + j)) (λ j. file-byte l c f (offset + j)) b i (λ j less. h (offset + j) (omega arith))
+lays l y c f offset room b i h = overlay-same (min room (f .size - offset)) (λ j. file-byte l y f (offset + j)) (λ j. file-byte l c f (offset + j)) b
+    i (λ j less. h (offset + j) (omega arith))
 
 -- ---- the card
 
@@ -118,7 +120,8 @@ module _ {size : ℕ} {c : Card} (st : Start size c) (y : Card) (boot : y 0 ≡ 
   pub clean-kept : recovery size y ≡ idle → clean (window size y) ≡ granted v
   clean-kept h =
       let alike : Alike c y = record { boot = boot; marks = marks-same l sh (fat1-of l y) (first-fat c) fat1-same } in
-      let calm : pending l (area-of c) y ≡ Pending.Nothing = sym (λ t. pending (layout-same size c y alike t) (area-same size c y alike t) y) ∙ rests-calm size y h in
+      let calm : pending l (area-of c) y ≡ Pending.Nothing = sym (λ t. pending (layout-same size c y alike t) (area-same size c y alike t) y)
+      ∙ rests-calm size y h in
       clean-same size c y alike (st .clean .fit) (root-kept st y (λ r less. tables (root-place l r) (Table.root r less refl))) calm
       (agree-of l y (λ s less. fat1-same s less ∙ fats-same st s less ∙ sym (tables (l .fat2 + s) (Table.fat2 s less refl))))
 
@@ -142,7 +145,8 @@ module _ {size : ℕ} {c : Card} (st : Start size c) (y : Card) (boot : y 0 ≡ 
 
   slot-same : (n : Span) → slot-of v y n ≡ slot-of v c n
   unfolding slot-of find lowest-slot
-  slot-same n = first-same (λ k. bears (name-of n) (slot-at l y k)) (λ k. bears (name-of n) (slot-at l c k)) 0 (l .entries) (λ k lo hi. ap (bears (name-of n)) (slots k (omega arith)))
+  slot-same n = first-same (λ k. bears (name-of n) (slot-at l y k)) (λ k. bears (name-of n) (slot-at l c k)) 0 (l .entries)
+      (λ k lo hi. ap (bears (name-of n)) (slots k (omega arith)))
 
   file-same : (s : ℕ) → s < l .entries → file-at l y s ≡ file-at l c s
   unfolding file-at

@@ -56,10 +56,12 @@ name-back n b fits =
 
 module _ (n : Name) (b : Bytes) where
   pub named-size : file-size (set-name n b) ≡ file-size b
-  named-size = le-over-above 4 8 0 28 (byte-of (n .stem)) (patch 3 (n .extension) 8 b) (omega arith) ∙ le-over-above 4 3 8 28 (byte-of (n .extension)) b (omega arith)
+  named-size = le-over-above 4 8 0 28 (byte-of (n .stem)) (patch 3 (n .extension) 8 b) (omega arith)
+      ∙ le-over-above 4 3 8 28 (byte-of (n .extension)) b (omega arith)
 
   pub named-first : first-cluster (set-name n b) ≡ first-cluster b
-  named-first = le-over-above 2 8 0 26 (byte-of (n .stem)) (patch 3 (n .extension) 8 b) (omega arith) ∙ le-over-above 2 3 8 26 (byte-of (n .extension)) b (omega arith)
+  named-first = le-over-above 2 8 0 26 (byte-of (n .stem)) (patch 3 (n .extension) 8 b) (omega arith)
+      ∙ le-over-above 2 3 8 26 (byte-of (n .extension)) b (omega arith)
 
   pub named-directory : is-directory (set-name n b) ≡ is-directory b
   unfolding is-directory overlay
@@ -110,7 +112,8 @@ same-names : (x y : Name) → same-name x y ≡ true → x ≡ y
 unfolding same-name
 same-names x y h =
     let stem : x .stem ≡ y .stem = eqb-true (x .stem) (y .stem) (and-left (eqb (x .stem) (y .stem)) (eqb (x .extension) (y .extension)) h) in
-    let extension : x .extension ≡ y .extension = eqb-true (x .extension) (y .extension) (and-right (eqb (x .stem) (y .stem)) (eqb (x .extension) (y .extension)) h) in
+    let extension : x .extension ≡ y .extension = eqb-true (x .extension) (y .extension)
+    (and-right (eqb (x .stem) (y .stem)) (eqb (x .extension) (y .extension)) h) in
     λ i. record { stem = stem i; extension = extension i }
 
 -- A slot bears one name, and a vacant one none.

@@ -39,12 +39,15 @@ use Rattle.safety.proofs.Ended.{Ended, ended, SameHead, same-size, same
 use Rattle.safety.proofs.Chained.{empty-then}
 use Rattle.safety.proofs.Readings.{Read, holds-read, holds-of}
 use Rattle.safety.proofs.Slots.{new-first, new-size, deleted-file}
-use Rattle.safety.proofs.Supplied.{creates-as, create-supplies, renames-as, deletes-as, truncates-as, truncate-supplies, cut-fat, updates-as, append-supplies, longer-fat, ks}
-use Rattle.safety.proofs.Granted.{file-at-name, Created, create-granted, Renamed, rename-granted, Named, Deleted, delete-granted, Truncated, truncate-granted, Room, Appended, append-granted}
+use Rattle.safety.proofs.Supplied.{creates-as, create-supplies, renames-as, deletes-as, truncates-as, truncate-supplies, cut-fat, updates-as}
+use Rattle.safety.proofs.Supplied.{append-supplies, longer-fat, ks}
+use Rattle.safety.proofs.Granted.{file-at-name, Created, create-granted, Renamed, rename-granted, Named, Deleted, delete-granted, Truncated}
+use Rattle.safety.proofs.Granted.{truncate-granted, Room, Appended, append-granted}
 use Rattle.safety.proofs.Moved.{finish-with, new-slot, old-slot, left-slot, rest-slot, rename-chain, rename-end, gone-slot, kept-slot, delete-end}
 use Rattle.safety.proofs.Cut.{cut-slot, cut-head, uncut-slot, cut-chain}
 use Rattle.safety.proofs.Grown.{grown-slot, grown-head, other-slot, grown-chain}
-use Rattle.safety.proofs.Others.{file-not-free, Spares, Owner, chains-apart, no-data, owned-old, other-same, Owned, owned-by, file-by, other-owned, sound-then}
+use Rattle.safety.proofs.Others.{file-not-free, Spares, Owner, chains-apart, no-data, owned-old, other-same, Owned, owned-by, file-by, other-owned}
+use Rattle.safety.proofs.Others.{sound-then}
 use Rattle.safety.proofs.Means.{resized-means, create-means, rename-means, delete-means}
 use Rattle.safety.proofs.Saved.{started, volume-is}
 use Rattle.safety.proofs.Appends as Appends
@@ -108,7 +111,8 @@ module _ {size : ℕ} {c : Card} (st : Start size c) (is : clean (window size c)
         (owned-by st sound create-spares end (λ r. r) z z []
         (empty-then st end z (g .room) (new-entry (name-of n)) (new-slot st is n p g end) (new-first (name-of n)) (new-size (name-of n))) tt)
     create-owned s less file (inr ne) =
-        other-owned st sound create-spares end (λ r. r) z s less (file-by st sound create-spares end (λ r. r) z s less (d s) (old-slot st is n p g end s ne) file)
+        other-owned st sound create-spares end (λ r. r) z s less
+        (file-by st sound create-spares end (λ r. r) z s less (d s) (old-slot st is n p g end s ne) file)
         (λ e. omega (arith, g .unused)) refl
 
     create-keeps : Keeping v c (creates n) t
@@ -138,12 +142,14 @@ module _ {size : ℕ} {c : Card} (st : Start size c) (is : clean (window size c)
     rename-owned : (s : ℕ) → s < l .entries → is-file (slot-at l t s) ≡ true → (s ≡ at n) ⊎ (s ≡ at n → ⊥) → (s ≡ z) ⊎ (s ≡ z → ⊥)
         → Owned st sound rename-spares end moved z s
     rename-owned s less file (inl e) b =
-        clash (file-by st sound rename-spares end moved z (at n) (g .live .in-root) (mark-deleted (d (at n))) (left-slot st is n m p g end) (rw e at file)) (deleted-file (d (at n)))
+        clash (file-by st sound rename-spares end moved z (at n) (g .live .in-root) (mark-deleted (d (at n))) (left-slot st is n m p g end)
+        (rw e at file)) (deleted-file (d (at n)))
     rename-owned s less file (inr ne) (inl e) = subst (λ s. Owned st sound rename-spares end moved z s) (sym e)
         (owned-by st sound rename-spares end moved z z (chain-of l c (at n)) (rename-chain st is n m p g end (sound .chains (at n) (g .live .in-root) x-file))
         (owned-old st sound moved z z (at n) (g .live .in-root) x-file (ap (λ t. pick t z (at n)) (eq-eqb (at n) (at n) refl))))
     rename-owned s less file (inr ne) (inr other) =
-        other-owned st sound rename-spares end moved z s less (file-by st sound rename-spares end moved z s less (d s) (rest-slot st is n m p g end s ne other) file) ne
+        other-owned st sound rename-spares end moved z s less
+        (file-by st sound rename-spares end moved z s less (d s) (rest-slot st is n m p g end s ne other) file) ne
         (ap (λ t. pick t z s) (ne-eqb s (at n) ne))
 
     rename-keeps : Keeping v c (renames n m) t
@@ -159,7 +165,8 @@ module _ {size : ℕ} {c : Card} (st : Start size c) (is : clean (window size c)
   spared-fat : (x : ℕ) (f : Fat) → x < l .entries → is-file (d x) ≡ true → ((k : ℕ) → Used l (entry fat) k → Off (chain-of l c x) k → entry f k ≡ entry fat k)
       → (s : ℕ) → s < l .entries → is-file (d s) ≡ true → (s ≡ x → ⊥) → All (λ k. entry f k ≡ entry fat k) (chain-of l c s)
   spared-fat x f in-root it h s less file ne =
-      all-zip (Used l (entry fat)) (Off (chain-of l c x)) (λ k. entry f k ≡ entry fat k) h (chain-of l c s) (file-used st sound s less file) (chains-apart st sound s x less in-root file it ne)
+      all-zip (Used l (entry fat)) (Off (chain-of l c x)) (λ k. entry f k ≡ entry fat k) h (chain-of l c s) (file-used st sound s less file)
+      (chains-apart st sound s x less in-root file it ne)
 
   module _ (n : Span) (p : Program) (g : Deleted st is n p) {t : Card}
       (end : Ended size c [] (release (ks st (at n) (g .it .live) (g .it .keeps)) fat) (deletes-as st (at n) (g .it .live) (g .it .keeps)) t) where
@@ -176,9 +183,11 @@ module _ {size : ℕ} {c : Card} (st : Start size c) (is : clean (window size c)
 
     delete-owned : (s : ℕ) → s < l .entries → is-file (slot-at l t s) ≡ true → (s ≡ at n) ⊎ (s ≡ at n → ⊥) → Owned st sound delete-spares end (λ r. r) z s
     delete-owned s less file (inl e) = clash
-        (file-by st sound delete-spares end (λ r. r) z (at n) (g .it .live .in-root) (mark-deleted (d (at n))) (gone-slot st is n p g end) (rw e at file)) (deleted-file (d (at n)))
+        (file-by st sound delete-spares end (λ r. r) z (at n) (g .it .live .in-root) (mark-deleted (d (at n))) (gone-slot st is n p g end)
+        (rw e at file)) (deleted-file (d (at n)))
     delete-owned s less file (inr ne) =
-        other-owned st sound delete-spares end (λ r. r) z s less (file-by st sound delete-spares end (λ r. r) z s less (d s) (kept-slot st is n p g end s ne) file) ne refl
+        other-owned st sound delete-spares end (λ r. r) z s less
+        (file-by st sound delete-spares end (λ r. r) z s less (d s) (kept-slot st is n p g end s ne) file) ne refl
 
     delete-keeps : Keeping v c (deletes n) t
     delete-keeps = record {
@@ -197,7 +206,8 @@ module _ {size : ℕ} {c : Card} (st : Start size c) (is : clean (window size c)
     cut-spares = record {
       slot = λ s less file ne. uncut-slot st (at n) (g .live) (g .keeps) m shorter end s ne;
       fat = spared-fat (at n) (cut-fat st (at n) (g .live) (g .keeps) m) (g .live .in-root) (g .file)
-          (λ k u off. shorten-other (take (needed l m) mine) (drop (needed l m) mine) fat k (all-take (λ j. k ≡ j → ⊥) (needed l m) mine off) (all-drop (λ j. k ≡ j → ⊥) (needed l m) mine off));
+          (λ k u off. shorten-other (take (needed l m) mine) (drop (needed l m) mine) fat k (all-take (λ j. k ≡ j → ⊥) (needed l m) mine off)
+          (all-drop (λ j. k ≡ j → ⊥) (needed l m) mine off));
       bytes = no-data st sound;
     }
 
@@ -207,18 +217,21 @@ module _ {size : ℕ} {c : Card} (st : Start size c) (is : clean (window size c)
         (owned-by st sound cut-spares end (λ r. r) z (at n) (take (needed l m) mine) (cut-chain st (at n) (g .live) (g .keeps) m shorter end)
         (all-take (Owner c (λ r. r) z (at n)) (needed l m) mine (owned-old st sound (λ r. r) z (at n) (at n) (g .live .in-root) (g .file) refl)))
     cut-owned s less file (inr ne) =
-        other-owned st sound cut-spares end (λ r. r) z s less (file-by st sound cut-spares end (λ r. r) z s less (d s) (uncut-slot st (at n) (g .live) (g .keeps) m shorter end s ne) file) ne refl
+        other-owned st sound cut-spares end (λ r. r) z s less
+        (file-by st sound cut-spares end (λ r. r) z s less (d s) (uncut-slot st (at n) (g .live) (g .keeps) m shorter end s ne) file) ne refl
 
     cut-keeps : Keeping v c (truncates n m) t
     cut-keeps = record {
       others = other-same st sound cut-spares end;
-      means = λ name less ne. resized-means st is end name (at n) _ (cut-slot st (at n) (g .live) (g .keeps) m shorter end) (cut-head st (at n) (g .live) (g .keeps) m shorter end)
+      means = λ name less ne. resized-means st is end name (at n) _ (cut-slot st (at n) (g .live) (g .keeps) m shorter end)
+          (cut-head st (at n) (g .live) (g .keeps) m shorter end)
           (uncut-slot st (at n) (g .live) (g .keeps) m shorter end);
       sound = sound-then st sound cut-spares end (λ r. r) z (λ s less file. cut-owned s less file (same? s (at n)));
     }
 
   module _ (n b : Span) (g : Named st is n) (room : Room st is (at n) b) (some : b .size ≡ 0 → ⊥) {t : Card}
-      (end : Ended size c (Appends.ds st (at n) (g .live) (g .keeps) b room) (longer-fat st (at n) (g .live) (g .keeps) b room) (updates-as st (at n) (g .live) (g .keeps) b room) t) where
+      (end : Ended size c (Appends.ds st (at n) (g .live) (g .keeps) b room) (longer-fat st (at n) (g .live) (g .keeps) b room)
+      (updates-as st (at n) (g .live) (g .keeps) b room) t) where
     abbrev old : List ℕ
     old = ks st (at n) (g .live) (g .keeps)
 
@@ -228,7 +241,8 @@ module _ {size : ℕ} {c : Card} (st : Start size c) (is : clean (window size c)
     fresh : All (Fresh l fat) new
     fresh = Appends.fresh st (at n) (g .live) (g .keeps) b room
 
-    append-spares : Spares c (Appends.ds st (at n) (g .live) (g .keeps) b room) (longer-fat st (at n) (g .live) (g .keeps) b room) (updates-as st (at n) (g .live) (g .keeps) b room) (at n)
+    append-spares : Spares c (Appends.ds st (at n) (g .live) (g .keeps) b room) (longer-fat st (at n) (g .live) (g .keeps) b room)
+        (updates-as st (at n) (g .live) (g .keeps) b room) (at n)
     unfolding chain-of clusters-of file-at
     append-spares = record {
       slot = λ s less file ne. other-slot st (at n) (g .live) (g .keeps) b room some end s ne;
@@ -250,7 +264,8 @@ module _ {size : ℕ} {c : Card} (st : Start size c) (is : clean (window size c)
     append-keeps : Keeping v c (appends n b) t
     append-keeps = record {
       others = other-same st sound append-spares end;
-      means = λ name less ne. resized-means st is end name (at n) _ (grown-slot st (at n) (g .live) (g .keeps) b room some end) (grown-head st (at n) (g .live) (g .keeps) b room some end)
+      means = λ name less ne. resized-means st is end name (at n) _ (grown-slot st (at n) (g .live) (g .keeps) b room some end)
+          (grown-head st (at n) (g .live) (g .keeps) b room some end)
           (other-slot st (at n) (g .live) (g .keeps) b room some end);
       sound = sound-then st sound append-spares end (λ r. r) (at n) (λ s less file. append-owned s less file (same? s (at n)));
     }
@@ -260,7 +275,8 @@ module _ {size : ℕ} {c : Card} (st : Start size c) (is : clean (window size c)
   granted-keeps : (k : Call) (p : Program) → plan k w ≡ granted p → Kept k (left largest k w)
   granted-keeps (creates n) p h =
       let g : Created st is n p = create-granted st is n p h in
-      finish-with st is (Kept (creates n)) (creates n) p _ h (g .same) (create-keeps n p g (ended st [] fat (creates-as st n) (create-supplies st n (g .ok) (g .room))))
+      finish-with st is (Kept (creates n)) (creates n) p _ h (g .same)
+      (create-keeps n p g (ended st [] fat (creates-as st n) (create-supplies st n (g .ok) (g .room))))
   granted-keeps (renames n m) p h =
       let g : Renamed st is n m p = rename-granted st is n m p h in
       finish-with st is (Kept (renames n m)) (renames n m) p _ h (g .same) (rename-keeps n m p g (rename-end st is n m p g))
@@ -283,7 +299,8 @@ module _ {size : ℕ} {c : Card} (st : Start size c) (is : clean (window size c)
       ⊎-elim
       (λ a. finish-with st is (Kept (appends n b)) (appends n b) p (ending []) h (sym (a .1)) (none-keeps (appends n b)))
       (λ a. finish-with st is (Kept (appends n b)) (appends n b) p _ h (a .1)
-      (append-keeps n b f (g .room) (a .0) (ended st _ _ (updates-as st (at n) (f .live) (f .keeps) b (g .room)) (append-supplies st (at n) (f .live) (f .keeps) b (g .room)))))
+      (append-keeps n b f (g .room) (a .0) (ended st _ _ (updates-as st (at n) (f .live) (f .keeps) b (g .room))
+      (append-supplies st (at n) (f .live) (f .keeps) b (g .room)))))
       (g .same)
   granted-keeps recovers p h =
       let e : granted (ending []) ≡ granted p = sym (start-rests st) ∙ h in
@@ -296,7 +313,8 @@ module _ {size : ℕ} {c : Card} (st : Start size c) (is : clean (window size c)
   call-keeps k (granted p) h = granted-keeps k p h
 
   -- Another name is read as before.
-  read-keeps : (k : Call) (x : Window) → clean x ≡ granted v → Kept k x → (n : Span) (size′ : ℕ) (content : Bytes) → Holds w n size′ content → (Names v c k (at n) → ⊥) → Holds x n size′ content
+  read-keeps : (k : Call) (x : Window) → clean x ≡ granted v → Kept k x → (n : Span) (size′ : ℕ) (content : Bytes) → Holds w n size′ content
+      → (Names v c k (at n) → ⊥) → Holds x n size′ content
   read-keeps k x cleans h n size′ content holds ne =
       let r : Read w v is n size′ content = holds-read w v is n size′ content holds in
       let less : at n < l .entries = r .found .in-root in

@@ -24,7 +24,8 @@ use Rattle.model.proofs.Fats.{entry-same, agree-at}
 use Rattle.model.proofs.Order.{Ordered, ordered, ordered-ok, ordered-same}
 use Rattle.model.proofs.Pendings.{Quiet, calm-quiet}
 use Rattle.model.proofs.Grounds.{then}
-use Rattle.model.proofs.Volumes.{Clean, layout-of, area-of, Alike, window, volume-of, examine-same, fit-shape, first-fat, fit-run, area-low, area-high, area-some, area-few}
+use Rattle.model.proofs.Volumes.{Clean, layout-of, area-of, Alike, window, volume-of, examine-same, fit-shape, first-fat, fit-run, area-low, area-high}
+use Rattle.model.proofs.Volumes.{area-some, area-few}
 
 -- A clean card of bytes.
 pub record Start (size : ℕ) (c : Card) : Type 0 where
@@ -67,7 +68,8 @@ module _ (l : Layout) (sh : Shape l) where
   pub marks-same : (f g : Fat) → ((s : ℕ) → s < l .fatsize → f s ≡ g s) → (k : ℕ) → 2 ≤ k → k < 2 + l .clusters → marked f k ≡ marked g k
   marks-same f g h k low high = ap (λ v. is-reserved v) (entry-same g f k (h (k / 256) (omega (arith, sh))))
 
-  pub slots-same : (x y : Card) → ((r : ℕ) → r < l .entries / 16 → x (root-place l r) ≡ y (root-place l r)) → (k : ℕ) → k < l .entries → slot-at l x k ≡ slot-at l y k
+  pub slots-same : (x y : Card) → ((r : ℕ) → r < l .entries / 16 → x (root-place l r) ≡ y (root-place l r)) → (k : ℕ) → k < l .entries
+      → slot-at l x k ≡ slot-at l y k
   unfolding slot-at
   slots-same x y h k less = ap (λ (b : Bytes). part b (32 * (k % 16))) (h (k / 16) (omega (arith, sh)))
 
@@ -94,7 +96,8 @@ module _ {size : ℕ} {c : Card} (st : Start size c) where
 
   pub log-quiet : (i : ℕ) → i < area-of c .sectors → Quiet (c (area-of c .sector + i))
   unfolding pending
-  log-quiet = calm-quiet (layout-of c .entries) (end-slot (layout-of c .entries) (first-bytes (layout-of c) c)) (area-of c) (log-of (area-of c) c) (st .clean .calm)
+  log-quiet = calm-quiet (layout-of c .entries) (end-slot (layout-of c .entries) (first-bytes (layout-of c) c)) (area-of c) (log-of (area-of c) c)
+      (st .clean .calm)
 
   pub log-low : layout-of c .start ≤ area-of c .sector
   log-low = area-low (layout-of c) (run (layout-of c) (first-fat c))

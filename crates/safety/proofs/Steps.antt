@@ -49,10 +49,12 @@ module _ (l : Layout) (o : Operation) (c : Card) where
 
   roots-all : (P : Store → Type 0) → ((r : ℕ) → r < l .entries / 16 → P (root-store r)) → All P (root-stores l o c)
   unfolding root-stores
-  roots-all P h = all-image P root-store (indices (concerns o) (l .entries / 16)) (indices-all0 (concerns o) (l .entries / 16) (λ r. P (root-store r)) (λ r less e. h r less))
+  roots-all P h = all-image P root-store (indices (concerns o) (l .entries / 16))
+      (indices-all0 (concerns o) (l .entries / 16) (λ r. P (root-store r)) (λ r less e. h r less))
 
   -- What holds of the store of each sector of FAT1 and of the root directory holds of all that are made.
-  pub finish-all : (P : Store → Type 0) → ((s : ℕ) → s < l .fatsize → P (store (l .fat1 + s) (c (l .fat2 + s)))) → ((r : ℕ) → r < l .entries / 16 → P (root-store r))
+  pub finish-all : (P : Store → Type 0) → ((s : ℕ) → s < l .fatsize → P (store (l .fat1 + s) (c (l .fat2 + s))))
+      → ((r : ℕ) → r < l .entries / 16 → P (root-store r))
       → All P (finish l o c)
   unfolding finish
   finish-all P f r = all-append P fat-stores (root-stores l o c) (write-all l (l .fat1) (fat2-of l c) (fat1-of l c) P f) (roots-all P r)
@@ -67,8 +69,10 @@ module _ (l : Layout) (o : Operation) (c : Card) where
   unfolding finish root-stores
   finish-root r less h =
       let has = indices-has0 (concerns o) (l .entries / 16) r less h in
-      covers-right (root-place l r) fat-stores (root-stores l o c) (covers-image root-store (root-place l r) r (indices (concerns o) (l .entries / 16)) refl has)
+      covers-right (root-place l r) fat-stores (root-stores l o c)
+      (covers-image root-store (root-place l r) r (indices (concerns o) (l .entries / 16)) refl has)
 
   pub finish-length : length (finish l o c) ≤ l .fatsize + l .entries / 16
   unfolding finish root-stores
-  finish-length = simp (length-append, length-map) (omega (arith, write-length l (l .fat1) (fat2-of l c) (fat1-of l c), indices-length (concerns o) 0 (l .entries / 16)))
+  finish-length = simp (length-append, length-map)
+      (omega (arith, write-length l (l .fat1) (fat2-of l c) (fat1-of l c), indices-length (concerns o) 0 (l .entries / 16)))

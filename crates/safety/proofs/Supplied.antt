@@ -70,7 +70,8 @@ module _ {size : ℕ} {c : Card} (st : Start size c) where
       marks = λ k low high. refl;
       named = slot-named st s live;
       fits = fits-rename _ _ _ _ _ (entry-fits st s live) (first-fits st s live) (size-fits st s live) (omega (arith, entries-few st, room)) (name-fits n ok);
-      recorded = recorded-rename (l .entries) (last-slot c) _ _ _ _ _ (slot-seat st s live) (room, free-low l c) (live-not-free l c s live room) (name-starts n ok);
+      recorded = recorded-rename (l .entries) (last-slot c) _ _ _ _ _ (slot-seat st s live) (room, free-low l c) (live-not-free l c s live room)
+          (name-starts n ok);
       lives = tt;
     }
 
@@ -129,9 +130,11 @@ module _ {size : ℕ} {c : Card} (st : Start size c) where
             let from : getD (new st s live whole d room) 0 0 < 65536 = plain-fits l few fat (new st s live whole d room) (new-plain st s live whole d room) 0 in
             record {
               outside = outside st s live whole d room;
-              marks = λ k low high. extend-marks l few fat ks (old-plain st s live whole) (old-busy st s live whole) (new st s live whole d room) (new-plain st s live whole d room) k;
+              marks = λ k low high. extend-marks l few fat ks (old-plain st s live whole) (old-busy st s live whole) (new st s live whole d room)
+                  (new-plain st s live whole d room) k;
               named = slot-named st s live;
-              fits = fits-update _ _ (getD (new st s live whole d room) 0 0) (total st s live whole d room) (entry-fits st s live) (plain-fits l few fat ks (old-plain st s live whole) (length ks - 1)) (omega arith) (total-fits st s live whole d room);
+              fits = fits-update _ _ (getD (new st s live whole d room) 0 0) (total st s live whole d room) (entry-fits st s live)
+                  (plain-fits l few fat ks (old-plain st s live whole) (length ks - 1)) (omega arith) (total-fits st s live whole d room);
               recorded = recorded-update (l .entries) (last-slot c) _ _ _ _ (slot-seat st s live) from;
               lives = slot-lives st s live;
             }

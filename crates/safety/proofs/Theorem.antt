@@ -55,7 +55,8 @@ limits-later size [] y z k = k
 limits-later size (limit ∷ limits) y z k =
     let q : Program = program-of (recovery size z) in
     let cut : Cut q (take limit (stores q)) = prefix-cut q limit .0 in
-    limits-later size limits y (after (made limit (recovery size z)) z) (next (take limit (stores q)) k cut (ap (λ ss. after ss z) (limit-made limit (recovery size z))))
+    limits-later size limits y (after (made limit (recovery size z)) z)
+    (next (take limit (stores q)) k cut (ap (λ ss. after ss z) (limit-made limit (recovery size z))))
 
 pub same-window : (size : ℕ) (limits : List ℕ) (z : Card) → recoveries limits (window size z) ≡ window size (recoveries limits (window size z) .card)
 unfolding left
@@ -92,7 +93,8 @@ ends-at-last size Good x (refused f) h = absurd h
 ends-at-last size Good x (granted p) h = (length (stores p), rw (le-leb (length (stores p)) largest (h .2)))
 
 -- Bytes of a file along its chain.
-pub along : (l : Layout) (x : Card) (s : ℕ) (ks : List ℕ) (i : ℕ) → chain-of l x s ≡ ks → file-byte l x (file-at l x s) i ≡ x (file-sector l ks (i / 512)) (i % 512)
+pub along : (l : Layout) (x : Card) (s : ℕ) (ks : List ℕ) (i : ℕ) → chain-of l x s ≡ ks
+    → file-byte l x (file-at l x s) i ≡ x (file-sector l ks (i / 512)) (i % 512)
 unfolding file-byte chain-of
 along l x s ks i e = ap (λ (ks : List ℕ). x (file-sector l ks (i / 512)) (i % 512)) e
 
@@ -114,7 +116,8 @@ module _ (k : Call) (w : Window) (v : Volume) (real : Genuine w) (is : clean w �
   pub the-start : Start (w .size) c
   the-start = record { clean = cleaned (w .size) c v is .0; clipped = real .sectors; small = real .bytes }
 
-  pub fair : Fair (w .size) c (if-granted (plan k w) (taken-by (volume-of c Pending.Nothing) c k)) (if-granted (plan k w) (released-by (volume-of c Pending.Nothing) c k)) q
+  pub fair : Fair (w .size) c (if-granted (plan k w) (taken-by (volume-of c Pending.Nothing) c k))
+      (if-granted (plan k w) (released-by (volume-of c Pending.Nothing) c k)) q
   fair = shown the-start (is ∙ ap granted volume) k
 
   -- What is wanted of bytes: of the FATs, of the root directory, and of the files of a sound card.
@@ -164,7 +167,8 @@ module _ (k : Call) (w : Window) (v : Volume) (real : Genuine w) (is : clean w �
     clean-again = ap (λ x. clean (window (w .size) x)) most-finishes ∙ fair .cleans;
     free-clusters-then = λ p e j less.
         ap (λ x. free (fat1-of l x) j) most-finishes ∙ fair .frees j less
-        ∙ (λ t. FreeThen (first-fat c) (if-granted (e t) (taken-by (volume-of c Pending.Nothing) c k)) (if-granted (e t) (released-by (volume-of c Pending.Nothing) c k)) j);
+        ∙ (λ t. FreeThen (first-fat c) (if-granted (e t) (taken-by (volume-of c Pending.Nothing) c k))
+        (if-granted (e t) (released-by (volume-of c Pending.Nothing) c k)) j);
     within = mem-all (Inside c) (stores q) (fair .inside);
   })
 

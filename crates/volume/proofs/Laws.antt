@@ -22,7 +22,8 @@ module _ (c : Card) (l : Layout) (a : Area) (p : Pending) where
   unfolding inspect _when_ _>>_
   inspect-record h b = rw (h, b)
 
-  pub inspect-volume : root-ok (l .entries) (first-bytes l c) ≡ true → is-broken p ≡ false → inspect c l a p ≡ granted (record { layout = l; log = a; pending = p })
+  pub inspect-volume : root-ok (l .entries) (first-bytes l c) ≡ true → is-broken p ≡ false
+      → inspect c l a p ≡ granted (record { layout = l; log = a; pending = p })
   unfolding inspect _when_ _>>_
   inspect-volume h b = rw (h, b)
 

@@ -9,7 +9,7 @@ use Rattle.model.specs.Volume.{locate, inspect}
 use Rattle.model.specs.Promises.{Held}
 use Rattle.model.specs.declared.Layout.{Layout}
 use Rattle.model.specs.declared.Volume.{Volume}
-use Rattle.fat.specs.Located.{Lies}
+use Rattle.fat_read.specs.Located.{Lies}
 use Rattle.volume.specs.declared.Mounted.{Mounted}
 use Rattle.volume.specs.declared.Mounted.the-variants.{Unfit, Fit}
 use Rattle.volume.specs.declared.Examined.{Examined}

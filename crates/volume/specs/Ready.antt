@@ -7,7 +7,7 @@ use Rattle.model.specs.Ground.{granted}
 use Rattle.model.specs.Volume.{clean}
 use Rattle.model.specs.Promises.{Held}
 use Rattle.model.specs.declared.Volume.{Volume}
-use Rattle.fat.specs.Located.{Lies}
+use Rattle.fat_read.specs.Located.{Lies}
 
 -- Grounds 1 to 7 are passed with this volume, its layout is the window's, and its log lies there.
 pub record Ready (v : Volume) (xs : List ℕ) : Type 0 where

@@ -1,6 +1,6 @@
 // Grounds 1 to 7 of a card, asked in order.
 use boot::Booted;
-use fat::Located;
+use fat_read::Located;
 use model::Area;
 use model::Ground;
 use model::Layout;
@@ -11,7 +11,7 @@ ghost use Rattle.model.specs.Sector.{card-of, window-of};
 ghost use Rattle.model.specs.Pending.{pending, is-broken, is-held};
 ghost use Rattle.model.specs.Volume.{mount, inspect, examine, settled, clean};
 ghost use Rattle.model.specs.Promises.{Held};
-ghost use Rattle.fat.specs.Located.{Lies};
+ghost use Rattle.fat_read.specs.Located.{Lies};
 ghost use Rattle.volume.specs.Examined.{mounted-of, examined-of, Mounts, Keeps, examine-on};
 
 // A layout, or the ground on which there is none.
@@ -70,10 +70,10 @@ fn inspect(w: &[u8], l: Layout, a: Area) -> Examined
     requires { ⌜ Held l (now w) × Lies l a ⌝ }
     ensures { λ r. ⌜ (examined-of r ≡ inspect (card-of (now (w .entry))) l a (pending l a (card-of (now (w .entry))))) × Keeps (now (w .entry)) r ⌝ }
 {
-    let place = journal::place_in(w, l, a);
-    let z = root::end_slot(w, l);
-    let p = journal::pending_of(w, l, a, z, place);
-    if !root::root_ok(w, l, z) {
+    let place = log_scan::place_in(w, l, a);
+    let z = root_read::end_slot(w, l);
+    let p = log_scan::pending_of(w, l, a, z, place);
+    if !root_read::root_ok(w, l, z) {
         return Examined::Refused(Ground::Root);
     }
     if is_broken(p) {
@@ -91,7 +91,7 @@ fn examine_log(w: &[u8], l: Layout) -> Examined
     requires { ⌜ Held l (now w) ⌝ }
     ensures { λ r. ⌜ (examined-of r ≡ examine-on (card-of (now (w .entry))) l) × Keeps (now (w .entry)) r ⌝ }
 {
-    let log = fat::locate(w, l);
+    let log = fat_read::locate(w, l);
     match log {
         Located::Nowhere => Examined::Refused(Ground::Logarea),
         Located::At(a) => inspect(w, l, a),
@@ -119,7 +119,7 @@ fn settle(w: &[u8], v: Volume) -> Examined
         return Examined::Refused(Ground::Unclean);
     }
     let l = v.layout;
-    if !fat::agree(w, l) {
+    if !fat_read::agree(w, l) {
         return Examined::Refused(Ground::Unclean);
     }
     Examined::Granted(v)

@@ -18,7 +18,8 @@ use Rattle.worked.proofs.Rows.{first-row}
 
 patch-small : (n v at : ℕ) (b : Bytes) → ((j : ℕ) → b j < 256) → (j : ℕ) → patch n v at b j < 256
 unfolding overlay byte-of
-patch-small n v at b h j = by-pick (λ x. x < 256) (leb at j && ltb j (at + n)) (v / 256 ^ (j - at) % 256) (b j) (λ _. mod-lt (v / 256 ^ (j - at)) (omega arith)) (λ _. h j)
+patch-small n v at b h j = by-pick (λ x. x < 256) (leb at j && ltb j (at + n)) (v / 256 ^ (j - at) % 256) (b j)
+    (λ _. mod-lt (v / 256 ^ (j - at)) (omega arith)) (λ _. h j)
 
 boot-small : (j : ℕ) → boot-sector 16 4150 0 j < 256
 unfolding boot-sector
@@ -45,5 +46,6 @@ k-genuine = record {
 }
 
 -- So demand 3 speaks of every call on card K, under every limit.
-pub at-k : (call : Call) (limit : ℕ) (limits : List ℕ) (once : ℕ) → Settles (group-stored limit call k) call k volume-k once (recoveries limits (left limit call k))
+pub at-k : (call : Call) (limit : ℕ) (limits : List ℕ) (once : ℕ)
+    → Settles (group-stored limit call k) call k volume-k once (recoveries limits (left limit call k))
 at-k call limit limits once = demand3 call k volume-k k-genuine first-row limit limits once

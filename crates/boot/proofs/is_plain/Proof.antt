@@ -29,7 +29,12 @@ returns-5 c = sym (every-not _ 4 (lt-leb _ _ (c .if5 .taken)))
 
 returns-6 : tie.Need-returns-6
 unfolding fields-ok every
-returns-6 c = rw (eq-eqb _ _ (c .before .before .before .before .before .before .before .before .before .if1 .left), le-leb _ _ (c .before .before .before .before .before .before .before .if2 .left), le-leb _ _ (c .before .before .before .before .before .if3 .left), eq-eqb _ _ (c .before .before .before .if4 .left), le-leb _ _ (c .before .if5 .left), and-true)
+returns-6 c =
+    let if1 = c .before .before .before .before .before .before .before .before .before .if1 in
+    let if2 = c .before .before .before .before .before .before .before .if2 in
+    let if3 = c .before .before .before .before .before .if3 in
+    let if4 = c .before .before .before .if4 in
+    rw (eq-eqb _ _ (if1 .left), le-leb _ _ (if2 .left), le-leb _ _ (if3 .left), eq-eqb _ _ (if4 .left), le-leb _ _ (c .before .if5 .left), and-true)
 
 pub is-plain-spec : {M : Type 1} → statement M
 is-plain-spec = tie.close (tie.spec returns returns-2 returns-3 returns-4 returns-5 returns-6)

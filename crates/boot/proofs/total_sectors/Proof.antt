@@ -5,12 +5,6 @@ use borrow.Author.Needs.{needs}
 use Rattle.boot.proofs.total_sectors.Statement.{statement}
 use Rattle.boot.proofs.total_sectors.Tie as tie
 
-le16-requires : tie.Need-le16-requires
-le16-requires c κs = search needs
-
-le32-requires : tie.Need-le32-requires
-le32-requires c κs = search needs
-
 returns : tie.Need-returns
 unfolding total-sectors
 returns c = rw (eq-eqb _ _ (sym (c .before .before .le16 .ensures .is) ∙ c .before .if1 .taken)) (c .le32 .ensures .is)
@@ -20,4 +14,4 @@ unfolding total-sectors
 returns-2 c = let l = c .before .le16 .ensures .is in rw (ne-eqb _ _ (λ e. c .if1 .left (l ∙ e))) l
 
 pub total-sectors-spec : {M : Type 1} → statement M
-total-sectors-spec = tie.close (tie.spec le16-requires le32-requires returns returns-2)
+total-sectors-spec = tie.close (tie.spec (λ c κs. search needs) (λ c κs. search needs) returns returns-2)

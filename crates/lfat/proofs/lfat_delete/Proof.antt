@@ -6,19 +6,12 @@ use Rattle.lfat.proofs.lfat_delete.Tie as tie
 use Rattle.lfat.proofs.lfat_delete.Reads as reads
 use Rattle.lfat.proofs.lfat_delete.Lts as lts
 use Rattle.lfat.proofs.number_of.Reads as number-of-reads
-use Rattle.truncation.proofs.delete.Reads as delete-reads
-
-delete-requires : tie.Need-delete-requires
-delete-requires c κs = search needs
-
-number-of-requires : tie.Need-number-of-requires
-number-of-requires c κs = search needs
-
-same-length : tie.Need-same-length
-same-length c = search needs
+use Rattle.call_truncate.proofs.delete.Reads as delete-reads
 
 returns : tie.Need-returns
-returns c = record { answer = c .number-of .ensures ∙ ap outcome-number (c .before .before .before .delete .ensures .answer); card = c .before .before .before .delete .ensures .card }
+returns c =
+    let delete = c .before .before .before .delete in
+    record { answer = c .number-of .ensures ∙ ap outcome-number (delete .ensures .answer); card = delete .ensures .card }
 
 pub lfat-delete-spec : {M : Type 1} → statement M
-lfat-delete-spec = tie.close (tie.spec delete-requires number-of-requires same-length returns)
+lfat-delete-spec = tie.close (tie.spec (λ c κs. search needs) (λ c κs. search needs) (λ c. search needs) returns)

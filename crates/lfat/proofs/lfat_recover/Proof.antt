@@ -6,19 +6,12 @@ use Rattle.lfat.proofs.lfat_recover.Tie as tie
 use Rattle.lfat.proofs.lfat_recover.Reads as reads
 use Rattle.lfat.proofs.lfat_recover.Lts as lts
 use Rattle.lfat.proofs.number_of.Reads as number-of-reads
-use Rattle.recovery.proofs.recover.Reads as recover-reads
-
-recover-requires : tie.Need-recover-requires
-recover-requires c κs = search needs
-
-number-of-requires : tie.Need-number-of-requires
-number-of-requires c κs = search needs
-
-same-length : tie.Need-same-length
-same-length c = search needs
+use Rattle.call_recover.proofs.recover.Reads as recover-reads
 
 returns : tie.Need-returns
-returns c = record { answer = c .number-of .ensures ∙ ap outcome-number (c .before .before .before .recover .ensures .answer); card = c .before .before .before .recover .ensures .card }
+returns c =
+    let recover = c .before .before .before .recover in
+    record { answer = c .number-of .ensures ∙ ap outcome-number (recover .ensures .answer); card = recover .ensures .card }
 
 pub lfat-recover-spec : {M : Type 1} → statement M
-lfat-recover-spec = tie.close (tie.spec recover-requires number-of-requires same-length returns)
+lfat-recover-spec = tie.close (tie.spec (λ c κs. search needs) (λ c κs. search needs) (λ c. search needs) returns)

@@ -6,19 +6,12 @@ use Rattle.lfat.proofs.lfat_truncate.Tie as tie
 use Rattle.lfat.proofs.lfat_truncate.Reads as reads
 use Rattle.lfat.proofs.lfat_truncate.Lts as lts
 use Rattle.lfat.proofs.number_of.Reads as number-of-reads
-use Rattle.truncation.proofs.truncate.Reads as truncate-reads
-
-truncate-requires : tie.Need-truncate-requires
-truncate-requires c κs = search needs
-
-number-of-requires : tie.Need-number-of-requires
-number-of-requires c κs = search needs
-
-same-length : tie.Need-same-length
-same-length c = search needs
+use Rattle.call_truncate.proofs.truncate.Reads as truncate-reads
 
 returns : tie.Need-returns
-returns c = record { answer = c .number-of .ensures ∙ ap outcome-number (c .before .before .before .truncate .ensures .answer); card = c .before .before .before .truncate .ensures .card }
+returns c =
+    let truncate = c .before .before .before .truncate in
+    record { answer = c .number-of .ensures ∙ ap outcome-number (truncate .ensures .answer); card = truncate .ensures .card }
 
 pub lfat-truncate-spec : {M : Type 1} → statement M
-lfat-truncate-spec = tie.close (tie.spec truncate-requires number-of-requires same-length returns)
+lfat-truncate-spec = tie.close (tie.spec (λ c κs. search needs) (λ c κs. search needs) (λ c. search needs) returns)

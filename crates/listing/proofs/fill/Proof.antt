@@ -14,74 +14,48 @@ Inv-loop out₀ table from n at₀ i₀ out at i = (i ≤ n) × (length out ≡ 
 abbrev μ-loop : tie.MeasureT-loop
 μ-loop out₀ table from n at₀ i₀ out at i = n - i
 
-pieces-requires : tie.Need-pieces-requires Inv-loop μ-loop
-pieces-requires c κs = search needs
-
 loop-holds : tie.Need-loop-holds Inv-loop μ-loop
-loop-holds c = (
-  omega arith,
-  refl,
-  upto-none (view (c .before .before .before .args .table .now)) (c .before .before .before .args .from)
-      (c .before .before .before .args .out .now),
-)
-
-sub-if1 : tie.Need-sub-if1 Inv-loop μ-loop
-sub-if1 c = search needs
-
-same-length : tie.Need-same-length Inv-loop μ-loop
-same-length c = search needs
+loop-holds c =
+    let a = c .before .before .before .args in (
+      omega arith,
+      refl,
+      upto-none (view (a .table .now)) (a .from)
+          (a .out .now),
+    )
 
 returns : tie.Need-returns Inv-loop μ-loop
 returns c =
-    filled-full (view (c .before .before .before .before .before .before .args .table .now))
-    (c .before .before .before .before .before .before .args .from) (c .before .before .before .before .before .before .args .out .now)
-    (c .before .before .loop .out) (c .before .before .loop .at) (c .before .before .loop .i) (c .before .before .loop .inv .2)
+    let a = c .before .before .before .before .before .before .args in
+    let turn = c .before .before .loop in
+    filled-full (view (a .table .now))
+    (a .from) (a .out .now)
+    (turn .out) (turn .at) (turn .i) (turn .inv .2)
     (omega arith) (c .before .before .before .before .before .before .pre .1) (omega arith)
 
-put-piece-requires : tie.Need-put-piece-requires Inv-loop μ-loop
-put-piece-requires c κs = search needs
-
-add-i : tie.Need-add-i Inv-loop μ-loop
-add-i c = search needs
-
-loop-less : tie.Need-loop-less Inv-loop μ-loop
-loop-less c = search needs
-
 loop-again : tie.Need-loop-again Inv-loop μ-loop
-loop-again c = (
-  omega arith,
-  omega arith,
-  upto-more (view (c .before .before .before .before .before .before .before .before .before .before .args .table .now))
-      (c .before .before .before .before .before .before .before .before .before .before .args .from)
-      (c .before .before .before .before .before .before .before .before .before .before .args .out .now)
-      (c .before .before .before .before .before .before .loop .out) (c .before .before .before .before .before .before .loop .at)
-      (c .before .before .before .before .before .before .loop .i) _ _ (c .before .before .before .before .before .before .loop .inv .2)
-      (omega arith) (c .before .before .put-piece .ensures .0) (c .before .before .put-piece .ensures .1),
-)
-
-same-length-2 : tie.Need-same-length-2 Inv-loop μ-loop
-same-length-2 c = search needs
+loop-again c =
+    let a = c .before .before .before .before .before .before .before .before .before .before .args in
+    let turn = c .before .before .before .before .before .before .loop in
+    let put-piece = c .before .before .put-piece in (
+      omega arith,
+      omega arith,
+      upto-more (view (a .table .now))
+          (a .from)
+          (a .out .now)
+          (turn .out) (turn .at)
+          (turn .i) _ _ (turn .inv .2)
+          (omega arith) (put-piece .ensures .0) (put-piece .ensures .1),
+    )
 
 returns-2 : tie.Need-returns-2 Inv-loop μ-loop
 returns-2 c =
-    filled-done (view (c .before .before .before .before .before .args .table .now)) (c .before .before .before .before .before .args .from)
-    (c .before .before .before .before .before .args .out .now) (c .before .loop .out) (c .before .loop .at)
+    let a = c .before .before .before .before .before .args in
+    filled-done (view (a .table .now)) (a .from)
+    (a .out .now) (c .before .loop .out) (c .before .loop .at)
     (c .before .loop .i) (c .before .loop .inv .2) (omega arith)
 
 pub fill-spec : {M : Type 1} → statement M
 fill-spec =
     tie.close
-    (tie.spec
-    Inv-loop
-    μ-loop
-    pieces-requires
-    loop-holds
-    sub-if1
-    same-length
-    returns
-    put-piece-requires
-    add-i
-    loop-less
-    loop-again
-    same-length-2
-    returns-2)
+    (tie.spec Inv-loop μ-loop (λ c κs. search needs) loop-holds (λ c. search needs) (λ c. search needs) returns (λ c κs. search needs)
+    (λ c. search needs) (λ c. search needs) loop-again (λ c. search needs) returns-2)

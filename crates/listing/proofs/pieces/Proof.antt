@@ -8,9 +8,6 @@ use borrow.Author.Needs.{needs}
 use Rattle.listing.proofs.pieces.Statement.{statement}
 use Rattle.listing.proofs.pieces.Tie as tie
 
-is-table-requires : tie.Need-is-table-requires
-is-table-requires c κs = search needs
-
 cast-result : tie.Need-cast-result
 cast-result c =
     let h = table-short (view (c .before .before .before .args .table .now)) (sym (c .before .is-table .ensures) ∙ c .if1 .taken) in
@@ -30,4 +27,4 @@ unfolding pieces
 returns-2 c = rw (sym (c .before .is-table .ensures) ∙ c .if1 .left)
 
 pub pieces-spec : {M : Type 1} → statement M
-pieces-spec = tie.close (tie.spec is-table-requires cast-result add-result returns returns-2)
+pieces-spec = tie.close (tie.spec (λ c κs. search needs) cast-result add-result returns returns-2)

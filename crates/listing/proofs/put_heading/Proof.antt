@@ -2,7 +2,7 @@ use mathlib.Core.Path.{sym, _∙_}
 use native.Mathlib.Omega.{arith}
 use Rattle.model.specs.Bytes.{view}
 use Rattle.model.specs.Text.{ascii, line}
-use Rattle.text.proofs.Buffer.{wrote-then}
+use Rattle.listing_text.proofs.Buffer.{wrote-then}
 use Rattle.model.specs.Listing.{is-table}
 use Rattle.listing.specs.Pieces.{heading}
 use Rattle.listing.proofs.Whole.{table-short}
@@ -10,28 +10,10 @@ use borrow.Author.Needs.{needs}
 use Rattle.listing.proofs.put_heading.Statement.{statement}
 use Rattle.listing.proofs.put_heading.Tie as tie
 
-is-table-requires : tie.Need-is-table-requires
-is-table-requires c κs = search needs
-
 cast-sectors : tie.Need-cast-sectors
 cast-sectors c =
     let h = table-short (view (c .before .before .before .before .args .table .now)) (sym (c .before .is-table .ensures) ∙ c .if1 .taken) in
     omega arith
-
-slice-aggregate-put-field : tie.Need-slice-aggregate-put-field
-slice-aggregate-put-field c = search needs
-
-put-field-requires : tie.Need-put-field-requires
-put-field-requires c κs = search needs
-
-slice-aggregate-put-text : tie.Need-slice-aggregate-put-text
-slice-aggregate-put-text c = search needs
-
-put-text-requires : tie.Need-put-text-requires
-put-text-requires c κs = search needs
-
-same-length : tie.Need-same-length
-same-length c = search needs
 
 returns : tie.Need-returns
 unfolding heading line ascii
@@ -47,15 +29,6 @@ returns c = (
   ),
 )
 
-slice-aggregate-put-text-2 : tie.Need-slice-aggregate-put-text-2
-slice-aggregate-put-text-2 c = search needs
-
-put-text-requires-2 : tie.Need-put-text-requires-2
-put-text-requires-2 c κs = search needs
-
-same-length-2 : tie.Need-same-length-2
-same-length-2 c = search needs
-
 returns-2 : tie.Need-returns-2
 unfolding heading line ascii
 returns-2 c = (
@@ -67,16 +40,5 @@ returns-2 c = (
 pub put-heading-spec : {M : Type 1} → statement M
 put-heading-spec =
     tie.close
-    (tie.spec
-    is-table-requires
-    cast-sectors
-    slice-aggregate-put-field
-    put-field-requires
-    slice-aggregate-put-text
-    put-text-requires
-    same-length
-    returns
-    slice-aggregate-put-text-2
-    put-text-requires-2
-    same-length-2
-    returns-2)
+    (tie.spec (λ c κs. search needs) cast-sectors (λ c. search needs) (λ c κs. search needs) (λ c. search needs) (λ c κs. search needs)
+    (λ c. search needs) returns (λ c. search needs) (λ c κs. search needs) (λ c. search needs) returns-2)

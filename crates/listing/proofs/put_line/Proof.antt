@@ -5,36 +5,25 @@ use lib.ListN.{getD}
 use borrow.Author.Tests.{eq-eqb, ne-eqb}
 use Rattle.model.specs.Record.{tells}
 use Rattle.model.proofs.Sectors.{byte-in}
-use Rattle.text.proofs.Buffer.{wrote-none}
+use Rattle.listing_text.proofs.Buffer.{wrote-none}
 use Rattle.model.specs.Listing.{has-line}
 use Rattle.listing.specs.Pieces.{record-text}
 use borrow.Author.Needs.{needs}
 use Rattle.listing.proofs.put_line.Statement.{statement}
 use Rattle.listing.proofs.put_line.Tie as tie
 
-mul-byte : tie.Need-mul-byte
-mul-byte c = search needs
-
-byte-requires : tie.Need-byte-requires
-byte-requires c κs = search needs
-
 returns : tie.Need-returns
 unfolding record-text has-line tells
 returns c =
-    let xs = c .before .before .before .before .args .table .now in
-    let k = c .before .before .before .before .args .k in
+    let a = c .before .before .before .before .args in
+    let xs = a .table .now in
+    let k = a .k in
     let e : getD xs (512 * (k / 16) + 32 * (k % 16)) 0 ≡ c .before .byte .result = sym (c .before .byte .ensures .0
     ∙ byte-in xs (k / 16) (32 * (k % 16)) (omega arith)) in (
       rw (e, eq-eqb _ _ (c .if1 .taken)) (wrote-none
-          (c .before .before .before .before .args .out .now) (c .before .before .before .before .args .at)),
+          (a .out .now) (a .at)),
       omega arith,
     )
-
-put-record-requires : tie.Need-put-record-requires
-put-record-requires c κs = search needs
-
-same-length : tie.Need-same-length
-same-length c = search needs
 
 returns-2 : tie.Need-returns-2
 unfolding record-text has-line tells
@@ -52,4 +41,5 @@ returns-2 c =
 
 pub put-line-spec : {M : Type 1} → statement M
 put-line-spec =
-    tie.close (tie.spec mul-byte byte-requires returns put-record-requires same-length returns-2)
+    tie.close
+    (tie.spec (λ c. search needs) (λ c κs. search needs) returns (λ c κs. search needs) (λ c. search needs) returns-2)

@@ -6,21 +6,6 @@ use borrow.Author.Needs.{needs}
 use Rattle.sector.proofs.le24.Statement.{statement}
 use Rattle.sector.proofs.le24.Tie as tie
 
-le16-requires : tie.Need-le16-requires
-le16-requires c κs = search needs
-
-add-byte : tie.Need-add-byte
-add-byte c = search needs
-
-byte-requires : tie.Need-byte-requires
-byte-requires c κs = search needs
-
-mul-result : tie.Need-mul-result
-mul-result c = search needs
-
-add-result : tie.Need-add-result
-add-result c = search needs
-
 returns : tie.Need-returns
 returns c =
     let a = c .before .before .before .args in
@@ -28,4 +13,6 @@ returns c =
     omega (arith, le-add 2 1 b (a .j), le-suc 0 b (a .j + 2), le-zero b (a .j + 2 + 1))
 
 pub le24-spec : {M : Type 1} → statement M
-le24-spec = tie.close (tie.spec le16-requires add-byte byte-requires mul-result add-result returns)
+le24-spec =
+    tie.close
+    (tie.spec (λ c κs. search needs) (λ c. search needs) (λ c κs. search needs) (λ c. search needs) (λ c. search needs) returns)

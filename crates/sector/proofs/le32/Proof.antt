@@ -5,24 +5,10 @@ use borrow.Author.Needs.{needs}
 use Rattle.sector.proofs.le32.Statement.{statement}
 use Rattle.sector.proofs.le32.Tie as tie
 
-le16-requires : tie.Need-le16-requires
-le16-requires c κs = search needs
-
-add-le16 : tie.Need-add-le16
-add-le16 c = search needs
-
-le16-requires-2 : tie.Need-le16-requires-2
-le16-requires-2 c κs = search needs
-
-mul-result : tie.Need-mul-result
-mul-result c = search needs
-
-add-result : tie.Need-add-result
-add-result c = search needs
-
 returns : tie.Need-returns
 returns c = let a = c .before .before .before .args in omega (arith, le-add 2 2 (card-of (a .w .now) (a .s)) (a .j))
 
 pub le32-spec : {M : Type 1} → statement M
 le32-spec =
-    tie.close (tie.spec le16-requires add-le16 le16-requires-2 mul-result add-result returns)
+    tie.close
+    (tie.spec (λ c κs. search needs) (λ c. search needs) (λ c κs. search needs) (λ c. search needs) (λ c. search needs) returns)

@@ -10,15 +10,6 @@ use Rattle.volume.proofs.clean.Lts as lts
 use Rattle.volume.proofs.examine.Reads as examine-reads
 use Rattle.volume.proofs.settle.Reads as settle-reads
 
-examine-requires : tie.Need-examine-requires
-examine-requires c κs = search needs
-
-enum-known-e : tie.Need-enum-known-e
-enum-known-e c = search needs
-
-enum-known-e-2 : tie.Need-enum-known-e-2
-enum-known-e-2 c = search needs
-
 settle-requires : tie.Need-settle-requires
 settle-requires c κs = (rw (c .before .e2 .given .1) at (c .before .before .before .examine .ensures .1))
 
@@ -28,9 +19,11 @@ returns c = (let e = sym (c .before .before .before .examine .ensures .0) ∙ ap
 
 returns-2 : tie.Need-returns-2
 unfolding clean _>>=_
-returns-2 c = (let e = sym (c .before .before .before .before .examine .ensures .0) ∙ ap examined-of (c .before .before .e2 .given .1) in rw e (c .settle .ensures .0), c .settle .ensures .1)
+returns-2 c =
+    let examine-2 = c .before .before .before .before .examine in
+    (let e = sym (examine-2 .ensures .0) ∙ ap examined-of (c .before .before .e2 .given .1) in rw e (c .settle .ensures .0), c .settle .ensures .1)
 
 pub clean-spec : {M : Type 1} → statement M
 clean-spec =
     tie.close
-    (tie.spec examine-requires enum-known-e enum-known-e-2 settle-requires returns returns-2)
+    (tie.spec (λ c κs. search needs) (λ c. search needs) (λ c. search needs) settle-requires returns returns-2)

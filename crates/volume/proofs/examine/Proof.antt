@@ -10,15 +10,6 @@ use Rattle.volume.proofs.examine.Lts as lts
 use Rattle.volume.proofs.examine_log.Reads as examine-log-reads
 use Rattle.volume.proofs.mount.Reads as mount-reads
 
-mount-requires : tie.Need-mount-requires
-mount-requires c κs = search needs
-
-enum-known-m : tie.Need-enum-known-m
-enum-known-m c = search needs
-
-enum-known-m-2 : tie.Need-enum-known-m-2
-enum-known-m-2 c = search needs
-
 examine-log-requires : tie.Need-examine-log-requires
 examine-log-requires c κs = rw (c .before .m2 .given .1) at (c .before .before .before .mount .ensures .1)
 
@@ -28,9 +19,11 @@ returns c = (let e = sym (c .before .before .before .mount .ensures .0) ∙ ap m
 
 returns-2 : tie.Need-returns-2
 unfolding examine examine-on _>>=_
-returns-2 c = (let e = sym (c .before .before .before .before .mount .ensures .0) ∙ ap mounted-of (c .before .before .m2 .given .1) in rw e (c .examine-log .ensures .0), c .examine-log .ensures .1)
+returns-2 c =
+    let mount = c .before .before .before .before .mount in
+    (let e = sym (mount .ensures .0) ∙ ap mounted-of (c .before .before .m2 .given .1) in rw e (c .examine-log .ensures .0), c .examine-log .ensures .1)
 
 pub examine-spec : {M : Type 1} → statement M
 examine-spec =
     tie.close
-    (tie.spec mount-requires enum-known-m enum-known-m-2 examine-log-requires returns returns-2)
+    (tie.spec (λ c κs. search needs) (λ c. search needs) (λ c. search needs) examine-log-requires returns returns-2)

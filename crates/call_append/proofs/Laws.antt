@@ -1,0 +1,176 @@
+-- Append by its parts: grounds, the stores of the chain, and the steps through the log.
+use Prim.Native.Nat.{ℕ, zero, suc, _+_, _-_, _<_, _≤_}
+use native.Mathlib.Omega.{arith}
+use mathlib.Core.Path.{_≡_, sym, ap, _∙_, subst}
+use mathlib.Core.Bool.{Bool, true, false}
+use mathlib.Core.List.{List, [], _∷_, _++_, append-assoc}
+use lib.ListN.{length, take, getD}
+use borrow.Author.Tests.{lt-ltb, le-ltb, ne-eqb}
+use Rattle.model.specs.Bytes.{Span}
+use Rattle.model.specs.Sector.{Card, card-of, Window, Store, after}
+use Rattle.model.specs.Scan.{first-from}
+use Rattle.model.specs.Fat.{Fat, entry, fat1-of, fat2-of, free-clusters, write-fat}
+use Rattle.model.specs.Log.{log-of}
+use Rattle.model.specs.Ground.{refused, granted, _when_, _>>=_, _>>_}
+use Rattle.model.specs.Volume.{clean}
+use Rattle.model.specs.Promises.{Shape, Ran}
+use Rattle.model.specs.declared.Area.{Area}
+use Rattle.model.specs.declared.Layout.{Layout}
+use Rattle.model.specs.declared.File.{File}
+use Rattle.model.specs.declared.Volume.{Volume}
+use Rattle.model.specs.declared.Ground.{Ground}
+use Rattle.model.specs.declared.Ground.the-variants as Ground
+use Rattle.model.specs.declared.Operation.{Operation}
+use Rattle.model.specs.declared.Operation.the-variants.{Update}
+use Rattle.model.proofs.All.{All, all-map}
+use Rattle.model.proofs.Cards.{Away, after-away, after-append}
+use Rattle.model.proofs.Runs.{ran-then, ran-stop, ran-card, ran-away}
+use Rattle.model.proofs.Fats.{write-all}
+use Rattle.model.proofs.Chains.{Used, chain-used}
+use Rattle.operations.specs.Program.{ending, stores}
+use Rattle.operations.specs.Plan.{clusters-of, last-cluster, added, new-clusters, operate, append-along, append-stores}
+use Rattle.operations.specs.Calls.{append, unless-none}
+use Rattle.fat_read.specs.Located.{holds}
+use Rattle.volume.specs.Ready.{Ready}
+use Rattle.volume.proofs.Ready.{ready-run, ready-log}
+use Rattle.file_read.specs.Files.{Proper}
+use Rattle.fat_link.specs.Allocate.{grown}
+use Rattle.fat_link.proofs.Extends.{extend-grown}
+use Rattle.file_append.specs.Extents.{append-data, Room}
+use Rattle.file_append.proofs.Clusters.{indices-next}
+use Rattle.file_append.proofs.Apart.{append-inside, append-off-log}
+use Rattle.log_steps.specs.Steps.{log-steps}
+use Rattle.log_steps.proofs.Laws.{operate-is}
+use Rattle.call_append.specs.Append.{append-to, append-on, chain-stores, first-of}
+use Rattle.fat_link.proofs.Kept.{free-kept, grown-kept}
+
+-- ---- grounds
+
+module _ (w : Window) (n d : Span) where
+  pub append-refused : (g : Ground) → clean w ≡ refused g → append w n d ≡ refused g
+  unfolding append _>>=_
+  append-refused g e = rw e
+
+  pub append-clean : (v : Volume) → clean w ≡ granted v → append w n d ≡ append-on (w .card) v n d
+  unfolding append append-on append-to _>>=_
+  append-clean v e = rw e
+
+module _ (c : Card) (v : Volume) (f : File) (d : Span) where
+  abbrev free-count : ℕ
+  free-count = length (free-clusters (v .layout) (fat1-of (v .layout) c))
+
+  pub append-full : free-count < added (v .layout) f (d .size) → append-to c v f d ≡ refused Ground.Nospace
+  unfolding append-to _when_ _>>_
+  append-full h = rw (lt-ltb free-count (added (v .layout) f (d .size)) h)
+
+  pub append-none : added (v .layout) f (d .size) ≤ free-count → d .size ≡ 0 → append-to c v f d ≡ granted (ending [])
+  unfolding append-to _when_ _>>_ unless-none
+  append-none h e = rw (le-ltb free-count (added (v .layout) f (d .size)) h, e)
+
+  pub append-some : added (v .layout) f (d .size) ≤ free-count → (d .size ≡ 0 → ⊥) → append-to c v f d ≡ granted (append-stores v c f d)
+  unfolding append-to _when_ _>>_ unless-none
+  append-some h e = rw (le-ltb free-count (added (v .layout) f (d .size)) h, ne-eqb (d .size) 0 e)
+
+-- ---- the chain
+
+-- The clusters of a file are not 0.
+old-used : (l : Layout) (c : Card) (f : File) → Shape l → Proper l c f → All (λ k. k ≡ 0 → ⊥) (clusters-of l (fat1-of l c) f)
+unfolding clusters-of
+old-used l c f sh h = all-map (Used l (entry (fat1-of l c))) (λ k. k ≡ 0 → ⊥) (λ k u e. let low : 2 ≤ k = u .low in omega arith)
+    (clusters-of l (fat1-of l c) f) (chain-used l (sh .few) (entry (fat1-of l c)) (sh .factor-low) (f .first) (f .size) h)
+
+taken-first : (n k : ℕ) (ks js : List ℕ) → 0 < n → ks ≡ k ∷ js → getD (take n ks) 0 0 ≡ k
+taken-first zero k ks js pos e = absurd (omega arith)
+taken-first (suc n) k ks js pos e = ap (λ (zs : List ℕ). getD (take (suc n) zs) 0 0) e
+
+-- The first new cluster is the lowest free one.
+pub first-is-free : (l : Layout) (c : Card) (n r : ℕ) → 0 < n → n ≤ length (free-clusters l (fat1-of l c))
+    → r ≡ first-from (holds 0 (fat1-of l c)) 2 (l .clusters + 2 - 2) → r ≡ first-of l c n
+unfolding free-clusters
+first-is-free l c n r pos enough e =
+    let z : l .clusters + 2 - 2 ≡ l .clusters = omega arith in
+    let i = indices-next (holds 0 (fat1-of l c)) 2 (l .clusters) (omega arith) in
+    e ∙ ap (first-from (holds 0 (fat1-of l c)) 2) z ∙ sym (taken-first n _ (free-clusters l (fat1-of l c)) _ pos (i .1))
+
+-- ---- data and FAT2 under one limit
+
+module _ (l : Layout) (f : File) (d : Span) (last n limit : ℕ) (e x : List ℕ) (m : ℕ) where
+  pub chain-cut : Ran limit (append-data l (card-of e) f d) e x m false → Ran limit (chain-stores l (card-of e) f d last n) e x m false
+  chain-cut so = ran-stop limit (append-data l (card-of e) f d) e x m so
+      (write-fat l (l .fat2) (grown l (fat1-of l (card-of e)) last n) (fat2-of l (card-of e)))
+
+  module _ (sh : Shape l) (h : Proper l (card-of e) f) (w : Bool) (so : Ran limit (append-data l (card-of e) f d) e x m w) where
+    -- The data sectors leave what is before them.
+    front-kept : (s : ℕ) → s < l .start → card-of x s ≡ card-of e s
+    front-kept s less = ran-away limit (append-data l (card-of e) f d) e x m w so s
+        (all-map (λ t. (l .start ≤ t .sector) × (t .sector < l .total)) (λ t. s ≡ t .sector → ⊥)
+        (λ t q same. let low : l .start ≤ t .sector = q .0 in omega arith)
+        (append-data l (card-of e) f d) (append-inside l (card-of e) f d sh h))
+
+    pub enough-kept : n ≤ length (free-clusters l (fat1-of l (card-of e))) → n ≤ length (free-clusters l (fat1-of l (card-of x)))
+    enough-kept h = rw (free-kept l sh (card-of e) (card-of x) front-kept) h
+
+  pub chain-ran : Shape l → Proper l (card-of e) f → Ran limit (append-data l (card-of e) f d) e x m true → (y : List ℕ) (k : ℕ) (w : Bool)
+      → Ran (limit - m) (write-fat l (l .fat2) (grown l (fat1-of l (card-of x)) last n) (fat2-of l (card-of x))) x y k w
+      → Ran limit (chain-stores l (card-of e) f d last n) e y (m + k) w
+  chain-ran sh h so y k w next =
+      ran-then limit (append-data l (card-of e) f d) e x m so (write-fat l (l .fat2) (grown l (fat1-of l (card-of e)) last n) (fat2-of l (card-of e))) y k w
+      (rw (grown-kept l sh (card-of e) (card-of x) (front-kept sh h true so) last n) at next)
+
+-- ---- the steps through the log
+
+module _ (v : Volume) (xs : List ℕ) (f : File) (d : Span) (ready : Ready v xs) (room : Room (v .layout) (card-of xs) f (d .size)) where
+  abbrev c : Card
+  c = card-of xs
+
+  abbrev old : List ℕ
+  old = clusters-of (v .layout) (fat1-of (v .layout) c) f
+
+  abbrev n : ℕ
+  n = added (v .layout) f (d .size)
+
+  abbrev ds : List Store
+  ds = append-data (v .layout) c f d
+
+  abbrev new-fat : Fat
+  new-fat = grown (v .layout) (fat1-of (v .layout) c) (last-cluster old) n
+
+  abbrev fs : List Store
+  fs = write-fat (v .layout) (v .layout .fat2) new-fat (fat2-of (v .layout) c)
+
+  abbrev update : Operation
+  update = Update (f .entry) (last-cluster old) (first-of (v .layout) c n) (f .size + d .size)
+
+  sh : Shape (v .layout)
+  sh = ready .held .fits .shape
+
+  log-kept : (s : ℕ) → s < v .log .sectors → log-of (v .log) (after (ds ++ fs) c) s ≡ log-of (v .log) c s
+  log-kept s less =
+      ap (λ (k : Card). k (v .log .sector + s)) (after-append ds fs c)
+      ∙ after-away fs (after ds c) (v .log .sector + s)
+      (write-all (v .layout) (v .layout .fat2) new-fat (fat2-of (v .layout) c) (λ t. v .log .sector + s ≡ t .sector → ⊥)
+      (λ k h e. omega (arith, sh .root-at, sh .start-at, ready .lies .above)))
+      ∙ after-away ds c (v .log .sector + s)
+      (subst (λ (a : Area). s < a .sectors → Away ds (a .sector + s)) (sym (ready-log v xs ready))
+      (append-off-log (v .layout) c f d sh (room .chain) (room .enough) (ready-run v xs ready) s) less)
+
+  append-is : stores (append-stores v c f d) ≡ (ds ++ fs) ++ log-steps v update (after (ds ++ fs) c)
+  unfolding append-stores append-along new-clusters
+  append-is =
+      ap (λ (t : Fat). stores (operate v c ds t update))
+      (extend-grown old (old-used (v .layout) c f sh (room .chain)) (fat1-of (v .layout) c) (v .layout) n (room .enough))
+      ∙ operate-is v c ds new-fat update (after (ds ++ fs) c) (sym (after-append ds fs c)) log-kept
+      ∙ sym (append-assoc ds fs (log-steps v update (after (ds ++ fs) c)))
+
+  module _ (limit : ℕ) (x : List ℕ) (m last count : ℕ) (end : last ≡ last-cluster old) (many : count ≡ n) where
+    pub append-cut : Ran limit (chain-stores (v .layout) c f d last count) xs x m false → Ran limit (stores (append-stores v c f d)) xs x m false
+    append-cut so = rw append-is (ran-stop limit (ds ++ fs) xs x m (rw (end, many) at so) (log-steps v update (after (ds ++ fs) c)))
+
+    pub append-ran : Ran limit (chain-stores (v .layout) c f d last count) xs x m true → (from size : ℕ) → from ≡ first-of (v .layout) c count
+        → size ≡ f .size + d .size
+        → (y : List ℕ) (k : ℕ) (w : Bool) → Ran (limit - m) (log-steps v (Update (f .entry) last from size) (card-of x)) x y k w
+        → Ran limit (stores (append-stores v c f d)) xs y (m + k) w
+    append-ran so from size first total y k w next =
+        let r : Ran limit (ds ++ fs) xs x m true = rw (end, many) at so in
+        let z : card-of x ≡ after (ds ++ fs) c = ran-card limit (ds ++ fs) xs x m r in
+        rw append-is (ran-then limit (ds ++ fs) xs x m r (log-steps v update (after (ds ++ fs) c)) y k w (rw (z, end, first, many, total) at next))

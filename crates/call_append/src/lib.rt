@@ -1,0 +1,147 @@
+// Append: grounds, data sectors, FAT2, and the steps through the log.
+use model::File;
+use model::Ground;
+use model::Layout;
+use model::Operation;
+use model::Outcome;
+use model::Progress;
+use model::Volume;
+use root_lookup::Found;
+use volume::Examined;
+ghost use mathlib.Core.Path.{_≡_};
+ghost use Prim.Native.Nat.{_≤_, _<_};
+ghost use lib.ListN.{length};
+ghost use Rattle.model.specs.Bytes.{view};
+ghost use Rattle.model.specs.Sector.{card-of, window-of};
+ghost use Rattle.model.specs.Fat.{fat1-of, free-clusters};
+ghost use Rattle.model.specs.Promises.{Held, Ran};
+ghost use Rattle.operations.specs.Program.{stores};
+ghost use Rattle.operations.specs.Plan.{clusters-of, last-cluster, added, append-stores};
+ghost use Rattle.operations.specs.Calls.{append};
+ghost use Rattle.volume.specs.Ready.{Ready};
+ghost use Rattle.root_lookup.specs.Found.{Proper};
+ghost use Rattle.file_append.specs.Extents.{Room};
+ghost use Rattle.log_steps.specs.Did.{Did};
+ghost use Rattle.call_append.specs.Append.{append-to, append-on, chain-stores, first-of};
+
+// Steps 1 and 2: the data sectors, then FAT2.
+fn store_chain(
+    w: &mut [u8],
+    l: Layout,
+    f: File,
+    last: u32,
+    n: u32,
+    bytes: &[u8],
+    limit: u32,
+) -> Progress
+    requires { ⌜ Held l (now w) × Room l (card-of (now w)) f (length (now bytes)) ⌝ }
+    requires { ⌜ (last ≡ last-cluster (clusters-of l (fat1-of l (card-of (now w))) f)) × (n ≡ added l f (length (now bytes))) ⌝ }
+    ensures { λ r. ⌜
+        Ran limit (chain-stores l (card-of (now (w .entry))) f (view (now (bytes .entry))) last n) (now (w .entry)) (now (w .exit)) (r .made) (r .whole) ⌝ }
+{
+    let p = file_append::append_data(w, l, f, last, bytes, limit);
+    let m = p.made;
+    if !p.whole {
+        return Progress {
+            made: m,
+            whole: false,
+        };
+    }
+    let q = fat_write::extend_fat(w, l, last, n, limit - m);
+    Progress {
+        made: m + q.made,
+        whole: q.whole,
+    }
+}
+
+// The first of n new clusters, 0 if there is none.
+fn first_new(w: &[u8], l: Layout, n: u32) -> u32
+    requires { ⌜ Held l (now w) × (n ≤ length (free-clusters l (fat1-of l (card-of (now w))))) ⌝ }
+    ensures { λ r. ⌜ r ≡ first-of l (card-of (now (w .entry))) n ⌝ }
+{
+    if n == 0 {
+        return 0;
+    }
+    fat_chain::next_free(w, l, 2)
+}
+
+// The stores of an append of some bytes that there is room for.
+fn store_append(
+    w: &mut [u8],
+    v: Volume,
+    f: File,
+    last: u32,
+    n: u32,
+    bytes: &[u8],
+    limit: u32,
+) -> Progress
+    requires { ⌜ Ready v (now w) × Room (v .layout) (card-of (now w)) f (length (now bytes)) × (f .entry .slot < v .layout .entries) ⌝ }
+    requires { ⌜ (last ≡ last-cluster (clusters-of (v .layout) (fat1-of (v .layout) (card-of (now w))) f)) × (n ≡ added (v .layout) f (length (now bytes))) ⌝ }
+    ensures { λ r. ⌜
+        Ran limit (stores (append-stores v (card-of (now (w .entry))) f (view (now (bytes .entry))))) (now (w .entry)) (now (w .exit)) (r .made) (r .whole) ⌝ }
+{
+    let l = v.layout;
+    let from = first_new(w, l, n);
+    let p = store_chain(w, l, f, last, n, bytes, limit);
+    let m = p.made;
+    if !p.whole {
+        return Progress {
+            made: m,
+            whole: false,
+        };
+    }
+    let entry = f.entry;
+    let size = f.size + bytes.len() as u32;
+    let o = Operation::Update {
+        entry,
+        last,
+        from,
+        size,
+    };
+    let q = log_steps::log_steps(w, v, o, limit - m);
+    Progress {
+        made: m + q.made,
+        whole: q.whole,
+    }
+}
+
+// NOSPACE; then the stores, none where there are no bytes to append.
+fn append_to(w: &mut [u8], v: Volume, f: File, bytes: &[u8], limit: u32) -> Outcome
+    requires { ⌜ Ready v (now w) × Proper v (card-of (now w)) f ⌝ }
+    ensures { λ r. ⌜ Did limit (append-to (card-of (now (w .entry))) v f (view (now (bytes .entry)))) (now (w .entry)) (now (w .exit)) r ⌝ }
+{
+    let l = v.layout;
+    let n = file_append::added_clusters(l, f, bytes.len());
+    if sector::index(fat_chain::count_free(w, l)) < n {
+        return Outcome::Refused(Ground::Nospace);
+    }
+    if bytes.len() == 0 {
+        return Outcome::Done(0);
+    }
+    let last = file_read::last_cluster(w, l, f);
+    let p = store_append(w, v, f, last, n as u32, bytes, limit);
+    log_steps::ended(p)
+}
+
+fn append_on(w: &mut [u8], v: Volume, name: &[u8], bytes: &[u8], limit: u32) -> Outcome
+    requires { ⌜ Ready v (now w) ⌝ }
+    ensures { λ r. ⌜
+        Did limit (append-on (card-of (now (w .entry))) v (view (now (name .entry))) (view (now (bytes .entry)))) (now (w .entry)) (now (w .exit)) r ⌝ }
+{
+    let o = root_lookup::file_of(w, v, name);
+    match o {
+        Found::Missing(g) => Outcome::Refused(g),
+        Found::At(f) => append_to(w, v, f, bytes, limit),
+    }
+}
+
+pub fn append(w: &mut [u8], name: &[u8], bytes: &[u8], limit: u32) -> Outcome
+    ensures { λ r. ⌜
+        Did limit (append (window-of (now (w .entry))) (view (now (name .entry))) (view (now (bytes .entry)))) (now (w .entry)) (now (w .exit)) r ⌝ }
+{
+    let e = volume::clean(w);
+    match e {
+        Examined::Refused(g) => Outcome::Refused(g),
+        Examined::Granted(v) => append_on(w, v, name, bytes, limit),
+    }
+}

@@ -1,0 +1,103 @@
+// Read and list: a card that is clean, and what they leave in a lent buffer.
+use model::Layout;
+use model::Outcome;
+use model::Volume;
+use root_lookup::Found;
+use volume::Examined;
+ghost use lib.ListN.{length, getD};
+ghost use Rattle.model.specs.Bytes.{view, bytes-of, overlay};
+ghost use Rattle.model.specs.Sector.{card-of, window-of};
+ghost use Rattle.model.specs.Promises.{Held};
+ghost use Rattle.operations.specs.Reading.{read, list, shown, directory-listing};
+ghost use Rattle.call_read.specs.Gave.{Gave, read-on};
+ghost use mathlib.Core.Path.{_≡_};
+ghost use Prim.Native.Nat.{ℕ, _+_, _≤_, _<_};
+ghost use Rattle.model.specs.Root.{slot-at};
+ghost use Rattle.call_read.specs.Filled.{Fills, Listed};
+
+// Slot k into the 32 bytes of the buffer from at on.
+fn copy_slot(out: &mut [u8], at: usize, w: &[u8], l: Layout, k: u32)
+    requires { ⌜ Held l (now w) × (k < l .entries) × (at + 32 ≤ length (now out)) ⌝ }
+    ensures { λ _. ⌜ ((i : ℕ) → getD (now (out .exit)) i 0 ≡ overlay 32 (slot-at l (card-of (now (w .entry))) k) at (bytes-of (now (out .entry))) i) ⌝ }
+{
+    let from = 512 * sector::index(l.root + k / 16) + 32 * sector::index(k % 16);
+    let mut j = 0;
+    while j < 32 {
+        out[at + j] = w[from + j];
+        j += 1;
+    }
+}
+
+// Slot k after the n that are listed before it, if it is listed and fits; and how many are listed now.
+fn list_slot(out: &mut [u8], w: &[u8], l: Layout, k: u32, n: u32) -> u32
+    requires { ⌜ Held l (now w) × (k < l .entries) × (n ≤ k) ⌝ }
+    ensures { λ r. ⌜ Listed l (card-of (now (w .entry))) k n (now (out .entry)) (now (out .exit)) r ⌝ }
+{
+    if !root_read::is_listed(w, l, k) {
+        return n;
+    }
+    let at = 32 * sector::index(n);
+    if out.len() < at + 32 {
+        return n + 1;
+    }
+    copy_slot(out, at, w, l, k);
+    n + 1
+}
+
+// The listed slots, as many as fit whole, and how many there are.
+pub fn copy_listed(out: &mut [u8], w: &[u8], l: Layout) -> u32
+    requires { ⌜ Held l (now w) ⌝ }
+    ensures { λ r. ⌜
+        Fills (directory-listing l (card-of (now (w .entry))) (shown l (card-of (now (w .entry)))) (length (now (out .entry)))) (now (out .entry))
+        (now (out .exit)) r ⌝ }
+{
+    let entries = l.entries;
+    let mut k = 0;
+    let mut n = 0;
+    while k < entries {
+        n = list_slot(out, w, l, k, n);
+        k += 1;
+    }
+    n
+}
+
+pub fn list(w: &[u8], buffer: &mut [u8]) -> Outcome
+    ensures { λ r. ⌜ Gave (list (window-of (now (w .entry))) (length (now (buffer .entry)))) (now (buffer .entry)) (now (buffer .exit)) r ⌝ }
+{
+    let e = volume::clean(w);
+    match e {
+        Examined::Refused(g) => Outcome::Refused(g),
+        Examined::Granted(v) => {
+            let l = v.layout;
+            Outcome::Done(copy_listed(buffer, w, l))
+        }
+    }
+}
+
+fn read_from(w: &[u8], v: Volume, name: &[u8], offset: u64, buffer: &mut [u8]) -> Outcome
+    requires { ⌜ Held (v .layout) (now w) ⌝ }
+    ensures { λ r. ⌜
+        Gave (read-on (card-of (now (w .entry))) v (view (now (name .entry))) offset (length (now (buffer .entry)))) (now (buffer .entry))
+        (now (buffer .exit)) r ⌝ }
+{
+    let o = root_lookup::file_of(w, v, name);
+    match o {
+        Found::Missing(g) => Outcome::Refused(g),
+        Found::At(f) => {
+            let l = v.layout;
+            Outcome::Done(file_read::read_file(w, l, f, offset, buffer))
+        }
+    }
+}
+
+pub fn read(w: &[u8], name: &[u8], offset: u64, buffer: &mut [u8]) -> Outcome
+    ensures { λ r. ⌜
+        Gave (read (window-of (now (w .entry))) (view (now (name .entry))) offset (length (now (buffer .entry)))) (now (buffer .entry))
+        (now (buffer .exit)) r ⌝ }
+{
+    let e = volume::clean(w);
+    match e {
+        Examined::Refused(g) => Outcome::Refused(g),
+        Examined::Granted(v) => read_from(w, v, name, offset, buffer),
+    }
+}

@@ -1,0 +1,16 @@
+-- A window whose card passes grounds 1 to 6.
+use Prim.Native.Nat.{ℕ}
+use mathlib.Core.Path.{_≡_}
+use mathlib.Core.List.{List}
+use Rattle.model.specs.Sector.{window-of}
+use Rattle.model.specs.Ground.{granted}
+use Rattle.model.specs.Volume.{examine}
+use Rattle.model.specs.Promises.{Held}
+use Rattle.model.specs.declared.Volume.{Volume}
+use Rattle.fat_read.specs.Located.{Lies}
+
+-- They are passed with this volume, its layout is the window's, and its log lies there.
+pub record Found (v : Volume) (xs : List ℕ) : Type 0 where
+  pub passes : examine (window-of xs) ≡ granted v
+  pub held : Held (v .layout) xs
+  pub lies : Lies (v .layout) (v .log)

@@ -1,0 +1,50 @@
+-- How truncate and delete end, by what the card and the name give.
+use Prim.Native.Nat.{ℕ, _-_, _<_}
+use native.Mathlib.Omega.{arith}
+use mathlib.Core.Path.{_≡_}
+use mathlib.Core.List.{[]}
+use borrow.Author.Tests.{lt-ltb, le-ltb, ne-eqb}
+use Rattle.model.specs.Bytes.{Span}
+use Rattle.model.specs.Sector.{Card, Window}
+use Rattle.model.specs.Ground.{refused, granted, _when_, _>>=_, _>>_}
+use Rattle.model.specs.Volume.{clean}
+use Rattle.model.specs.declared.File.{File}
+use Rattle.model.specs.declared.Ground.{Ground}
+use Rattle.model.specs.declared.Ground.the-variants as Ground
+use Rattle.model.specs.declared.Volume.{Volume}
+use Rattle.operations.specs.Program.{ending}
+use Rattle.operations.specs.Plan.{truncate-stores}
+use Rattle.operations.specs.Calls.{truncate, delete, unless-none}
+use Rattle.call_truncate.specs.Calls.{delete-on, truncate-as, truncate-on}
+
+module _ (w : Window) where
+  pub delete-refused : (n : Span) (g : Ground) → clean w ≡ refused g → delete w n ≡ refused g
+  unfolding delete _>>=_
+  delete-refused n g e = rw e
+
+  pub delete-granted : (n : Span) (v : Volume) → clean w ≡ granted v → delete w n ≡ delete-on (w .card) v n
+  unfolding delete delete-on _>>=_
+  delete-granted n v e = rw e
+
+  pub truncate-refused : (n : Span) (size : ℕ) (g : Ground) → clean w ≡ refused g → truncate w n size ≡ refused g
+  unfolding truncate _>>=_
+  truncate-refused n size g e = rw e
+
+  pub truncate-granted : (n : Span) (size : ℕ) (v : Volume) → clean w ≡ granted v → truncate w n size ≡ truncate-on (w .card) v n size
+  unfolding truncate truncate-on truncate-as _>>=_
+  truncate-granted n size v e = rw e
+
+module _ (c : Card) (v : Volume) (f : File) (size : ℕ) where
+  pub as-longer : f .size < size → truncate-as c v f size ≡ refused Ground.Length
+  unfolding truncate-as _when_ _>>_
+  as-longer h = rw (lt-ltb (f .size) size h)
+
+  pub as-same : f .size ≡ size → truncate-as c v f size ≡ granted (ending [])
+  unfolding truncate-as unless-none _when_ _>>_
+  as-same h =
+      let z : f .size - size ≡ 0 = omega arith in
+      rw (le-ltb (f .size) size (omega arith), z)
+
+  pub as-shorter : size < f .size → truncate-as c v f size ≡ granted (truncate-stores v c f size)
+  unfolding truncate-as unless-none _when_ _>>_
+  as-shorter h = rw (le-ltb (f .size) size (omega arith), ne-eqb (f .size - size) 0 (λ e. omega arith))

@@ -1,0 +1,25 @@
+use mathlib.Core.Path.{sym, _∙_}
+use borrow.Author.Tests.{not-true, not-false}
+use Rattle.model.proofs.Runs.{ran-none}
+use Rattle.fat_copy.proofs.Laws.{renewal-none, renewal-one}
+use borrow.Author.Needs.{needs}
+use Rattle.fat_copy.proofs.copy_sector.Statement.{statement}
+use Rattle.fat_copy.proofs.copy_sector.Tie as tie
+use Rattle.fat_copy.proofs.copy_sector.Reads as reads
+use Rattle.fat_copy.proofs.copy_sector.Lts as lts
+use Rattle.sector.proofs.alters.Reads as alters-reads
+use Rattle.sector.proofs.overwrite.Reads as overwrite-reads
+
+returns : tie.Need-returns
+returns c = rw (renewal-none _ _ _ (sym (c .before .alters .ensures) ∙ not-true _ (c .if1 .taken))) (ran-none _ _)
+
+returns-2 : tie.Need-returns-2
+returns-2 c =
+    let alters = c .before .before .before .before .before .alters in
+    let if1 = c .before .before .before .before .if1 in
+    rw (renewal-one _ _ _ (sym (alters .ensures) ∙ not-false _ (if1 .left))) (c .before .before .overwrite .ensures)
+
+pub copy-sector-spec : {M : Type 1} → statement M
+copy-sector-spec =
+    tie.close
+    (tie.spec (λ c κs. search needs) (λ c. search needs) returns (λ c κs. search needs) (λ c. search needs) returns-2)

@@ -1,0 +1,14 @@
+use borrow.Author.Tests.{eq-eqb, ne-eqb}
+use Rattle.fat_release.proofs.unless_marked.Statement.{statement}
+use Rattle.fat_release.proofs.unless_marked.Tie as tie
+use Rattle.fat_release.proofs.unless_marked.Reads as reads
+use Rattle.fat_release.proofs.unless_marked.Lts as lts
+
+returns : tie.Need-returns
+returns c = rw (eq-eqb _ _ (c .if1 .taken))
+
+returns-2 : tie.Need-returns-2
+returns-2 c = rw (ne-eqb _ _ (c .if1 .left))
+
+pub unless-marked-spec : {M : Type 1} → statement M
+unless-marked-spec = tie.close (tie.spec returns returns-2)

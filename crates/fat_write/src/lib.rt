@@ -1,0 +1,162 @@
+// Renewal: FAT2 with the lowest free clusters linked after the last one kept, and the end of a chain freed, in one pass.
+use model::Layout;
+use model::Progress;
+ghost use mathlib.Core.Path.{_≡_};
+ghost use mathlib.Core.Bool.{false};
+ghost use Prim.Native.Nat.{ℕ, _+_, _*_, _/_, _%_, _≤_, _<_};
+ghost use lib.ListN.{length, take};
+ghost use Rattle.model.specs.Sector.{card-of};
+ghost use Rattle.model.specs.Fat.{entry, fat1-of, fat2-of, free-clusters, link, write-fat};
+ghost use Rattle.model.specs.Chain.{chain};
+ghost use Rattle.model.specs.Promises.{Held, Ran};
+ghost use Rattle.fat_copy.specs.Change.{lead, own-fat, renewal};
+ghost use Rattle.fat_link.specs.Allocate.{grown, news, Cursor, Above, Moved};
+ghost use Rattle.fat_release.specs.Release.{cut, cleared, mark-of, Inside};
+ghost use Rattle.fat_write.specs.Renew.{renewed, passed};
+
+// What a sector's turn made, and the new cluster that comes after it, with how many are left.
+pub struct Turn {
+    pub made: u32,
+    pub whole: bool,
+    pub at: u32,
+    pub left: u32,
+}
+
+// Whether sector s may hold `last`, a new cluster or, by the marks, a freed one.
+fn is_changed(marks: &[u8], s: u32, last: u32, at: u32, left: u32) -> bool
+    requires { ⌜ length (now marks) ≡ 2048 ⌝ }
+    ensures { λ r. ⌜
+        (r ≡ false → (s ≡ last / 256 → ⊥) × (0 < left → s ≡ at / 256 → ⊥) × ((i : ℕ) → i < 256 → mark-of (now (marks .entry)) (256 * (s % 64) + i) ≡ 0)) ⌝ }
+{
+    if fat_link::is_changed(s, last, at, left) {
+        return true;
+    }
+    fat_release::has_mark(marks, 256 * sector::index(s % 64))
+}
+
+// Sector s of FAT2, from FAT1's: `last` leads to `value`, the new clusters in it are linked, the marked ones freed. One with no
+// entry to change becomes FAT1's.
+fn renew_sector(
+    w: &mut [u8],
+    l: Layout,
+    s: u32,
+    last: u32,
+    value: u32,
+    at: u32,
+    left: u32,
+    marks: &[u8],
+    limit: u32,
+) -> Turn
+    requires { ⌜ Held l (now w) × (s < l .fatsize) × (value < 65536) × Cursor l (own-fat l (now w)) at left × Above s at left × (length (now marks) ≡ 2048) ⌝ }
+    ensures { λ r. ⌜
+        Ran limit (renewal (l .fat2 + s) (cleared (now (marks .entry))
+        (link (news l (own-fat l (now (w .entry))) at left) (lead last value (own-fat l (now (w .entry))))) s)
+        (card-of (now (w .entry)) (l .fat2 + s))) (now (w .entry)) (now (w .exit)) (r .made) (r .whole)
+        × Moved l (own-fat l (now (w .entry))) (s + 1) at left (r .at) (r .left) × Above (s + 1) (r .at) (r .left) ⌝ }
+{
+    if !is_changed(marks, s, last, at, left) {
+        let p = fat_copy::copy_changed(w, l.fat1 + s, l.fat2 + s, limit);
+        return Turn {
+            made: p.made,
+            whole: p.whole,
+            at,
+            left,
+        };
+    }
+    let b = fat_link::link_sector(w, l, s, last, value, at, left);
+    let mut buf = b.buf;
+    fat_release::clear_marked(&mut buf, marks, 256 * sector::index(s % 64));
+    let p = fat_copy::store_changed(w, l.fat2 + s, &buf, limit);
+    Turn {
+        made: p.made,
+        whole: p.whole,
+        at: b.at,
+        left: b.left,
+    }
+}
+
+// All of FAT2: `last` leads to `value`, the n new clusters from `first` on are linked, and the m clusters from `old` on freed.
+fn renew_all(
+    w: &mut [u8],
+    l: Layout,
+    last: u32,
+    value: u32,
+    first: u32,
+    n: u32,
+    old: u32,
+    m: u32,
+    limit: u32,
+) -> Progress
+    requires { ⌜ Held l (now w) × (value < 65536) × Cursor l (own-fat l (now w)) first n × Inside l (chain (entry (own-fat l (now w))) m old) ⌝ }
+    ensures { λ r. ⌜
+        Ran limit (write-fat l (l .fat2) (passed l (own-fat l (now (w .entry))) last value first n m old) (fat2-of l (card-of (now (w .entry)))))
+        (now (w .entry)) (now (w .exit)) (r .made) (r .whole) ⌝ }
+{
+    let mut marks = [0u8; 2048];
+    let mut made = 0;
+    let mut at = first;
+    let mut left = n;
+    let mut s = 0;
+    while s < l.fatsize {
+        fat_release::mark_block(w, l, &mut marks, s, old, m);
+        let p = renew_sector(w, l, s, last, value, at, left, &marks, limit - made);
+        made += p.made;
+        if !p.whole {
+            return Progress { made, whole: false };
+        }
+        at = p.at;
+        left = p.left;
+        s += 1;
+    }
+    Progress { made, whole: true }
+}
+
+// Step 2 of a truncate or a delete, where nothing is new: the sectors of FAT2 that change when the m clusters from `old` on are
+// freed; the last one kept is `last`, 0 if there is none.
+pub fn shorten_fat(w: &mut [u8], l: Layout, last: u32, old: u32, m: u32, limit: u32) -> Progress
+    requires { ⌜ Held l (now w) × Inside l (chain (entry (fat1-of l (card-of (now w)))) m old) ⌝ }
+    ensures { λ r. ⌜
+        Ran limit (write-fat l (l .fat2) (cut (fat1-of l (card-of (now (w .entry)))) last old m) (fat2-of l (card-of (now (w .entry)))))
+        (now (w .entry)) (now (w .exit)) (r .made) (r .whole) ⌝ }
+{
+    if m == 0 {
+        return renew_all(w, l, 0, 0, 0, 0, 0, 0, limit);
+    }
+    renew_all(w, l, last, 0xFFFF, 0, 0, old, m, limit)
+}
+
+// Step 2 of any change of a file's clusters: the sectors of FAT2 that change when the n lowest free clusters are linked after
+// `last`, the last one kept (0 if there is none), and the m clusters from `old` on are freed.
+pub fn renew_fat(
+    w: &mut [u8],
+    l: Layout,
+    last: u32,
+    n: u32,
+    old: u32,
+    m: u32,
+    limit: u32,
+) -> Progress
+    requires { ⌜
+        Held l (now w) × (n ≤ length (free-clusters l (fat1-of l (card-of (now w))))) × Inside l (chain (entry (fat1-of l (card-of (now w)))) m old) ⌝ }
+    ensures { λ r. ⌜
+        Ran limit (write-fat l (l .fat2) (renewed last (take n (free-clusters l (fat1-of l (card-of (now (w .entry))))))
+        (chain (entry (fat1-of l (card-of (now (w .entry))))) m old) (fat1-of l (card-of (now (w .entry)))))
+        (fat2-of l (card-of (now (w .entry))))) (now (w .entry)) (now (w .exit)) (r .made) (r .whole) ⌝ }
+{
+    if n == 0 {
+        return shorten_fat(w, l, last, old, m, limit);
+    }
+    let first = fat_read::find_entry(w, l.fat1, 2, l.clusters, 0);
+    renew_all(w, l, last, first, first, n, old, m, limit)
+}
+
+// Step 2 of an append, where nothing is freed: the sectors of FAT2 that change when the n lowest free clusters are linked after
+// `last`, 0 if the file has no cluster.
+pub fn extend_fat(w: &mut [u8], l: Layout, last: u32, n: u32, limit: u32) -> Progress
+    requires { ⌜ Held l (now w) × (n ≤ length (free-clusters l (fat1-of l (card-of (now w))))) ⌝ }
+    ensures { λ r. ⌜
+        Ran limit (write-fat l (l .fat2) (grown l (fat1-of l (card-of (now (w .entry)))) last n) (fat2-of l (card-of (now (w .entry)))))
+        (now (w .entry)) (now (w .exit)) (r .made) (r .whole) ⌝ }
+{
+    renew_fat(w, l, last, n, 0, 0, limit)
+}

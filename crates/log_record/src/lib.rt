@@ -1,0 +1,138 @@
+// Log records as they stand in a sector, and ground RECORD's rules for them.
+use model::Record;
+ghost use mathlib.Core.Path.{_≡_};
+ghost use Prim.Native.Nat.{_+_, _*_, _≤_, _<_};
+ghost use lib.ListN.{length};
+ghost use Rattle.model.specs.Sector.{card-of};
+ghost use Rattle.model.specs.Record.{record-at, pends};
+ghost use Rattle.model.specs.Pending.{slot-ok, record-ok, alike, pair-ok, records-ok};
+
+// Whether record r of sector s is pending.
+pub fn pends(log: &[u8], s: u32, r: u32) -> bool
+    requires { ⌜ (512 * s + 512 ≤ length (now log)) × (r < 16) ⌝ }
+    ensures { λ p. ⌜ p ≡ pends (card-of (now (log .entry)) s) r ⌝ }
+{
+    let b = sector::byte(log, s, 32 * r);
+    if b == 0 {
+        return false;
+    }
+    b != 0xE5
+}
+
+// A slot that a record may name: below the root entries, and not above z, the lowest slot beginning 0.
+fn slot_ok(entries: u32, z: u32, k: u32) -> bool
+    ensures { λ r. ⌜ r ≡ slot-ok entries z k ⌝ }
+{
+    if entries <= k {
+        return false;
+    }
+    k <= z
+}
+
+// Record k of sector s.
+pub fn load(log: &[u8], s: u32, k: u32) -> Record
+    requires { ⌜ (512 * s + 512 ≤ length (now log)) × (k < 16) ⌝ }
+    ensures { λ r. ⌜ r ≡ record-at (card-of (now (log .entry)) s) k ⌝ }
+{
+    let name = root_names::name_at(log, s, 32 * k);
+    let attributes = sector::byte(log, s, 32 * k + 11);
+    let count = sector::byte(log, s, 32 * k + 12);
+    let number = sector::byte(log, s, 32 * k + 13);
+    let directory = sector::le32(log, s, 32 * k + 14);
+    let slot = sector::le16(log, s, 32 * k + 18);
+    let high = sector::le16(log, s, 32 * k + 20);
+    let from = sector::le32(log, s, 32 * k + 22);
+    let cluster = sector::le16(log, s, 32 * k + 26);
+    let size = sector::le32(log, s, 32 * k + 28);
+    Record {
+        name,
+        attributes,
+        count,
+        number,
+        directory,
+        slot,
+        high,
+        from,
+        cluster,
+        size,
+    }
+}
+
+// The fields of record 0 that are judged.
+fn record_ok(r: Record, entries: u32, z: u32) -> bool
+    ensures { λ t. ⌜ t ≡ record-ok entries z r ⌝ }
+{
+    if r.number < 1 {
+        return false;
+    }
+    if 5 < r.number {
+        return false;
+    }
+    if r.directory != 0 {
+        return false;
+    }
+    if r.high != 0 {
+        return false;
+    }
+    if r.count != 0 {
+        return false;
+    }
+    if 65536 <= r.from {
+        return false;
+    }
+    slot_ok(entries, z, r.slot)
+}
+
+// Whether two records are alike but for name, operation and slot.
+fn is_alike(r: Record, d: Record) -> bool
+    ensures { λ t. ⌜ t ≡ alike r d ⌝ }
+{
+    if r.attributes != d.attributes {
+        return false;
+    }
+    if r.count != d.count {
+        return false;
+    }
+    if r.directory != d.directory {
+        return false;
+    }
+    if r.high != d.high {
+        return false;
+    }
+    if r.from != d.from {
+        return false;
+    }
+    if r.cluster != d.cluster {
+        return false;
+    }
+    r.size == d.size
+}
+
+// The two records of a rename.
+fn pair_ok(r: Record, d: Record, entries: u32, z: u32) -> bool
+    ensures { λ t. ⌜ t ≡ pair-ok entries z r d ⌝ }
+{
+    if !is_alike(r, d) {
+        return false;
+    }
+    if !slot_ok(entries, z, d.slot) {
+        return false;
+    }
+    r.slot != d.slot
+}
+
+// The records of the group in sector s.
+pub fn records_ok(log: &[u8], s: u32, entries: u32, z: u32) -> bool
+    requires { ⌜ 512 * s + 512 ≤ length (now log) ⌝ }
+    ensures { λ t. ⌜ t ≡ records-ok entries z (record-at (card-of (now (log .entry)) s)) ⌝ }
+{
+    let r = load(log, s, 0);
+    if !record_ok(r, entries, z) {
+        return false;
+    }
+    if r.number != 5 {
+        return true;
+    }
+    let d = load(log, s, 1);
+    pair_ok(r, d, entries, z)
+}

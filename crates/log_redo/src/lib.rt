@@ -1,0 +1,84 @@
+// Steps 4 to 6: what is left of an operation once its group is on the card.
+use model::Group;
+use model::Layout;
+use model::Operation;
+use model::Progress;
+ghost use mathlib.Core.Path.{_≡_};
+ghost use mathlib.Core.List.{[], _∷_};
+ghost use Prim.Native.Nat.{_+_, _*_, _≤_, _<_};
+ghost use lib.ListN.{length};
+ghost use Rattle.model.specs.Bytes.{bytes-of};
+ghost use Rattle.model.specs.Sector.{card-of};
+ghost use Rattle.model.specs.Record.{committed, commit};
+ghost use Rattle.model.specs.Promises.{Held, Ran};
+ghost use Rattle.operations.specs.Program.{stores};
+ghost use Rattle.operations.specs.Finish.{Slots, finish, redo};
+
+// The first n records of a log sector start 0xE5.
+fn mark(buf: [u8; 512], n: u32) -> [u8; 512]
+    requires { ⌜ n ≤ 16 ⌝ }
+    ensures { λ r. ⌜ bytes-of r ≡ committed n (bytes-of buf) ⌝ }
+{
+    let mut out = buf;
+    let end = sector::index(n);
+    let mut k = 0;
+    while k < end {
+        out[32 * k] = 0xE5;
+        k += 1;
+    }
+    out
+}
+
+// The group's log sector again, its records committed.
+pub fn commit(w: &mut [u8], g: Group, limit: u32) -> Progress
+    requires { ⌜ (512 * g .sector + 512 ≤ length (now w)) × (g .records ≤ 16) ⌝ }
+    ensures { λ r. ⌜ Ran limit (commit (card-of (now (w .entry))) g ∷ []) (now (w .entry)) (now (w .exit)) (r .made) (r .whole) ⌝ }
+{
+    let old = sector::load(w, g.sector);
+    let buf = mark(old, g.records);
+    sector::store_sector(w, g.sector, &buf, limit)
+}
+
+// FAT2's sectors into FAT1, then the root sectors.
+pub fn finish(w: &mut [u8], l: Layout, o: Operation, limit: u32) -> Progress
+    requires { ⌜ Held l (now w) ⌝ }
+    requires { ⌜ Slots (l .entries) o ⌝ }
+    ensures { λ r. ⌜ Ran limit (finish l o (card-of (now (w .entry)))) (now (w .entry)) (now (w .exit)) (r .made) (r .whole) ⌝ }
+{
+    let fats = fat_copy::to_fat1(w, l, limit);
+    let m = fats.made;
+    if !fats.whole {
+        return Progress {
+            made: m,
+            whole: false,
+        };
+    }
+    let root = root_write::store_root(w, l, o, limit - m);
+    Progress {
+        made: m + root.made,
+        whole: root.whole,
+    }
+}
+
+// A group in the data region: its operation finished, then its records committed.
+pub fn redo(w: &mut [u8], l: Layout, g: Group, limit: u32) -> Progress
+    requires { ⌜ Held l (now w) ⌝ }
+    requires { ⌜ Slots (l .entries) (g .operation) ⌝ }
+    requires { ⌜ (l .start ≤ g .sector) × (g .sector < l .total) × (g .records ≤ 16) ⌝ }
+    ensures { λ r. ⌜ Ran limit (stores (redo l g (card-of (now (w .entry))))) (now (w .entry)) (now (w .exit)) (r .made) (r .whole) ⌝ }
+{
+    let o = g.operation;
+    let p = finish(w, l, o, limit);
+    let m = p.made;
+    if !p.whole {
+        return Progress {
+            made: m,
+            whole: false,
+        };
+    }
+    let q = commit(w, g, limit - m);
+    Progress {
+        made: m + q.made,
+        whole: q.whole,
+    }
+}

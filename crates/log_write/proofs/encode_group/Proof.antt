@@ -1,0 +1,61 @@
+use Prim.Native.Nat.{ℕ, _-_, _*_, _≤_}
+use native.Mathlib.Omega.{arith}
+use mathlib.Core.Path.{_≡_, ap, _∙_}
+use mathlib.Core.List.{List, map}
+use lib.ListN.{length, take}
+use lib.Seq.{take-all}
+use Rattle.model.specs.Bytes.{bytes-of, overlay}
+use Rattle.model.specs.Record.{record-bytes, records, lay, encode}
+use Rattle.model.specs.declared.Record.{Record}
+use Rattle.log_write.proofs.Laws.{lay-zeros, lay-next}
+use borrow.Author.Needs.{needs}
+use borrow.Author.Needs.{needs}
+use Rattle.log_write.proofs.encode_group.Statement.{statement}
+use Rattle.log_write.proofs.encode_group.Tie as tie
+use Rattle.log_write.proofs.encode_group.Reads as reads
+use Rattle.log_write.proofs.encode_group.Lts as lts
+use Rattle.sector_build.proofs.lay.Reads as lay-reads
+use Rattle.sector.proofs.index.Reads as index-reads
+use Rattle.log_write.proofs.record_bytes.Reads as record-bytes-reads
+use Rattle.log_write.proofs.record_of.Reads as record-of-reads
+use Rattle.log_write.proofs.records_of.Reads as records-of-reads
+
+abbrev Inv-loop : tie.InvT-loop
+Inv-loop o n buf₀ k₀ buf k = (k ≤ n) × (length buf ≡ 512) × (bytes-of buf ≡ lay (map record-bytes (take k (records o))))
+
+abbrev μ-loop : tie.MeasureT-loop
+μ-loop o n buf₀ k₀ buf k = n - k
+
+loop-holds : tie.Need-loop-holds Inv-loop μ-loop
+loop-holds c = (search needs, search needs, lay-zeros)
+
+record-of-requires : tie.Need-record-of-requires Inv-loop μ-loop
+record-of-requires c κs = omega (arith, c .before .before .records-of .ensures .0)
+
+loop-again : tie.Need-loop-again Inv-loop μ-loop
+loop-again c =
+    let a = c .before .before .before .before .before .before .before .args in
+    let records-of = c .before .before .before .before .before .before .records-of in
+    let turn = c .before .before .before .before .before .loop in
+    let record-of = c .before .before .before .record-of in
+    let record-bytes-2 = c .before .before .record-bytes in (
+      search needs,
+      search needs,
+      lay-next (records (a .o)) (turn .k) (bytes-of (record-bytes-2 .result)) (bytes-of (turn .buf))
+          (bytes-of (c .lay .result)) (omega (arith, records-of .ensures .0)) (record-bytes-2 .ensures ∙ ap record-bytes (record-of .ensures))
+          (turn .inv .2) (c .lay .ensures ∙ ap (λ (z : ℕ). overlay 32 (bytes-of (record-bytes-2 .result)) (32 * z) (bytes-of (turn .buf)))
+          (c .before .index .ensures)),
+    )
+
+returns : tie.Need-returns Inv-loop μ-loop
+unfolding encode
+returns c =
+    let a = c .before .before .before .args in
+    c .before .loop .inv .2 ∙ ap (λ (rs : List Record). lay (map record-bytes rs))
+    (take-all (c .before .loop .k) (records (a .o)) (omega (arith, c .before .before .records-of .ensures .0)))
+
+pub encode-group-spec : {M : Type 1} → statement M
+encode-group-spec =
+    tie.close
+    (tie.spec Inv-loop μ-loop (λ c κs. search needs) loop-holds record-of-requires (λ c κs. search needs) (λ c κs. search needs)
+    (λ c κs. search needs) (λ c. search needs) (λ c. search needs) loop-again returns)

@@ -1,0 +1,57 @@
+-- Files that were found by name, and what they are like; the slot for a new name.
+use Prim.Native.Nat.{ℕ, _<_}
+use mathlib.Core.Path.{_≡_}
+use mathlib.Core.Bool.{true}
+use Rattle.model.specs.Sector.{Card}
+use Rattle.model.specs.Fat.{entry, fat1-of}
+use Rattle.model.specs.Chain.{keeps-chain}
+use Rattle.model.specs.Root.{file-at, free-slot}
+use Rattle.model.specs.Bytes.{Span}
+use Rattle.model.specs.Ground.{Answer, refused, granted, _when_, _>>_}
+use Rattle.model.specs.declared.File.{File}
+use Rattle.model.specs.declared.Volume.{Volume}
+use Rattle.model.specs.declared.Ground.the-variants as Ground
+use Rattle.operations.specs.Calls.{taken, root-full}
+use Rattle.root_lookup.specs.declared.Found.{Found}
+use Rattle.root_lookup.specs.declared.Found.the-variants.{Missing, At}
+use Rattle.root_lookup.specs.declared.Vacancy.{Vacancy}
+use Rattle.root_lookup.specs.declared.Vacancy.the-variants.{Denied, Slot}
+
+abbrev pub found-of : Found → Answer File
+found-of (Missing g) = refused g
+found-of (At f) = granted f
+
+-- The file is the one in its slot.
+pub record Seated (v : Volume) (c : Card) (f : File) : Type 0 where
+  pub slot : f .entry .slot < v .layout .entries
+  pub is : f ≡ file-at (v .layout) c (f .entry .slot)
+
+-- It keeps the chain rule too.
+pub record Proper (v : Volume) (c : Card) (f : File) : Type 0 where
+  pub seated : Seated v c f
+  pub chain : keeps-chain (v .layout) (entry (fat1-of (v .layout) c)) (f .first) (f .size) ≡ true
+
+-- A file that is given is the one in slot s.
+abbrev pub Lives : Volume → Card → ℕ → Found → Type 0
+Lives v c s (Missing g) = Unit {0}
+Lives v c s (At f) = Seated v c f × (f .entry .slot ≡ s)
+
+abbrev pub Opens : Volume → Card → Found → Type 0
+Opens v c (Missing g) = Unit {0}
+Opens v c (At f) = Proper v c f
+
+abbrev pub vacancy-of : Vacancy → Answer ℕ
+vacancy-of (Denied g) = refused g
+vacancy-of (Slot s) = granted s
+
+-- EXISTS and ROOTFULL of a new name, and "the lowest beginning 0 or 0xE5".
+unfoldable pub new-slot : Volume → Card → Span → Answer ℕ
+new-slot v c n = do
+  Ground.Exists when taken v c n
+  Ground.Rootfull when root-full v c
+  granted (free-slot (v .layout) c)
+
+-- A slot that is given is one of n.
+abbrev pub Below : ℕ → Vacancy → Type 0
+Below n (Denied g) = Unit {0}
+Below n (Slot s) = s < n

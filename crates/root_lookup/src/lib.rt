@@ -1,0 +1,100 @@
+// Files by name: grounds 8 to 13.
+use model::File;
+use model::Ground;
+use model::Volume;
+ghost use mathlib.Core.Path.{_≡_};
+ghost use mathlib.Core.Bool.{true};
+ghost use Prim.Native.Nat.{_≤_};
+ghost use Rattle.model.specs.Bytes.{view};
+ghost use Rattle.model.specs.Sector.{card-of};
+ghost use Rattle.model.specs.Root.{name-ok};
+ghost use Rattle.model.specs.Promises.{Held};
+ghost use Rattle.operations.specs.Calls.{slot-of, file-in, whole, file-of, taken};
+ghost use Rattle.root_lookup.specs.Found.{found-of, Seated, Lives, Opens, vacancy-of, new-slot, Below};
+
+// A file, or the ground on which there is none.
+pub enum Found {
+    Missing(Ground),
+    At(File),
+}
+
+// A free slot, or the ground on which there is none.
+pub enum Vacancy {
+    Denied(Ground),
+    Slot(u32),
+}
+
+// The slot that a name means; as many as there are slots where none has it.
+pub fn slot_of(w: &[u8], v: Volume, name: &[u8]) -> u32
+    requires { ⌜ Held (v .layout) (now w) × (name-ok (view (now name)) ≡ true) ⌝ }
+    ensures { λ r. ⌜ (r ≡ slot-of v (card-of (now (w .entry))) (view (now (name .entry)))) × (r ≤ v .layout .entries) ⌝ }
+{
+    let l = v.layout;
+    root_read::find_slot(w, l, root_names::name_of(name))
+}
+
+// ABSENT and DIRECTORY: the file in a slot.
+pub fn file_in(w: &[u8], v: Volume, s: u32) -> Found
+    requires { ⌜ Held (v .layout) (now w) × (s ≤ v .layout .entries) ⌝ }
+    ensures { λ r. ⌜ (found-of r ≡ file-in v (card-of (now (w .entry))) s) × Lives v (card-of (now (w .entry))) s r ⌝ }
+{
+    let l = v.layout;
+    if l.entries <= s {
+        return Found::Missing(Ground::Absent);
+    }
+    if root_read::is_directory(w, l, s) {
+        return Found::Missing(Ground::Directory);
+    }
+    Found::At(root_read::file_at(w, l, s))
+}
+
+// CHAIN.
+fn keep_whole(w: &[u8], v: Volume, f: File) -> Found
+    requires { ⌜ Held (v .layout) (now w) × Seated v (card-of (now w)) f ⌝ }
+    ensures { λ r. ⌜ (found-of r ≡ whole v (card-of (now (w .entry))) f) × Opens v (card-of (now (w .entry))) r ⌝ }
+{
+    let l = v.layout;
+    if !fat_chain::keeps(w, l, f.first, f.size) {
+        return Found::Missing(Ground::Chain);
+    }
+    Found::At(f)
+}
+
+// NAME, ABSENT, DIRECTORY and CHAIN: the file that a name means.
+pub fn file_of(w: &[u8], v: Volume, name: &[u8]) -> Found
+    requires { ⌜ Held (v .layout) (now w) ⌝ }
+    ensures { λ r. ⌜ (found-of r ≡ file-of v (card-of (now (w .entry))) (view (now (name .entry)))) × Opens v (card-of (now (w .entry))) r ⌝ }
+{
+    if !root_names::is_name(name) {
+        return Found::Missing(Ground::Name);
+    }
+    let o = file_in(w, v, slot_of(w, v, name));
+    match o {
+        Found::Missing(g) => Found::Missing(g),
+        Found::At(f) => keep_whole(w, v, f),
+    }
+}
+
+// EXISTS.
+fn is_taken(w: &[u8], v: Volume, name: &[u8]) -> bool
+    requires { ⌜ Held (v .layout) (now w) × (name-ok (view (now name)) ≡ true) ⌝ }
+    ensures { λ r. ⌜ r ≡ taken v (card-of (now (w .entry))) (view (now (name .entry))) ⌝ }
+{
+    slot_of(w, v, name) < v.layout.entries
+}
+
+// EXISTS and ROOTFULL: the slot for a new name.
+pub fn new_slot(w: &[u8], v: Volume, name: &[u8]) -> Vacancy
+    requires { ⌜ Held (v .layout) (now w) × (name-ok (view (now name)) ≡ true) ⌝ }
+    ensures { λ r. ⌜ (vacancy-of r ≡ new-slot v (card-of (now (w .entry))) (view (now (name .entry)))) × Below (v .layout .entries) r ⌝ }
+{
+    if is_taken(w, v, name) {
+        return Vacancy::Denied(Ground::Exists);
+    }
+    let l = v.layout;
+    let s = root_read::free_slot(w, l);
+    if s < l.entries {
+        return Vacancy::Slot(s);
+    }
+    Vacancy::Denied(Ground::Rootfull)
+}

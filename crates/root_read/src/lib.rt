@@ -1,0 +1,141 @@
+// The root directory: its slots, and the slot of a name.
+use model::Entry;
+use model::File;
+use model::Layout;
+use model::Name;
+ghost use mathlib.Core.Path.{_≡_};
+ghost use Prim.Native.Nat.{_≤_, _<_};
+ghost use Rattle.model.specs.Sector.{card-of};
+ghost use Rattle.model.specs.Promises.{Held};
+ghost use Rattle.model.specs.Root.{slot-at, listed, is-directory, bears, find, free-slot, first-bytes, end-slot, root-ok, file-at};
+
+// Byte j of slot k.
+pub fn slot_byte(w: &[u8], l: Layout, k: u32, j: u32) -> u32
+    requires { ⌜ Held l (now w) × (k < l .entries) × (j < 32) ⌝ }
+    ensures { λ r. ⌜ (r ≡ slot-at l (card-of (now (w .entry))) k j) × (r < 256) ⌝ }
+{
+    sector::byte(w, l.root + k / 16, 32 * (k % 16) + j)
+}
+
+// The lowest slot beginning 0; the number of slots where there is none.
+pub fn end_slot(w: &[u8], l: Layout) -> u32
+    requires { ⌜ Held l (now w) ⌝ }
+    ensures { λ r. ⌜ (r ≡ end-slot (l .entries) (first-bytes l (card-of (now (w .entry))))) × (r ≤ l .entries) ⌝ }
+{
+    let n = l.entries;
+    let mut k = 0;
+    while k < n {
+        if slot_byte(w, l, k, 0) == 0 {
+            return k;
+        }
+        k += 1;
+    }
+    n
+}
+
+// Whether no slot after z, the lowest one beginning 0, begins otherwise.
+pub fn root_ok(w: &[u8], l: Layout, z: u32) -> bool
+    requires { ⌜ Held l (now w) × (z ≡ end-slot (l .entries) (first-bytes l (card-of (now w)))) × (z ≤ l .entries) ⌝ }
+    ensures { λ r. ⌜ r ≡ root-ok (l .entries) (first-bytes l (card-of (now (w .entry)))) ⌝ }
+{
+    let n = l.entries;
+    let mut k = z + 1;
+    while k < n {
+        if slot_byte(w, l, k, 0) != 0 {
+            return false;
+        }
+        k += 1;
+    }
+    true
+}
+
+// A live slot that is no label or long-name entry.
+pub fn is_listed(w: &[u8], l: Layout, k: u32) -> bool
+    requires { ⌜ Held l (now w) × (k < l .entries) ⌝ }
+    ensures { λ r. ⌜ r ≡ listed (slot-at l (card-of (now (w .entry))) k) ⌝ }
+{
+    let b = slot_byte(w, l, k, 0);
+    if b == 0 {
+        return false;
+    }
+    if b == 0xE5 {
+        return false;
+    }
+    slot_byte(w, l, k, 11) / 8 % 2 != 1
+}
+
+pub fn is_directory(w: &[u8], l: Layout, k: u32) -> bool
+    requires { ⌜ Held l (now w) × (k < l .entries) ⌝ }
+    ensures { λ r. ⌜ r ≡ is-directory (slot-at l (card-of (now (w .entry))) k) ⌝ }
+{
+    slot_byte(w, l, k, 11) / 16 % 2 == 1
+}
+
+fn has_name(w: &[u8], l: Layout, k: u32, name: Name) -> bool
+    requires { ⌜ Held l (now w) × (k < l .entries) ⌝ }
+    ensures { λ r. ⌜ r ≡ bears name (slot-at l (card-of (now (w .entry))) k) ⌝ }
+{
+    if !is_listed(w, l, k) {
+        return false;
+    }
+    let own = root_names::name_at(w, l.root + k / 16, 32 * (k % 16));
+    if own.stem != name.stem {
+        return false;
+    }
+    own.extension == name.extension
+}
+
+// The lowest slot with the name; the number of slots where there is none.
+pub fn find_slot(w: &[u8], l: Layout, name: Name) -> u32
+    requires { ⌜ Held l (now w) ⌝ }
+    ensures { λ r. ⌜ (r ≡ find l (card-of (now (w .entry))) name) × (r ≤ l .entries) ⌝ }
+{
+    let n = l.entries;
+    let mut k = 0;
+    while k < n {
+        if has_name(w, l, k, name) {
+            return k;
+        }
+        k += 1;
+    }
+    n
+}
+
+// The lowest slot that a new name can take; the number of slots where there is none.
+pub fn free_slot(w: &[u8], l: Layout) -> u32
+    requires { ⌜ Held l (now w) ⌝ }
+    ensures { λ r. ⌜ (r ≡ free-slot l (card-of (now (w .entry)))) × (r ≤ l .entries) ⌝ }
+{
+    let n = l.entries;
+    let mut k = 0;
+    while k < n {
+        let b = slot_byte(w, l, k, 0);
+        if b == 0 {
+            return k;
+        }
+        if b == 0xE5 {
+            return k;
+        }
+        k += 1;
+    }
+    n
+}
+
+// The file in a slot.
+pub fn file_at(w: &[u8], l: Layout, k: u32) -> File
+    requires { ⌜ Held l (now w) × (k < l .entries) ⌝ }
+    ensures { λ r. ⌜ r ≡ file-at l (card-of (now (w .entry))) k ⌝ }
+{
+    let s = l.root + k / 16;
+    let j = 32 * (k % 16);
+    let name = root_names::name_at(w, s, j);
+    let attributes = sector::byte(w, s, j + 11);
+    let first = sector::le16(w, s, j + 26);
+    let size = sector::le32(w, s, j + 28);
+    let entry = Entry {
+        slot: k,
+        name,
+        attributes,
+    };
+    File { entry, first, size }
+}

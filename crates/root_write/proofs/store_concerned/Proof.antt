@@ -1,0 +1,37 @@
+use mathlib.Core.Path.{sym, _∙_}
+use Prim.Native.Nat.{_+_}
+use borrow.Author.Tests.{not-true, not-false}
+use Rattle.model.specs.Bytes.{bytes-of}
+use Rattle.model.specs.Sector.{card-of}
+use Rattle.model.specs.Root.{slot-at}
+use Rattle.model.proofs.Cards.{store-same}
+use Rattle.model.proofs.Runs.{ran-none}
+use Rattle.operations.specs.Finish.{effect, root-sector}
+use borrow.Author.Needs.{needs}
+use Rattle.root_write.proofs.store_concerned.Statement.{statement}
+use Rattle.root_write.proofs.store_concerned.Tie as tie
+use Rattle.root_write.proofs.store_concerned.Reads as reads
+use Rattle.root_write.proofs.store_concerned.Lts as lts
+use Rattle.root_write.proofs.concerns.Reads as concerns-reads
+use Rattle.root_write.proofs.sector_after.Reads as sector-after-reads
+use Rattle.sector.proofs.store_sector.Reads as store-sector-reads
+
+returns : tie.Need-returns
+returns c = rw (sym (c .before .concerns .ensures) ∙ not-true _ (c .if1 .taken)) (ran-none _ _)
+
+returns-2 : tie.Need-returns-2
+returns-2 c =
+    let a = c .before .before .before .before .before .before .before .before .before .before .before .args in
+    let concerns = c .before .before .before .before .before .before .before .before .before .concerns in
+    let if1 = c .before .before .before .before .before .before .before .before .if1 in
+    let sector-after = c .before .before .before .before .before .before .sector-after in
+    rw (
+      sym (concerns .ensures) ∙ not-false _ (if1 .left),
+      ← store-same (a .l .root + a .r) (bytes-of (sector-after .result))
+          (root-sector (effect (a .o) (slot-at (a .l) (card-of (a .w .now)))) (a .r)) (sector-after .ensures),
+    ) (c .before .before .store-sector .ensures)
+
+pub store-concerned-spec : {M : Type 1} → statement M
+store-concerned-spec =
+    tie.close
+    (tie.spec (λ c κs. search needs) returns (λ c κs. search needs) (λ c. search needs) (λ c κs. search needs) (λ c. search needs) returns-2)

@@ -1,0 +1,200 @@
+// The root's part of an operation.
+use model::Layout;
+use model::Operation;
+use model::Progress;
+ghost use mathlib.Core.Path.{_≡_};
+ghost use Prim.Native.Nat.{ℕ, _+_, _*_, _/_, _<_};
+ghost use lib.ListN.{getD};
+ghost use Rattle.model.specs.Bytes.{bytes-of};
+ghost use Rattle.model.specs.Sector.{card-of};
+ghost use Rattle.model.specs.Root.{slot-at};
+ghost use Rattle.model.specs.Promises.{Held, Ran};
+ghost use Rattle.operations.specs.Finish.{Slots, mark-deleted, effect, root-sector, concerns, root-stores};
+ghost use Rattle.root_write.specs.Slots.{resized, root-turn};
+
+// The 32 bytes of slot k.
+fn load_slot(w: &[u8], l: Layout, k: u32) -> [u8; 32]
+    requires { ⌜ Held l (now w) × (k < l .entries) ⌝ }
+    ensures { λ r. ⌜ ((j : ℕ) → j < 32 → getD r j 0 ≡ slot-at l (card-of (now (w .entry))) k j) ⌝ }
+{
+    let a = 512 * sector::index(l.root + k / 16) + 32 * sector::index(k % 16);
+    let mut b = [0u8; 32];
+    let mut j = 0;
+    while j < 32 {
+        b[j] = w[a + j];
+        j += 1;
+    }
+    b
+}
+
+// An entry with a new size, and with another first cluster if that changes.
+fn resize(b: [u8; 32], moves: bool, first: u32, size: u32) -> [u8; 32]
+    ensures { λ r. ⌜ bytes-of r ≡ resized (bytes-of b) moves first size ⌝ }
+{
+    if moves {
+        let m = sector_build::set(b, 26, 2, first);
+        return sector_build::set(m, 28, 4, size);
+    }
+    sector_build::set(b, 28, 4, size)
+}
+
+// A deleted entry.
+fn mark(b: [u8; 32]) -> [u8; 32]
+    ensures { λ r. ⌜ bytes-of r ≡ mark-deleted (bytes-of b) ⌝ }
+{
+    sector_build::set(b, 0, 1, 0xE5)
+}
+
+// Whether an operation edits a slot in root sector r.
+fn concerns(o: Operation, r: u32) -> bool
+    ensures { λ t. ⌜ t ≡ concerns o r ⌝ }
+{
+    match o {
+        Operation::Create { entry } => entry.slot / 16 == r,
+        Operation::Update {
+            entry,
+            last: _,
+            from: _,
+            size: _,
+        } => entry.slot / 16 == r,
+        Operation::Delete {
+            entry,
+            first: _,
+            size: _,
+        } => entry.slot / 16 == r,
+        Operation::Truncate {
+            entry,
+            first: _,
+            from: _,
+            size: _,
+        } => entry.slot / 16 == r,
+        Operation::Rename {
+            entry,
+            first: _,
+            size: _,
+            to,
+            renamed: _,
+        } => {
+            if entry.slot / 16 == r {
+                return true;
+            }
+            to / 16 == r
+        }
+    }
+}
+
+// The 32 bytes of slot k after the edits of an operation. The slots that they are made of may be edited already.
+fn slot_after(w: &[u8], l: Layout, o: Operation, k: u32) -> [u8; 32]
+    requires { ⌜ Held l (now w) × (k < l .entries) ⌝ }
+    requires { ⌜ Slots (l .entries) o ⌝ }
+    ensures { λ b. ⌜ ((j : ℕ) → j < 32 → getD b j 0 ≡ effect o (slot-at l (card-of (now (w .entry)))) k j) ⌝ }
+{
+    let b = load_slot(w, l, k);
+    match o {
+        Operation::Create { entry } => {
+            if k == entry.slot {
+                return sector_build::new_entry(entry.name);
+            }
+            b
+        }
+        Operation::Update {
+            entry,
+            last,
+            from,
+            size,
+        } => {
+            if k == entry.slot {
+                return resize(b, last == 0, from, size);
+            }
+            b
+        }
+        Operation::Delete {
+            entry,
+            first: _,
+            size: _,
+        } => {
+            if k == entry.slot {
+                return mark(b);
+            }
+            b
+        }
+        Operation::Truncate {
+            entry,
+            first: _,
+            from: _,
+            size,
+        } => {
+            if k == entry.slot {
+                return resize(b, size == 0, 0, size);
+            }
+            b
+        }
+        Operation::Rename {
+            entry,
+            first: _,
+            size: _,
+            to,
+            renamed,
+        } => {
+            if k == entry.slot {
+                return mark(b);
+            }
+            if k == to {
+                return sector_build::set_name(load_slot(w, l, entry.slot), renamed);
+            }
+            b
+        }
+    }
+}
+
+// Root sector r after the edits of an operation.
+fn sector_after(w: &[u8], l: Layout, o: Operation, r: u32) -> [u8; 512]
+    requires { ⌜ Held l (now w) × (r < l .entries / 16) ⌝ }
+    requires { ⌜ Slots (l .entries) o ⌝ }
+    ensures { λ b. ⌜ ((j : ℕ) → j < 512 → getD b j 0 ≡ root-sector (effect o (slot-at l (card-of (now (w .entry))))) r j) ⌝ }
+{
+    let mut buf = [0u8; 512];
+    let mut i = 0;
+    while i < 16 {
+        let b = slot_after(w, l, o, 16 * r + i);
+        let more = sector_build::lay(buf, sector::index(i), b);
+        buf = more;
+        i += 1;
+    }
+    buf
+}
+
+// Root sector r after the edits of an operation is stored, if the operation concerns it.
+fn store_concerned(w: &mut [u8], l: Layout, o: Operation, r: u32, limit: u32) -> Progress
+    requires { ⌜ Held l (now w) × (r < l .entries / 16) ⌝ }
+    requires { ⌜ Slots (l .entries) o ⌝ }
+    ensures { λ p. ⌜ Ran limit (root-turn l o (card-of (now (w .entry))) r) (now (w .entry)) (now (w .exit)) (p .made) (p .whole) ⌝ }
+{
+    if !concerns(o, r) {
+        return Progress {
+            made: 0,
+            whole: true,
+        };
+    }
+    let buf = sector_after(w, l, o, r);
+    sector::store_sector(w, l.root + r, &buf, limit)
+}
+
+// The root sectors that an operation concerns, rising.
+pub fn store_root(w: &mut [u8], l: Layout, o: Operation, limit: u32) -> Progress
+    requires { ⌜ Held l (now w) ⌝ }
+    requires { ⌜ Slots (l .entries) o ⌝ }
+    ensures { λ r. ⌜ Ran limit (root-stores l o (card-of (now (w .entry)))) (now (w .entry)) (now (w .exit)) (r .made) (r .whole) ⌝ }
+{
+    let mut made = 0;
+    let mut r = 0;
+    while r < l.entries / 16 {
+        let p = store_concerned(w, l, o, r, limit - made);
+        made += p.made;
+        if !p.whole {
+            return Progress { made, whole: false };
+        }
+        r += 1;
+    }
+    Progress { made, whole: true }
+}
