@@ -4,17 +4,25 @@ use model::File;
 use model::Layout;
 use model::Name;
 ghost use mathlib.Core.Path.{_≡_};
-ghost use Prim.Native.Nat.{_≤_, _<_};
+ghost use Prim.Native.Nat.{_/_, _≤_, _<_};
 ghost use Rattle.model.specs.Sector.{card-of};
-ghost use Rattle.model.specs.Promises.{Held};
-ghost use Rattle.model.specs.Root.{slot-at, listed, is-directory, bears, find, free-slot, first-bytes, end-slot, root-ok, file-at};
+ghost use Rattle.model.specs.Promises.{Fits, Held};
+ghost use Rattle.model.specs.Root.{root-place, slot-at, listed, is-directory, bears, find, free-slot, first-bytes, end-slot, root-ok, file-at};
+
+// Where root sector r lies on the card.
+pub fn root_place(l: Layout, r: u32) -> u32
+    requires { ⌜ Fits l × (r < l .entries / 16) ⌝ }
+    ensures { λ s. ⌜ (s ≡ root-place l r) × (l .root ≤ s) × (s < l .start) ⌝ }
+{
+    l.root + r
+}
 
 // Byte j of slot k.
-pub fn slot_byte(w: &[u8], l: Layout, k: u32, j: u32) -> u32
+fn slot_byte(w: &[u8], l: Layout, k: u32, j: u32) -> u32
     requires { ⌜ Held l (now w) × (k < l .entries) × (j < 32) ⌝ }
     ensures { λ r. ⌜ (r ≡ slot-at l (card-of (now (w .entry))) k j) × (r < 256) ⌝ }
 {
-    sector::byte(w, l.root + k / 16, 32 * (k % 16) + j)
+    sector::byte(w, root_place(l, k / 16), 32 * (k % 16) + j)
 }
 
 // The lowest slot beginning 0; the number of slots where there is none.
@@ -78,7 +86,7 @@ fn has_name(w: &[u8], l: Layout, k: u32, name: Name) -> bool
     if !is_listed(w, l, k) {
         return false;
     }
-    let own = root_names::name_at(w, l.root + k / 16, 32 * (k % 16));
+    let own = root_names::name_at(w, root_place(l, k / 16), 32 * (k % 16));
     if own.stem != name.stem {
         return false;
     }
@@ -126,7 +134,7 @@ pub fn file_at(w: &[u8], l: Layout, k: u32) -> File
     requires { ⌜ Held l (now w) × (k < l .entries) ⌝ }
     ensures { λ r. ⌜ r ≡ file-at l (card-of (now (w .entry))) k ⌝ }
 {
-    let s = l.root + k / 16;
+    let s = root_place(l, k / 16);
     let j = 32 * (k % 16);
     let name = root_names::name_at(w, s, j);
     let attributes = sector::byte(w, s, j + 11);

@@ -1,6 +1,6 @@
-use Prim.Native.Nat.{_+_, _*_, _/_, _%_}
+use Prim.Native.Nat.{_*_, _/_, _%_}
 use Rattle.model.specs.Sector.{card-of}
-use Rattle.model.specs.Root.{slot-at, entry-at, file-at}
+use Rattle.model.specs.Root.{root-place, slot-at, entry-at, file-at}
 use Rattle.model.proofs.Sectors.{le-part}
 use borrow.Author.Needs.{needs}
 use Rattle.root_read.proofs.file_at.Statement.{statement}
@@ -10,16 +10,16 @@ returns : tie.Need-returns
 unfolding file-at entry-at slot-at
 returns c =
     let a = c .before .before .before .before .before .before .args in
-    let b = card-of (a .w .now)
-    (a .l .root + a .k / 16) in
+    let place = c .before .before .before .before .root-place in
+    let b = card-of (a .w .now) (root-place (a .l) (a .k / 16)) in
     let j = 32 * (a .k % 16) in
     rw (
       le-part 2 b j 26,
       le-part 4 b j 28,
-      c .before .before .before .name-at .ensures,
-      c .before .before .byte .ensures .0,
-      c .before .le16 .ensures .is,
-      c .le32 .ensures .is,
+      rw (place .ensures .0) at (c .before .before .before .name-at .ensures),
+      rw (place .ensures .0) at (c .before .before .byte .ensures .0),
+      rw (place .ensures .0) at (c .before .le16 .ensures .is),
+      rw (place .ensures .0) at (c .le32 .ensures .is),
     )
 
 pub file-at-spec : {M : Type 1} → statement M

@@ -15,10 +15,12 @@ returns-2 : tie.Need-returns-2
 unfolding slot-at
 returns-2 c =
     let a = c .before .before .before .before .before .before .before .before .args in
+    let own = c .before .before .before .name-at in
+    let place = c .before .before .before .before .root-place in
+    let is = sym (c .before .before .before .before .before .before .is-listed .ensures)
+        ∙ not-false _ (c .before .before .before .before .before .if1 .left) in
     rw (
-      bears-by (a .name) (c .before .before .before .name-at .result) (slot-at (a .l) (card-of (a .w .now))
-          (a .k)) (sym (c .before .before .before .before .before .before .is-listed .ensures)
-          ∙ not-false _ (c .before .before .before .before .before .if1 .left)) (c .before .before .before .name-at .ensures),
+      bears-by (a .name) (own .result) (slot-at (a .l) (card-of (a .w .now)) (a .k)) is (rw (place .ensures .0) at (own .ensures)),
       ne-eqb _ _ (c .if2 .taken),
     )
 
@@ -26,11 +28,12 @@ returns-3 : tie.Need-returns-3
 unfolding slot-at
 returns-3 c =
     let a = c .before .before .before .before .before .before .before .before .before .before .args in
+    let own = c .before .before .before .before .before .name-at in
+    let place = c .before .before .before .before .before .before .root-place in
+    let is = sym (c .before .before .before .before .before .before .before .before .is-listed .ensures)
+        ∙ not-false _ (c .before .before .before .before .before .before .before .if1 .left) in
     rw (
-      bears-by (a .name) (c .before .before .before .before .before .name-at .result) (slot-at (a .l) (card-of (a .w .now))
-          (a .k)) (sym (c .before .before .before .before .before .before .before .before .is-listed .ensures)
-          ∙ not-false _ (c .before .before .before .before .before .before .before .if1 .left))
-          (c .before .before .before .before .before .name-at .ensures),
+      bears-by (a .name) (own .result) (slot-at (a .l) (card-of (a .w .now)) (a .k)) is (rw (place .ensures .0) at (own .ensures)),
       eq-eqb _ _ (c .before .before .if2 .left),
     )
 

@@ -5,7 +5,7 @@ use Rattle.root_read.proofs.slot_byte.Tie as tie
 
 returns : tie.Need-returns
 unfolding slot-at
-returns c = (c .byte .ensures .0, c .byte .ensures .1)
+returns c = (rw (c .before .root-place .ensures .0) at (c .byte .ensures .0), c .byte .ensures .1)
 
 pub slot-byte-spec : {M : Type 1} → statement M
 slot-byte-spec =
