@@ -31,7 +31,7 @@ use Rattle.operations.specs.Program.{ending, stores}
 use Rattle.operations.specs.Plan.{clusters-of, last-cluster, added, new-clusters, operate, append-along, append-stores}
 use Rattle.operations.specs.Calls.{append, unless-none}
 use Rattle.fat_read.specs.Located.{holds}
-use Rattle.volume.specs.Ready.{Ready}
+use Rattle.volume.specs.Opened.{Ready}
 use Rattle.volume.proofs.Ready.{ready-run, ready-log}
 use Rattle.file_read.specs.Files.{Proper}
 use Rattle.fat_link.specs.Allocate.{grown}

@@ -18,7 +18,7 @@ ghost use Rattle.model.specs.Promises.{Held, Ran};
 ghost use Rattle.operations.specs.Program.{stores};
 ghost use Rattle.operations.specs.Plan.{clusters-of, last-cluster, added, append-stores};
 ghost use Rattle.operations.specs.Calls.{append};
-ghost use Rattle.volume.specs.Ready.{Ready};
+ghost use Rattle.volume.specs.Opened.{Ready};
 ghost use Rattle.root_lookup.specs.Found.{Proper};
 ghost use Rattle.file_append.specs.Extents.{Room};
 ghost use Rattle.log_steps.specs.Did.{Did};

@@ -19,7 +19,7 @@ ghost use Rattle.model.specs.Ground.{granted};
 ghost use Rattle.operations.specs.Finish.{Slots};
 ghost use Rattle.operations.specs.Plan.{operate, old-fat};
 ghost use Rattle.operations.specs.Calls.{create, rename};
-ghost use Rattle.volume.specs.Ready.{Ready};
+ghost use Rattle.volume.specs.Opened.{Ready};
 ghost use Rattle.log_steps.specs.Did.{Did};
 ghost use Rattle.call_create.specs.Calls.{create-at, create-on, rename-to, rename-as, rename-on};
 

@@ -25,7 +25,7 @@ use Rattle.operations.specs.Finish.{Slots}
 use Rattle.operations.specs.Plan.{recover-stores}
 use Rattle.operations.specs.Calls.{recover}
 use Rattle.operations.proofs.Seats.{told-slots}
-use Rattle.call_recover.specs.Found.{Found}
+use Rattle.volume.specs.Opened.{Legible}
 
 -- ---- RECORD
 
@@ -53,7 +53,7 @@ pub record Redoable (v : Volume) (g : Group) : Type 0 where
   pub few : g .records ≤ 16
 
 -- The group in sector s, which is pending.
-module _ (v : Volume) (xs : List ℕ) (h : Found v xs) (s : ℕ) (held : v .pending ≡ Pending.Held s) where
+module _ (v : Volume) (xs : List ℕ) (h : Legible v xs) (s : ℕ) (held : v .pending ≡ Pending.Held s) where
   abbrev z : ℕ
   z = end-slot (v .layout .entries) (first-bytes (v .layout) (card-of xs))
 

@@ -8,11 +8,11 @@ ghost use Rattle.model.specs.Ground.{granted};
 ghost use Rattle.operations.specs.Plan.{recover-stores};
 ghost use Rattle.operations.specs.Calls.{recover};
 ghost use Rattle.log_steps.specs.Did.{Did};
-ghost use Rattle.call_recover.specs.Found.{Found};
+ghost use Rattle.volume.specs.Opened.{Legible};
 
 // The stores of a recovery, on a card that passes grounds 1 to 6.
 fn recover_on(w: &mut [u8], v: Volume, limit: u32) -> Outcome
-    requires { ⌜ Found v (now w) ⌝ }
+    requires { ⌜ Legible v (now w) ⌝ }
     ensures { λ r. ⌜ Did limit (granted (recover-stores (v .layout) (card-of (now (w .entry))) (v .pending))) (now (w .entry)) (now (w .exit)) r ⌝ }
 {
     let l = v.layout;

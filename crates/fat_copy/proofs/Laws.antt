@@ -1,5 +1,5 @@
 -- Laws of the stores that renew FAT2, sector by sector, and of what they leave alone.
-use Prim.Native.Nat.{ℕ, zero, suc, _+_, _*_, _/_, _%_, _<_, _≤_}
+use Prim.Native.Nat.{ℕ, _+_, _*_, _/_, _%_, _<_, _≤_}
 use native.Mathlib.Omega.{arith}
 use mathlib.Core.Path.{_≡_, refl, sym, ap, _∙_, fun-ext}
 use mathlib.Core.Logic.{⊎-elim}
@@ -18,6 +18,7 @@ use Rattle.model.proofs.Scan.{all-same}
 use Rattle.model.proofs.Overlays.{overlay-none, overlay-more}
 use Rattle.model.proofs.Cards.{store-same, clip-at, Away}
 use Rattle.model.proofs.Runs.{upto-away, ran-away}
+use Rattle.model.proofs.Turns.{upto-same}
 use Rattle.model.proofs.Copies.{write-fat-turns}
 use Rattle.model.proofs.Fats.{entry-same}
 use Rattle.model.proofs.Entries.{set-here, set-local, set-away}
@@ -122,11 +123,6 @@ renewals l new old s = renewal (l .fat2 + s) (new s) (old s)
 pub write-turns : (l : Layout) (new old : Fat) → up-to (renewals l new old) (l .fatsize) ≡ write-fat l (l .fat2) new old
 unfolding renewal
 write-turns l new old = sym (write-fat-turns l (l .fat2) new old)
-
-upto-same : (st ts : ℕ → List Store) (n : ℕ) → ((k : ℕ) → k < n → st k ≡ ts k) → up-to st n ≡ up-to ts n
-unfolding up-to
-upto-same st ts zero h = refl
-upto-same st ts (suc n) h = rw (upto-same st ts n (λ k less. h k (omega arith)), h n (omega arith))
 
 -- A FAT that has the same sectors is written by the same stores.
 pub write-same : (l : Layout) (f g old : Fat) → ((s j : ℕ) → s < l .fatsize → j < 512 → f s j ≡ g s j)

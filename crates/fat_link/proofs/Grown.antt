@@ -17,7 +17,7 @@ use Rattle.model.specs.declared.Layout.{Layout}
 use Rattle.model.proofs.Tests.{less?}
 use Rattle.model.proofs.Scan.{first-same, first-has, indices-same}
 use Rattle.model.proofs.Entries.{link-local}
-use Rattle.model.proofs.Lowest.{indices-first}
+use Rattle.model.proofs.Searches.{indices-first}
 use Rattle.fat_read.specs.Located.{holds}
 use Rattle.fat_copy.specs.Change.{lead, sectors-of}
 use Rattle.fat_copy.proofs.Laws.{own-sector, own-entry, lead-local}

@@ -16,7 +16,7 @@ use Rattle.model.proofs.All.{All, all-take, all-map}
 use Rattle.model.proofs.Scan.{first-has, first-ge, indices-none}
 use Rattle.model.proofs.Indices.{indices-all}
 use Rattle.model.proofs.Entries.{link-local}
-use Rattle.model.proofs.Lowest.{indices-here, indices-first}
+use Rattle.model.proofs.Searches.{indices-here, indices-first}
 use Rattle.fat_read.specs.Located.{holds}
 use Rattle.fat_link.specs.Allocate.{free-from, news, following, Cursor, Above}
 

@@ -28,7 +28,5 @@ pub mod Copies
 pub mod Pieces
 pub mod Turns
 pub mod Entries
-pub mod Lowest
 pub mod Laying
 pub mod Needed
-pub mod Few

@@ -9,10 +9,10 @@ use lib.ListN.{length, getD, set, length-append, List·getD-append, List·getD-e
 use lib.Seq.{getD-set-same, getD-set-other, getD-append-add}
 use borrow.Author.Tests.{lt-ltb, le-ltb, eq-eqb, ne-eqb}
 use Rattle.model.specs.Bytes.{Bytes, overlay, zeros}
-use Rattle.model.specs.Sector.{card-of, clip, store}
+use Rattle.model.specs.Sector.{card-of, clip}
 use Rattle.model.specs.Record.{lay, committed}
 use Rattle.model.proofs.Tests.{same?, less?}
-use Rattle.model.proofs.Cards.{clip-at, clip-clip}
+use Rattle.model.proofs.Cards.{clip-at}
 use Rattle.model.proofs.Overlays.{overlay-in, overlay-below, overlay-above}
 
 -- ---- a sector that was loaded
@@ -20,16 +20,6 @@ use Rattle.model.proofs.Overlays.{overlay-in, overlay-below, overlay-ab
 module _ (xs : List ℕ) (t : ℕ) (b : Bytes) (e : clip b ≡ card-of xs t) where
   pub loaded-at : (j : ℕ) → j < 512 → b j ≡ card-of xs t j
   loaded-at j h = sym (clip-at b j h) ∙ ap (λ (f : Bytes). f j) e
-
-  pub store-loaded : (s : ℕ) → store s b ≡ store s (card-of xs t)
-  store-loaded s = ap (λ (f : Bytes). record { sector = s; bytes = f }) (e ∙ sym (clip-clip (λ j. getD xs (512 * t + j) 0)))
-
--- ---- bytes laid over others
-
--- Runs that agree below m agree there after the same bytes were laid over both.
-pub overlay-agree : (n m at : ℕ) (p b d : Bytes) → ((i : ℕ) → i < m → b i ≡ d i) → (i : ℕ) → i < m → overlay n p at b i ≡ overlay n p at d i
-unfolding overlay
-overlay-agree n m at p b d h i l = rw (h i l)
 
 -- ---- records laid into a sector
 

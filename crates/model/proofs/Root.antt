@@ -1,14 +1,14 @@
 -- Laws of the root directory.
-use Prim.Native.Nat.{ℕ, _+_, _-_, _≤_}
+use Prim.Native.Nat.{ℕ, _+_, _-_}
 use native.Mathlib.Omega.{arith}
 use mathlib.Core.Path.{_≡_, refl, ap, _∙_}
 use mathlib.Core.Bool.{Bool, true, false}
-use Rattle.model.specs.Bytes.{Bytes, pick}
+use Rattle.model.specs.Bytes.{pick}
 use Rattle.model.specs.Scan.{walk, first, all-from}
 use Rattle.model.specs.Sector.{Card}
 use Rattle.model.specs.Root.{slot-at, vacant, lowest-slot, free-run, free-slot}
 use Rattle.model.specs.declared.Layout.{Layout}
-use Rattle.model.proofs.Scan.{first-same, first-le}
+use Rattle.model.proofs.Scan.{first-same}
 
 -- A run of one number.
 pub all-one : (p : ℕ → Bool) (i : ℕ) → all-from p i 1 ≡ p i
@@ -26,7 +26,3 @@ free-slot-is l c =
     let p : ℕ → Bool = λ k. all-from (λ i. vacant (slot-at l c i)) k 1 in
     let e : l .entries + 1 - 1 ≡ l .entries = omega arith in
     ap (first p) e ∙ first-same p (λ k. vacant (slot-at l c k)) 0 (l .entries) (λ k lo hi. all-one (λ i. vacant (slot-at l c i)) k)
-
-pub lowest-le : (l : Layout) (c : Card) (p : Bytes → Bool) → lowest-slot l c p ≤ l .entries
-unfolding lowest-slot
-lowest-le l c p = let h = first-le (λ k. p (slot-at l c k)) 0 (l .entries) in omega arith

@@ -3,7 +3,7 @@ use Prim.Native.Nat.{ℕ, zero, suc, _+_, _-_, _<_, _≤_}
 use native.Mathlib.Nat.{add-zero, zero-add, suc-add}
 use native.Mathlib.Omega.{arith}
 use mathlib.Core.Path.{_≡_, refl, sym, ap, _∙_}
-use mathlib.Core.List.{[], _∷_}
+use mathlib.Core.List.{_∷_}
 use lib.ListN.{length}
 use mathlib.Core.Logic.{⊎-elim}
 use mathlib.Core.Bool.{Bool, true, false, not}
@@ -11,9 +11,8 @@ use lib.Dec.{eqb}
 use borrow.Author.Tests.{ne-eqb}
 use Rattle.model.specs.Bytes.{pick}
 use Rattle.model.specs.Scan.{walk, first-from, all-from, count-from, indices-from}
-use Rattle.model.proofs.Tests.{told, less?}
-use Rattle.model.proofs.Scan.{Sofar, first-before, count-step}
-use Rattle.model.proofs.Indices.{indices-empty}
+use Rattle.model.proofs.Tests.{told, less?, same?}
+use Rattle.model.proofs.Scan.{Sofar, first-before, first-le, first-ge, count-step}
 
 -- All hold where none that fails is counted.
 pub count-fails : (p : ℕ → Bool) (i n : ℕ) → eqb (count-from (λ k. not (p k)) i n) 0 ≡ all-from p i n
@@ -74,35 +73,41 @@ module _ (p : ℕ → Bool) where
           let u : count-from p i n ≡ count-from p i (k - i) + suc (count-from p (k + 1) (i + n - suc k)) = rw (f, g, t) at s in
           omega arith
 
-  pub indices-length : (i n : ℕ) → length (indices-from p i n) ≡ count-from p i n
+  pub indices-count : (i n : ℕ) → length (indices-from p i n) ≡ count-from p i n
   unfolding indices-from count-from walk
-  indices-length i zero = refl
-  indices-length i (suc n) = go (p i) (indices-length (i + 1) n)
+  indices-count i zero = refl
+  indices-count i (suc n) = go (p i) (indices-count (i + 1) n)
     where
       go : (b : Bool) → length (indices-from p (i + 1) n) ≡ count-from p (i + 1) n
           → length (pick b (i ∷ indices-from p (i + 1) n) (indices-from p (i + 1) n)) ≡ pick b (suc (count-from p (i + 1) n)) (count-from p (i + 1) n)
       go true h = ap suc h
       go false h = h
 
--- The numbers that p holds of, from the first one on.
-pub indices-first : (p : ℕ → Bool) (i n : ℕ) → first-from p i n < i + n
-    → indices-from p i n ≡ first-from p i n ∷ indices-from p (first-from p i n + 1) (i + n - (first-from p i n + 1))
-unfolding first-from indices-from walk
-indices-first p i zero h = absurd (omega arith)
-indices-first p i (suc n) h = go (p i) refl (indices-first p (i + 1) n)
-  where
-    go : (b : Bool) → p i ≡ b
-        → (first-from p (i + 1) n < i + 1 + n → indices-from p (i + 1) n ≡ first-from p (i + 1) n ∷ indices-from p (first-from p (i + 1) n + 1)
-        (i + 1 + n - (first-from p (i + 1) n + 1)))
-        → indices-from p i (suc n) ≡ first-from p i (suc n) ∷ indices-from p (first-from p i (suc n) + 1) (i + suc n - (first-from p i (suc n) + 1))
-    go true e f = let z : i + suc n - (i + 1) ≡ n = omega arith in rw (e, z) refl
-    go false e f =
-        let z : i + suc n ≡ i + 1 + n = omega arith in
-        let l : first-from p (i + 1) n < i + 1 + n = rw (e, z) at h in
-        rw (e, z) (f l)
+-- ---- the numbers that a scan gives, from the lowest on
 
-pub indices-last : (p : ℕ → Bool) (i n : ℕ) → first-from p i n ≡ i + n → indices-from p i n ≡ []
-indices-last p i n e = indices-empty p i n (λ k l h. first-before p i n k l (omega (arith, e)))
+module _ (p : ℕ → Bool) where
+  pub indices-here : (i n : ℕ) → 0 < n → p i ≡ true → indices-from p i n ≡ i ∷ indices-from p (i + 1) (n - 1)
+  unfolding indices-from walk
+  indices-here i zero pos e = absurd (omega arith)
+  indices-here i (suc n) pos e = let f : suc n - 1 ≡ n = omega arith in rw (e, f)
+
+  -- Numbers that p does not hold of are passed over.
+  pub indices-over : (i n r : ℕ) → i ≤ r → r ≤ i + n → Sofar p false i r → indices-from p i n ≡ indices-from p r (i + n - r)
+  unfolding indices-from walk
+  indices-over i zero r lo hi none = let f : i + 0 - r ≡ 0 = omega arith in rw f
+  indices-over i (suc n) r lo hi none =
+      ⊎-elim
+      (λ e. let f : suc n ≡ i + suc n - i = omega arith in ap (indices-from p i) f ∙ ap (λ (z : ℕ). indices-from p z (i + suc n - z)) (sym e))
+      (λ ne.
+      let f : i + suc n - r ≡ i + 1 + n - r = omega arith in
+      rw (none i (omega arith) (omega arith), f) (indices-over (i + 1) n r (omega arith) (omega arith) (λ m l h. none m (omega arith) h)))
+      (same? r i)
+
+  -- They begin with the first.
+  pub indices-first : (i n : ℕ) → indices-from p i n ≡ indices-from p (first-from p i n) (i + n - first-from p i n)
+  indices-first i n = indices-over i n (first-from p i n) (first-ge p i n) (first-le p i n) (first-before p i n)
+
+-- ---- a search
 
 -- A search that passes over numbers none of which is counted.
 pub sofar-over : (p : ℕ → Bool) (i k n : ℕ) → Sofar p false i k → count-from p k n ≡ 0 → Sofar p false i (k + n)

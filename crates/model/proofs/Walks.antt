@@ -25,25 +25,6 @@ module _ (e : ℕ → ℕ) where
   chain-here zero k h = absurd (omega arith)
   chain-here (suc n) k h = refl
 
-  pub chain-next : (n k q : ℕ) → 0 < n → 0 < q → getD (chain e n k) q 0 ≡ getD (chain e (n - 1) (e k)) (q - 1) 0
-  unfolding chain
-  chain-next zero k q h g = absurd (omega arith)
-  chain-next (suc n) k zero h g = absurd (omega arith)
-  chain-next (suc n) k (suc q) h g =
-      let a : suc n - 1 ≡ n = omega arith in
-      let b : suc q - 1 ≡ q = omega arith in
-      rw (a, b) refl
-
-  -- Each cluster holds the next.
-  pub chain-step : (n k q : ℕ) → q + 1 < n → getD (chain e n k) (q + 1) 0 ≡ e (getD (chain e n k) q 0)
-  unfolding chain
-  chain-step zero k q h = absurd (omega arith)
-  chain-step (suc zero) k q h = absurd (omega arith)
-  chain-step (suc (suc n)) k zero h = refl
-  chain-step (suc (suc n)) k (suc q) h =
-      let z : suc q + 1 ≡ suc (q + 1) = omega arith in
-      rw z (chain-step (suc n) (e k) q (omega arith))
-
   -- From any of its clusters on, it is the chain of that cluster.
   pub chain-drop : (n k q : ℕ) → q ≤ n → drop q (chain e n k) ≡ chain e (n - q) (getD (chain e n k) q 0)
   unfolding chain
@@ -92,16 +73,6 @@ module _ (l : Layout) (e : ℕ → ℕ) where
   pub ends-last : (k : ℕ) → ends-after l e 1 k ≡ true → is-end (e k) ≡ true
   unfolding ends-after
   ends-last k h = both (in-range l k) (is-end (e k)) h .1
-
-  -- From any of its clusters on it ends.
-  pub ends-drop : (n k q : ℕ) → q < n → ends-after l e n k ≡ true → ends-after l e (n - q) (getD (chain e n k) q 0) ≡ true
-  unfolding chain
-  ends-drop zero k q h t = absurd (omega arith)
-  ends-drop (suc n) k zero h t = let z : suc n - 0 ≡ suc n = omega arith in rw z t
-  ends-drop (suc n) k (suc q) h t =
-      let z : suc n - suc q ≡ n - q = omega arith in
-      let y : suc n - 1 ≡ n = omega arith in
-      rw z (ends-drop n (e k) q (omega arith) (rw y at (ends-next (suc n) k (omega arith) t)))
 
 -- ---- the clusters of a chain that ends are distinct
 

@@ -12,7 +12,7 @@ use Rattle.model.specs.declared.Pending.the-variants as Pending
 use Rattle.model.proofs.Cards.{clip-clip}
 use Rattle.model.proofs.Fats.{agree-at, write-none}
 use Rattle.model.proofs.Volumes.{volume-of, cleaned, fit-run}
-use Rattle.volume.specs.Ready.{Ready}
+use Rattle.volume.specs.Opened.{Ready}
 
 module _ (v : Volume) (xs : List ℕ) (h : Ready v xs) where
   is-volume : volume-of (card-of xs) Pending.Nothing ≡ v

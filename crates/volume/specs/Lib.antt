@@ -1,2 +1,2 @@
 pub mod Examined
-pub mod Ready
+pub mod Opened

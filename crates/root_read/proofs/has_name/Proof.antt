@@ -18,7 +18,7 @@ returns-2 c =
     let own = c .before .before .before .name-at in
     let place = c .before .before .before .before .root-place in
     let is = sym (c .before .before .before .before .before .before .is-listed .ensures)
-        ∙ not-false _ (c .before .before .before .before .before .if1 .left) in
+    ∙ not-false _ (c .before .before .before .before .before .if1 .left) in
     rw (
       bears-by (a .name) (own .result) (slot-at (a .l) (card-of (a .w .now)) (a .k)) is (rw (place .ensures .0) at (own .ensures)),
       ne-eqb _ _ (c .if2 .taken),
@@ -31,7 +31,7 @@ returns-3 c =
     let own = c .before .before .before .before .before .name-at in
     let place = c .before .before .before .before .before .before .root-place in
     let is = sym (c .before .before .before .before .before .before .before .before .is-listed .ensures)
-        ∙ not-false _ (c .before .before .before .before .before .before .before .if1 .left) in
+    ∙ not-false _ (c .before .before .before .before .before .before .before .if1 .left) in
     rw (
       bears-by (a .name) (own .result) (slot-at (a .l) (card-of (a .w .now)) (a .k)) is (rw (place .ensures .0) at (own .ensures)),
       eq-eqb _ _ (c .before .before .if2 .left),
