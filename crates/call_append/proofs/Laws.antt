@@ -20,7 +20,8 @@ use Rattle.model.specs.declared.File.{File}
 use Rattle.model.specs.declared.Volume.{Volume}
 use Rattle.model.specs.declared.Ground.{Ground}
 use Rattle.model.specs.declared.Ground.the-variants as Ground
-use Rattle.model.specs.declared.Operation.{Operation}
+use Rattle.model.specs.Record.{plain}
+use Rattle.model.specs.declared.Change.{Change}
 use Rattle.model.specs.declared.Operation.the-variants.{Update}
 use Rattle.model.proofs.All.{All, all-map}
 use Rattle.model.proofs.Cards.{Away, after-away, after-append}
@@ -138,8 +139,8 @@ module _ (v : Volume) (xs : List ℕ) (f : File) (d : Span) (ready : Ready v xs)
   abbrev fs : List Store
   fs = write-fat (v .layout) (v .layout .fat2) new-fat (fat2-of (v .layout) c)
 
-  abbrev update : Operation
-  update = Update (f .entry) (last-cluster old) (first-of (v .layout) c n) (f .size + d .size)
+  abbrev update : Change
+  update = plain (Update (f .entry) (last-cluster old) (first-of (v .layout) c n) (f .size + d .size))
 
   sh : Shape (v .layout)
   sh = ready .held .fits .shape
@@ -168,7 +169,7 @@ module _ (v : Volume) (xs : List ℕ) (f : File) (d : Span) (ready : Ready v xs)
 
     pub append-ran : Ran limit (chain-stores (v .layout) c f d last count) xs x m true → (from size : ℕ) → from ≡ first-of (v .layout) c count
         → size ≡ f .size + d .size
-        → (y : List ℕ) (k : ℕ) (w : Bool) → Ran (limit - m) (log-steps v (Update (f .entry) last from size) (card-of x)) x y k w
+        → (y : List ℕ) (k : ℕ) (w : Bool) → Ran (limit - m) (log-steps v (plain (Update (f .entry) last from size)) (card-of x)) x y k w
         → Ran limit (stores (append-stores v c f d)) xs y (m + k) w
     append-ran so from size first total y k w next =
         let r : Ran limit (ds ++ fs) xs x m true = rw (end, many) at so in

@@ -98,7 +98,7 @@ fn store_append(
         from,
         size,
     };
-    let q = log_steps::log_steps(w, v, o, limit - m);
+    let q = log_steps::log_steps(w, v, log_steps::plain(o), limit - m);
     Progress {
         made: m + q.made,
         whole: q.whole,

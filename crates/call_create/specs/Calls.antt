@@ -9,6 +9,7 @@ use Rattle.model.specs.Ground.{Answer, granted, _when_, _>>=_, _>>_}
 use Rattle.model.specs.declared.File.{File}
 use Rattle.model.specs.declared.Volume.{Volume}
 use Rattle.model.specs.declared.Ground.the-variants as Ground
+use Rattle.model.specs.Record.{plain}
 use Rattle.model.specs.declared.Operation.the-variants.{Create, Rename}
 use Rattle.operations.specs.Program.{Program}
 use Rattle.operations.specs.Plan.{operate, old-fat}
@@ -17,10 +18,10 @@ use Rattle.root_lookup.specs.Found.{new-slot}
 
 -- The stores, once the new slot is known.
 abbrev pub create-at : Card → Volume → Span → ℕ → Program
-create-at c v n s = operate v c [] (old-fat v c) (Create (record { slot = s; name = name-of n; attributes = 0x20 }))
+create-at c v n s = operate v c [] (old-fat v c) (plain (Create (record { slot = s; name = name-of n; attributes = 0x20 })))
 
 abbrev pub rename-to : Card → Volume → File → Span → ℕ → Program
-rename-to c v f m s = operate v c [] (old-fat v c) (Rename (f .entry) (f .first) (f .size) s (name-of m))
+rename-to c v f m s = operate v c [] (old-fat v c) (plain (Rename (f .entry) (f .first) (f .size) s (name-of m)))
 
 unfoldable pub create-on : Card → Volume → Span → Answer Program
 create-on c v n = do

@@ -1,4 +1,5 @@
 // Create and rename: the calls that change the root directory and neither data nor FATs.
+use model::Change;
 use model::Entry;
 use model::File;
 use model::Ground;
@@ -23,14 +24,14 @@ ghost use Rattle.volume.specs.Opened.{Ready};
 ghost use Rattle.log_steps.specs.Did.{Did};
 ghost use Rattle.call_create.specs.Calls.{create-at, create-on, rename-to, rename-as, rename-on};
 
-// The stores of an operation that needs neither data nor FAT stores.
-fn record_change(w: &mut [u8], v: Volume, o: Operation, limit: u32) -> Outcome
+// The stores of a change that needs neither data nor FAT stores.
+fn record_change(w: &mut [u8], v: Volume, x: Change, limit: u32) -> Outcome
     requires { ⌜ Ready v (now w) ⌝ }
-    requires { ⌜ Slots (v .layout .entries) o ⌝ }
+    requires { ⌜ Slots (v .layout .entries) x ⌝ }
     ensures { λ r. ⌜
-        Did limit (granted (operate v (card-of (now (w .entry))) [] (old-fat v (card-of (now (w .entry)))) o)) (now (w .entry)) (now (w .exit)) r ⌝ }
+        Did limit (granted (operate v (card-of (now (w .entry))) [] (old-fat v (card-of (now (w .entry)))) x)) (now (w .entry)) (now (w .exit)) r ⌝ }
 {
-    log_steps::ended(log_steps::log_steps(w, v, o, limit))
+    log_steps::ended(log_steps::log_steps(w, v, x, limit))
 }
 
 // The stores of a create, once its slot is known.
@@ -44,7 +45,7 @@ fn create_at(w: &mut [u8], v: Volume, name: &[u8], slot: u32, limit: u32) -> Out
         name: root_names::name_of(name),
         attributes: 0x20,
     };
-    record_change(w, v, Operation::Create { entry }, limit)
+    record_change(w, v, log_steps::plain(Operation::Create { entry }), limit)
 }
 
 // Create, on a clean card.
@@ -86,7 +87,7 @@ fn rename_to(w: &mut [u8], v: Volume, f: File, name: &[u8], to: u32, limit: u32)
         to,
         renamed: root_names::name_of(name),
     };
-    record_change(w, v, o, limit)
+    record_change(w, v, log_steps::plain(o), limit)
 }
 
 // Rename of a file, whose new name keeps the name rule.

@@ -10,7 +10,7 @@ use Rattle.model.specs.Bytes.{Bytes}
 use Rattle.model.specs.Sector.{Window, card-of}
 use Rattle.model.specs.Root.{first-bytes, end-slot}
 use Rattle.model.specs.Log.{Log, log-of}
-use Rattle.model.specs.Record.{record-at, operation-of, group-size, group-in}
+use Rattle.model.specs.Record.{record-at, change-of, group-size, group-in}
 use Rattle.model.specs.Pending.{pending, accepted, group-ok, records-ok}
 use Rattle.model.specs.Ground.{refused, granted, _>>=_}
 use Rattle.model.specs.Volume.{examine}
@@ -47,7 +47,7 @@ group-few b = by-pick (λ (m : ℕ). m ≤ 16) (eqb (record-at b 0 .number) 5) 2
 
 -- What redoing a pending group asks for.
 pub record Redoable (v : Volume) (g : Group) : Type 0 where
-  pub slots : Slots (v .layout .entries) (g .operation)
+  pub slots : Slots (v .layout .entries) (g .change)
   pub low : v .layout .start ≤ g .sector
   pub high : g .sector < v .layout .total
   pub few : g .records ≤ 16
@@ -79,7 +79,7 @@ module _ (v : Volume) (xs : List ℕ) (h : Legible v xs) (s : ℕ) (held : v .pe
       let at : b ≡ card-of xs s = ap (card-of xs) (sym (place .2)) in
       let ok = held-ok (v .layout .entries) z (v .log .sectors) (log-of (v .log) (card-of xs)) (place .0) (place .3) in
       record {
-        slots = subst (λ (x : Bytes). Slots (v .layout .entries) (operation-of (record-at x))) at (told-slots (v .layout .entries) z (record-at b)
+        slots = subst (λ (x : Bytes). Slots (v .layout .entries) (change-of (record-at x))) at (told-slots (v .layout .entries) z (record-at b)
             (records-of (v .layout .entries) z b ok));
         low = sector-low;
         high = sector-high;

@@ -12,6 +12,7 @@ use Rattle.model.specs.Chain.{chain, needed, keeps-chain}
 use Rattle.model.specs.Promises.{Fits}
 use Rattle.model.specs.declared.File.{File}
 use Rattle.model.specs.declared.Layout.{Layout}
+use Rattle.model.specs.Record.{plain}
 use Rattle.model.specs.declared.Operation.the-variants.{Delete, Truncate}
 use Rattle.model.specs.declared.Volume.{Volume}
 use Rattle.model.proofs.All.{All, all-map, all-take}
@@ -104,11 +105,11 @@ module _ (l : Layout) (fits : Fits l) (t : Fat) (f : File) (h : keeps-chain l (e
 
 -- A delete frees them all.
 pub delete-is : (v : Volume) (c : Card) (f : File) → delete-stores v c f ≡ operate v c []
-    (cut (old-fat v c) 0 (f .first) (needed (v .layout) (f .size))) (Delete (f .entry) (f .first) (f .size))
+    (cut (old-fat v c) 0 (f .first) (needed (v .layout) (f .size))) (plain (Delete (f .entry) (f .first) (f .size)))
 unfolding delete-stores clusters-of
 delete-is v c f = rw (release-cut (old-fat v c) (f .first) (needed (v .layout) (f .size)))
 
 pub truncate-is : (v : Volume) (c : Card) (f : File) (size : ℕ) (r : Cut) → Parts (v .layout) (old-fat v c) f size r
-    → truncate-stores v c f size ≡ operate v c [] (cut (old-fat v c) (r .kept) (r .from) (r .freed)) (Truncate (f .entry) (f .first) (r .from) size)
+    → truncate-stores v c f size ≡ operate v c [] (cut (old-fat v c) (r .kept) (r .from) (r .freed)) (plain (Truncate (f .entry) (f .first) (r .from) size))
 unfolding truncate-stores truncate-along
 truncate-is v c f size r h = rw (h .fat, ← h .from)

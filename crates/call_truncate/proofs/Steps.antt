@@ -7,7 +7,7 @@ use mathlib.Core.List.{List, [], _++_}
 use Rattle.model.specs.Sector.{Card, card-of, Store, after}
 use Rattle.model.specs.Fat.{Fat, fat2-of, write-fat}
 use Rattle.model.specs.Promises.{Shape, Ran}
-use Rattle.model.specs.declared.Operation.{Operation}
+use Rattle.model.specs.declared.Change.{Change}
 use Rattle.model.specs.declared.Volume.{Volume}
 use Rattle.model.proofs.Cards.{Away, after-away}
 use Rattle.model.proofs.Fats.{write-all}
@@ -18,7 +18,7 @@ use Rattle.fat_read.specs.Located.{Lies}
 use Rattle.log_steps.specs.Steps.{log-steps}
 use Rattle.log_steps.proofs.Laws.{operate-is}
 
-module _ (v : Volume) (f : Fat) (o : Operation) (sh : Shape (v .layout)) (lies : Lies (v .layout) (v .log)) where
+module _ (v : Volume) (f : Fat) (o : Change) (sh : Shape (v .layout)) (lies : Lies (v .layout) (v .log)) where
   abbrev fs : Card → List Store
   fs c = write-fat (v .layout) (v .layout .fat2) f (fat2-of (v .layout) c)
 

@@ -1,4 +1,5 @@
 // Truncate and delete: the calls that free clusters.
+use model::Change;
 use model::File;
 use model::Ground;
 use model::Layout;
@@ -33,13 +34,13 @@ pub struct Cut {
     pub freed: u32,
 }
 
-// The stores of an operation that cuts a chain: FAT2's, then those that its group makes to be done.
-fn shorten(w: &mut [u8], v: Volume, c: Cut, o: Operation, limit: u32) -> Progress
+// The stores of a change that cuts a chain: FAT2's, then those that its group makes to be done.
+fn shorten(w: &mut [u8], v: Volume, c: Cut, x: Change, limit: u32) -> Progress
     requires { ⌜ Held (v .layout) (now w) × Lies (v .layout) (v .log) ⌝ }
     requires { ⌜ Inside (v .layout) (chain (entry (fat1-of (v .layout) (card-of (now w)))) (c .freed) (c .from)) ⌝ }
-    requires { ⌜ Slots (v .layout .entries) o ⌝ }
+    requires { ⌜ Slots (v .layout .entries) x ⌝ }
     ensures { λ r. ⌜
-        Ran limit (stores (operate v (card-of (now (w .entry))) [] (cut (old-fat v (card-of (now (w .entry)))) (c .kept) (c .from) (c .freed)) o))
+        Ran limit (stores (operate v (card-of (now (w .entry))) [] (cut (old-fat v (card-of (now (w .entry)))) (c .kept) (c .from) (c .freed)) x))
         (now (w .entry)) (now (w .exit)) (r .made) (r .whole) ⌝ }
 {
     let l = v.layout;
@@ -51,7 +52,7 @@ fn shorten(w: &mut [u8], v: Volume, c: Cut, o: Operation, limit: u32) -> Progres
             whole: false,
         };
     }
-    let q = log_steps::log_steps(w, v, o, limit - m);
+    let q = log_steps::log_steps(w, v, x, limit - m);
     Progress {
         made: m + q.made,
         whole: q.whole,
@@ -76,7 +77,7 @@ fn delete_file(w: &mut [u8], v: Volume, f: File, limit: u32) -> Progress
         first: f.first,
         size: f.size,
     };
-    shorten(w, v, c, o, limit)
+    shorten(w, v, c, log_steps::plain(o), limit)
 }
 
 // Delete, on a clean card.
@@ -145,7 +146,7 @@ fn truncate_file(w: &mut [u8], v: Volume, f: File, size: u32, limit: u32) -> Pro
         from: c.from,
         size,
     };
-    shorten(w, v, c, o, limit)
+    shorten(w, v, c, log_steps::plain(o), limit)
 }
 
 // LENGTH, and a size that is the present one. Any other fits 32 bits.

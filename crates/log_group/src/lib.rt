@@ -1,4 +1,5 @@
 // The group in a log sector: whether RECORD takes its records, and the operation that they tell of.
+use model::Change;
 use model::Entry;
 use model::Group;
 use model::Operation;
@@ -119,10 +120,12 @@ pub fn group_at(w: &[u8], s: u32) -> Group
     ensures { λ r. ⌜ r ≡ group-in s (card-of (now (w .entry)) s) ⌝ }
 {
     let records = group_size(w, s);
-    let operation = decode(w, s);
+    let change = Change {
+        operation: decode(w, s),
+    };
     Group {
         sector: s,
         records,
-        operation,
+        change,
     }
 }

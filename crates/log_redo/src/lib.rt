@@ -1,7 +1,7 @@
-// Steps 4 to 6: what is left of an operation once its group is on the card.
+// Steps 4 to 6: what is left of a change once its group is on the card.
+use model::Change;
 use model::Group;
 use model::Layout;
-use model::Operation;
 use model::Progress;
 ghost use mathlib.Core.Path.{_≡_};
 ghost use mathlib.Core.List.{[], _∷_};
@@ -40,10 +40,10 @@ pub fn commit(w: &mut [u8], g: Group, limit: u32) -> Progress
 }
 
 // FAT2's sectors into FAT1, then the root sectors.
-pub fn finish(w: &mut [u8], l: Layout, o: Operation, limit: u32) -> Progress
+pub fn finish(w: &mut [u8], l: Layout, x: Change, limit: u32) -> Progress
     requires { ⌜ Held l (now w) ⌝ }
-    requires { ⌜ Slots (l .entries) o ⌝ }
-    ensures { λ r. ⌜ Ran limit (finish l o (card-of (now (w .entry)))) (now (w .entry)) (now (w .exit)) (r .made) (r .whole) ⌝ }
+    requires { ⌜ Slots (l .entries) x ⌝ }
+    ensures { λ r. ⌜ Ran limit (finish l x (card-of (now (w .entry)))) (now (w .entry)) (now (w .exit)) (r .made) (r .whole) ⌝ }
 {
     let fats = fat_copy::to_fat1(w, l, limit);
     let m = fats.made;
@@ -53,22 +53,22 @@ pub fn finish(w: &mut [u8], l: Layout, o: Operation, limit: u32) -> Progress
             whole: false,
         };
     }
-    let root = root_write::store_root(w, l, o, limit - m);
+    let root = root_write::store_root(w, l, x, limit - m);
     Progress {
         made: m + root.made,
         whole: root.whole,
     }
 }
 
-// A group in the data region: its operation finished, then its records committed.
+// A group in the data region: its change finished, then its records committed.
 pub fn redo(w: &mut [u8], l: Layout, g: Group, limit: u32) -> Progress
     requires { ⌜ Held l (now w) ⌝ }
-    requires { ⌜ Slots (l .entries) (g .operation) ⌝ }
+    requires { ⌜ Slots (l .entries) (g .change) ⌝ }
     requires { ⌜ (l .start ≤ g .sector) × (g .sector < l .total) × (g .records ≤ 16) ⌝ }
     ensures { λ r. ⌜ Ran limit (stores (redo l g (card-of (now (w .entry))))) (now (w .entry)) (now (w .exit)) (r .made) (r .whole) ⌝ }
 {
-    let o = g.operation;
-    let p = finish(w, l, o, limit);
+    let x = g.change;
+    let p = finish(w, l, x, limit);
     let m = p.made;
     if !p.whole {
         return Progress {

@@ -14,7 +14,7 @@ use Rattle.model.specs.Promises.{Ran}
 use Rattle.model.specs.declared.Area.{Area}
 use Rattle.model.specs.declared.Layout.{Layout}
 use Rattle.model.specs.declared.Group.{Group}
-use Rattle.model.specs.declared.Operation.{Operation}
+use Rattle.model.specs.declared.Change.{Change}
 use Rattle.model.specs.declared.Volume.{Volume}
 use Rattle.operations.specs.Program.{stores}
 use Rattle.operations.specs.Finish.{redo}
@@ -34,7 +34,7 @@ module _ (a : Area) (g h : Log) (same : (s : ℕ) → s < a .sectors → g s ≡
   unfolding group-sector
   group-sector-same = rw (unused-same (a .sectors) g h same)
 
-module _ (v : Volume) (c : Card) (ds : List Store) (f : Fat) (o : Operation) where
+module _ (v : Volume) (c : Card) (ds : List Store) (f : Fat) (o : Change) where
   abbrev fs : List Store
   fs = write-fat (v .layout) (v .layout .fat2) f (fat2-of (v .layout) c)
 
@@ -68,7 +68,7 @@ module _ (limit : ℕ) (l : Layout) (g : Group) (e x : List ℕ) (m : ℕ) where
       ran-then limit (group-store g ∷ []) e x m so (stores (redo l g (put (card-of e) (group-store g)))) y n w
       (subst (λ (c : Card). Ran (limit - m) (stores (redo l g c)) x y n w) u next)
 
-module _ (limit : ℕ) (v : Volume) (o : Operation) (e x : List ℕ) (m : ℕ) where
+module _ (limit : ℕ) (v : Volume) (o : Change) (e x : List ℕ) (m : ℕ) where
   abbrev cleared : List Store
   cleared = clearing (v .log) (log-of (v .log) (card-of e))
 
@@ -85,7 +85,7 @@ module _ (limit : ℕ) (v : Volume) (o : Operation) (e x : List ℕ) (m : ℕ) w
       (subst (λ (c : Card). Ran (limit - m) (group-steps (v .layout) (new-group (v .log) (card-of e) o) c) x y n w) u next)
 
 -- An operation without data whose FAT is as it is: FAT2 needs no store where the FATs agree.
-pub plain-is : (v : Volume) (c : Card) (o : Operation) → write-fat (v .layout) (v .layout .fat2) (fat1-of (v .layout) c) (fat2-of (v .layout) c) ≡ []
+pub plain-is : (v : Volume) (c : Card) (o : Change) → write-fat (v .layout) (v .layout .fat2) (fat1-of (v .layout) c) (fat2-of (v .layout) c) ≡ []
     → stores (operate v c [] (fat1-of (v .layout) c) o) ≡ log-steps v o c
 unfolding after
 plain-is v c o none =

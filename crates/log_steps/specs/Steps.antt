@@ -4,7 +4,7 @@ use Rattle.model.specs.Sector.{Card, Store, put, after}
 use Rattle.model.specs.Log.{log-of}
 use Rattle.model.specs.declared.Layout.{Layout}
 use Rattle.model.specs.declared.Group.{Group}
-use Rattle.model.specs.declared.Operation.{Operation}
+use Rattle.model.specs.declared.Change.{Change}
 use Rattle.model.specs.declared.Volume.{Volume}
 use Rattle.operations.specs.Program.{stores}
 use Rattle.operations.specs.Finish.{redo}
@@ -15,7 +15,7 @@ unfoldable pub group-steps : Layout → Group → Card → List Store
 group-steps l g c = group-store g ∷ stores (redo l g (put c (group-store g)))
 
 -- The log is cleared, if needed, before.
-unfoldable pub log-steps : Volume → Operation → Card → List Store
+unfoldable pub log-steps : Volume → Change → Card → List Store
 log-steps v o c =
     clearing (v .log) (log-of (v .log) c)
     ++ group-steps (v .layout) (new-group (v .log) c o) (after (clearing (v .log) (log-of (v .log) c)) c)

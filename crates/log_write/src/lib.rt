@@ -1,5 +1,6 @@
-// Step 3: the log cleared if it is full, and the group of an operation stored.
+// Step 3: the log cleared if it is full, and the group of a change stored.
 use model::Area;
+use model::Change;
 use model::Entry;
 use model::Group;
 use model::Operation;
@@ -121,10 +122,11 @@ fn record_about(e: Entry, number: u32, cluster: u32, from: u32, size: u32) -> Re
     }
 }
 
-// How many records the group of an operation has.
-pub fn records_of(o: Operation) -> u32
-    ensures { λ r. ⌜ (r ≡ length (records o)) × (r ≤ 16) ⌝ }
+// How many records the group of a change has.
+pub fn records_of(x: Change) -> u32
+    ensures { λ r. ⌜ (r ≡ length (records x)) × (r ≤ 16) ⌝ }
 {
+    let o = x.operation;
     match o {
         Operation::Create { entry: _ } => 1,
         Operation::Update {
@@ -154,11 +156,12 @@ pub fn records_of(o: Operation) -> u32
     }
 }
 
-// Record k of the group of an operation.
-fn record_of(o: Operation, k: u32) -> Record
-    requires { ⌜ k < length (records o) ⌝ }
-    ensures { λ r. ⌜ r ≡ getD (records o) k (record-in zeros) ⌝ }
+// Record k of the group of a change.
+fn record_of(x: Change, k: u32) -> Record
+    requires { ⌜ k < length (records x) ⌝ }
+    ensures { λ r. ⌜ r ≡ getD (records x) k (record-in zeros) ⌝ }
 {
+    let o = x.operation;
     match o {
         Operation::Create { entry } => record_about(entry, 1, 0, 0, 0),
         Operation::Update {
@@ -194,15 +197,15 @@ fn record_of(o: Operation, k: u32) -> Record
     }
 }
 
-// The group of an operation, as its log sector: its records from record 0 on, the rest zero.
-pub fn encode_group(o: Operation) -> [u8; 512]
-    ensures { λ r. ⌜ bytes-of r ≡ encode o ⌝ }
+// The group of a change, as its log sector: its records from record 0 on, the rest zero.
+pub fn encode_group(x: Change) -> [u8; 512]
+    ensures { λ r. ⌜ bytes-of r ≡ encode x ⌝ }
 {
-    let n = records_of(o);
+    let n = records_of(x);
     let mut buf = [0u8; 512];
     let mut k = 0;
     while k < n {
-        let b = record_bytes(record_of(o, k));
+        let b = record_bytes(record_of(x, k));
         let more = sector_build::lay(buf, sector::index(k), b);
         buf = more;
         k += 1;
@@ -215,7 +218,7 @@ pub fn store_group(w: &mut [u8], g: Group, limit: u32) -> Progress
     requires { ⌜ 512 * g .sector + 512 ≤ length (now w) ⌝ }
     ensures { λ r. ⌜ Ran limit (group-store g ∷ []) (now (w .entry)) (now (w .exit)) (r .made) (r .whole) ⌝ }
 {
-    let o = g.operation;
-    let buf = encode_group(o);
+    let x = g.change;
+    let buf = encode_group(x);
     sector::store_sector(w, g.sector, &buf, limit)
 }

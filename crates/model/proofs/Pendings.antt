@@ -12,7 +12,8 @@ use Rattle.model.specs.Bytes.{Bytes, zeros, pick, byte-of, overlay}
 use Rattle.model.specs.Scan.{every, first, between}
 use Rattle.model.specs.Sector.{clip}
 use Rattle.model.specs.Log.{Log}
-use Rattle.model.specs.Record.{pends, tells, committed, record-bytes, record-of, encode, lay, records, group-size, record-at, operation-of, group-in}
+use Rattle.model.specs.Record.{pends, tells, committed, record-bytes, record-of, encode, lay, operation-records, records, plain, group-size, record-at}
+use Rattle.model.specs.Record.{change-of, group-in}
 use Rattle.model.specs.Pending.{pending-in, first-pending, pending-at, accepted, slot-ok, record-ok, pair-ok, alike, records-ok, empty-from, group-ok}
 use Rattle.model.specs.Pending.{alone}
 use Rattle.model.specs.declared.Area.{Area}
@@ -20,6 +21,7 @@ use Rattle.model.specs.declared.Name.{Name}
 use Rattle.model.specs.declared.Entry.{Entry}
 use Rattle.model.specs.declared.Record.{Record}
 use Rattle.model.specs.declared.Group.{Group}
+use Rattle.model.specs.declared.Change.{Change}
 use Rattle.model.specs.declared.Operation.{Operation}
 use Rattle.model.specs.declared.Pending.{Pending}
 use Rattle.model.specs.declared.Operation.the-variants.{Create, Update, Delete, Truncate, Rename}
@@ -27,7 +29,7 @@ use Rattle.model.proofs.Tests.{clash, less?, told, each-every, every-at
 use Rattle.model.proofs.Scan.{first-before0, first-above0, all-same, all-of, first-is0, all-of0}
 use Rattle.model.proofs.All.{All}
 use Rattle.model.proofs.Cards.{clip-at}
-use Rattle.model.proofs.Records.{Fits, listed, few-records, encode-back, operation-back, size-back, encode-after}
+use Rattle.model.proofs.Records.{Fits, listed, few-records, encode-back, change-back, size-back, encode-after}
 use Rattle.model.specs.declared.Pending.the-variants as Pending
 
 -- A record that begins so is pending, a slot that begins so is live.
@@ -124,8 +126,8 @@ module _ (entries z : ℕ) (a : Area) (g : Log) where
 
 -- ---- a group
 
--- What RECORD asks of an operation's records, for n root entries and z the lowest slot beginning 0, and that those after the first are pending.
-abbrev pub Recorded : ℕ → ℕ → Operation → Type 0
+-- What RECORD asks of a change's records, for n root entries and z the lowest slot beginning 0, and that those after the first are pending.
+abbrev pub Recorded : ℕ → ℕ → Change → Type 0
 Recorded n z o = (records-ok n z (listed (records o)) ≡ true) × All (λ r. starts (byte-of (r .name .stem) 0) ≡ true) (drop 1 (records o))
 
 -- A slot of n that is not above z.
@@ -177,7 +179,7 @@ module _ (n z : ℕ) (rs : ℕ → Record) (h : records-ok n z rs ≡ true) wher
           let k = pair-is e in
           or-right (eqb (group-size rs) 1) _ (each-every _ (every-at _ k 0 also slot-up n z y (rs 1 .slot) le (every-at _ k 1) also every-at _ k 2 also tt))
 
-pub recorded-up : (n z y : ℕ) (o : Operation) → z ≤ y → Recorded n z o → Recorded n y o
+pub recorded-up : (n z y : ℕ) (o : Change) → z ≤ y → Recorded n z o → Recorded n y o
 recorded-up n z y o le w = (records-up n z (listed (records o)) (w .0) y le, w .1)
 
 -- What each operation supplies.
@@ -187,26 +189,26 @@ unfolding record-ok record-of
 record-fine n z e number k from size op small seat =
     each-every _ (op also refl also refl also refl also lt-ltb from 65536 small also slot-read n z (e .slot) seat also tt)
 
-pub recorded-create : (n z : ℕ) (e : Entry) → Seat n z (e .slot) → Recorded n z (Create e)
-unfolding records-ok records record-of group-size between
+pub recorded-create : (n z : ℕ) (e : Entry) → Seat n z (e .slot) → Recorded n z (plain (Create e))
+unfolding records-ok records operation-records record-of group-size between
 recorded-create n z e w = (each-every _ (record-fine n z e 1 0 0 0 refl (omega arith) w also refl also tt), tt)
 
-pub recorded-update : (n z : ℕ) (e : Entry) (last from size : ℕ) → Seat n z (e .slot) → from < 65536 → Recorded n z (Update e last from size)
-unfolding records-ok records record-of group-size between
+pub recorded-update : (n z : ℕ) (e : Entry) (last from size : ℕ) → Seat n z (e .slot) → from < 65536 → Recorded n z (plain (Update e last from size))
+unfolding records-ok records operation-records record-of group-size between
 recorded-update n z e last from size w f = (each-every _ (record-fine n z e 2 last from size refl f w also refl also tt), tt)
 
-pub recorded-delete : (n z : ℕ) (e : Entry) (k size : ℕ) → Seat n z (e .slot) → Recorded n z (Delete e k size)
-unfolding records-ok records record-of group-size between
+pub recorded-delete : (n z : ℕ) (e : Entry) (k size : ℕ) → Seat n z (e .slot) → Recorded n z (plain (Delete e k size))
+unfolding records-ok records operation-records record-of group-size between
 recorded-delete n z e k size w = (each-every _ (record-fine n z e 3 k 0 size refl (omega arith) w also refl also tt), tt)
 
-pub recorded-truncate : (n z : ℕ) (e : Entry) (k from size : ℕ) → Seat n z (e .slot) → from < 65536 → Recorded n z (Truncate e k from size)
-unfolding records-ok records record-of group-size between
+pub recorded-truncate : (n z : ℕ) (e : Entry) (k from size : ℕ) → Seat n z (e .slot) → from < 65536 → Recorded n z (plain (Truncate e k from size))
+unfolding records-ok records operation-records record-of group-size between
 recorded-truncate n z e k from size w f = (each-every _ (record-fine n z e 4 k from size refl f w also refl also tt), tt)
 
 pub recorded-rename : (n z : ℕ) (e : Entry) (k size to : ℕ) (renamed : Name) → Seat n z (e .slot) → Seat n z to → (e .slot ≡ to → ⊥)
     → starts (byte-of (renamed .stem) 0) ≡ true
-    → Recorded n z (Rename e k size to renamed)
-unfolding records-ok records record-of group-size between pair-ok alike
+    → Recorded n z (plain (Rename e k size to renamed))
+unfolding records-ok records operation-records record-of group-size between pair-ok alike
 recorded-rename n z e k size to renamed w v ne live =
     let same = each-every _ (eq-eqb (e .attributes) (e .attributes) refl also refl also refl also refl also refl also eq-eqb k k refl also eq-eqb size
     size refl also tt) in (
@@ -225,7 +227,7 @@ unfolding empty-from
 empty-clip i b = all-same (λ j. eqb (clip b j) 0) (λ j. eqb (b j) 0) i (512 - i) (λ j lo hi. ap (λ v. eqb v 0) (clip-at b j (omega arith)))
 
 -- The first byte of a record is its name's.
-pends-record : (o : Operation) (k : ℕ) → k < length (records o) → pends (encode o) k ≡ starts (byte-of (listed (records o) k .name .stem) 0)
+pends-record : (o : Change) (k : ℕ) → k < length (records o) → pends (encode o) k ≡ starts (byte-of (listed (records o) k .name .stem) 0)
 unfolding encode lay
 pends-record o k less =
     let row : 32 * k / 32 ≡ k = omega arith in
@@ -237,16 +239,20 @@ pends-record o k less =
     first-byte (r ∷ rs) zero less = record-first r
     first-byte (r ∷ rs) (suc k) less = first-byte rs k (omega arith)
 
-abbrev pub Named : Operation → Type 0
+abbrev pub Named : Change → Type 0
 Named o = starts (byte-of (listed (records o) 0 .name .stem) 0) ≡ true
 
-some-record : (o : Operation) → 0 < length (records o)
+some-of : (o : Operation) → 0 < length (operation-records o)
+unfolding operation-records
+some-of (Create e) = omega arith
+some-of (Update e last from size) = omega arith
+some-of (Delete e k size) = omega arith
+some-of (Truncate e k from size) = omega arith
+some-of (Rename e k size to renamed) = omega arith
+
+some-record : (o : Change) → 0 < length (records o)
 unfolding records
-some-record (Create e) = omega arith
-some-record (Update e last from size) = omega arith
-some-record (Delete e k size) = omega arith
-some-record (Truncate e k from size) = omega arith
-some-record (Rename e k size to renamed) = omega arith
+some-record o = some-of (o .operation)
 
 -- All records of a group are pending.
 later-starts : (rs : List Record) (k : ℕ) → 1 ≤ k → k < length rs → All (λ r. starts (byte-of (r .name .stem) 0) ≡ true) (drop 1 rs)
@@ -261,7 +267,7 @@ later-starts (r ∷ rs) (suc k) lo less a = go rs k (omega arith) a
     go (r ∷ rs) zero less a = a .0
     go (r ∷ rs) (suc k) less a = go rs k (omega arith) (a .1)
 
-record-pends : (n z : ℕ) (o : Operation) → Named o → Recorded n z o → (k : ℕ) → k < length (records o) → pends (clip (encode o)) k ≡ true
+record-pends : (n z : ℕ) (o : Change) → Named o → Recorded n z o → (k : ℕ) → k < length (records o) → pends (clip (encode o)) k ≡ true
 record-pends n z o named w k less =
     pends-starts (clip (encode o)) k ∙ ap starts (clip-at (encode o) (32 * k) (omega (arith, few-records o))) ∙ sym (pends-starts (encode o) k)
     ∙ pends-record o k less ∙ go (same? k 0)
@@ -271,13 +277,13 @@ record-pends n z o named w k less =
     go (inr ne) = later-starts (records o) k (omega arith) less (w .1)
 
 -- The records of a sector that was stored.
-clip-size : (o : Operation) → Fits o → group-size (record-at (clip (encode o))) ≡ length (records o)
+clip-size : (o : Change) → Fits o → group-size (record-at (clip (encode o))) ≡ length (records o)
 clip-size o h = ap group-size (encode-back o h) ∙ size-back o
 
-clip-ok : (n z : ℕ) (o : Operation) → Fits o → records-ok n z (record-at (clip (encode o))) ≡ records-ok n z (listed (records o))
+clip-ok : (n z : ℕ) (o : Change) → Fits o → records-ok n z (record-at (clip (encode o))) ≡ records-ok n z (listed (records o))
 clip-ok n z o h = ap (records-ok n z) (encode-back o h)
 
-group-fine : (n z : ℕ) (o : Operation) → Fits o → Named o → Recorded n z o → group-ok n z (clip (encode o)) ≡ true
+group-fine : (n z : ℕ) (o : Change) → Fits o → Named o → Recorded n z o → group-ok n z (clip (encode o)) ≡ true
 unfolding group-ok empty-from
 group-fine n z o h named w =
     rw (clip-size o h)
@@ -287,29 +293,29 @@ group-fine n z o h named w =
     ∙ all-of (λ j. eqb (encode o j) 0) (32 * length (records o)) (512 - 32 * length (records o)) (λ j lo hi. eq-eqb (encode o j) 0 (encode-after o j lo))
     also tt))
 
-named-pends : (o : Operation) → Named o → pends (clip (encode o)) 0 ≡ true
+named-pends : (o : Change) → Named o → pends (clip (encode o)) 0 ≡ true
 named-pends o h = pends-starts (clip (encode o)) 0 ∙ sym (pends-starts (encode o) 0) ∙ pends-record o 0 (some-record o) ∙ h
 
--- The group of an operation, in a sector.
-abbrev pub group-of : ℕ → Operation → Group
-group-of s o = record { sector = s; records = length (records o); operation = o }
+-- The group of a change, in a sector.
+abbrev pub group-of : ℕ → Change → Group
+group-of s o = record { sector = s; records = length (records o); change = o }
 
-pub group-read : (s : ℕ) (o : Operation) → Fits o → group-in s (clip (encode o)) ≡ group-of s o
+pub group-read : (s : ℕ) (o : Change) → Fits o → group-in s (clip (encode o)) ≡ group-of s o
 unfolding group-in
-group-read s o h = λ i. record { sector = s; records = clip-size o h i; operation = (ap operation-of (encode-back o h) ∙ operation-back o) i }
+group-read s o h = λ i. record { sector = s; records = clip-size o h i; change = (ap change-of (encode-back o h) ∙ change-back o) i }
 
--- The group of operation o stands in log sector u, and no record of the others is pending.
-pub record Stored (n : ℕ) (g : Log) (u : ℕ) (o : Operation) : Type 0 where
+-- The group of change o stands in log sector u, and no record of the others is pending.
+pub record Stored (n : ℕ) (g : Log) (u : ℕ) (o : Change) : Type 0 where
   pub in-log : u < n
   pub bytes : g u ≡ clip (encode o)
   pub others : (i : ℕ) → i < n → (i ≡ u → ⊥) → Quiet (g i)
 
 -- Past its records a group's sector tells nothing.
-pub rest-quiet : (o : Operation) (r : ℕ) → length (records o) ≤ r → r < 16 → pends (clip (encode o)) r ≡ false
+pub rest-quiet : (o : Change) (r : ℕ) → length (records o) ≤ r → r < 16 → pends (clip (encode o)) r ≡ false
 rest-quiet o r le less = pends-starts (clip (encode o)) r
     ∙ ap (λ v. starts v) (clip-at (encode o) (32 * r) (omega arith) ∙ encode-after o (32 * r) (omega arith))
 
-module _ (entries z : ℕ) (a : Area) (g : Log) (u : ℕ) (o : Operation) (h : Stored (a .sectors) g u o)
+module _ (entries z : ℕ) (a : Area) (g : Log) (u : ℕ) (o : Change) (h : Stored (a .sectors) g u o)
     (named : Named o) (fits : Fits o) (fine : Recorded entries z o) where
   at-sector : (k : ℕ) → k / 16 ≡ u → pending-at g k ≡ pends (clip (encode o)) (k % 16)
   at-sector k e = ap (λ (b : Bytes). pends b (k % 16)) (ap g e ∙ h .bytes)

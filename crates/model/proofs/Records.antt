@@ -8,10 +8,12 @@ use mathlib.Core.List.{List, [], _∷_, map}
 use lib.ListN.{length, getD, length-map, List·getD-eq-default}
 use Rattle.model.specs.Bytes.{Bytes, le, overlay, byte-of, part, patch, zeros}
 use Rattle.model.specs.Sector.{clip}
-use Rattle.model.specs.Record.{record-bytes, record-in, record-of, records, lay, encode, record-at, operation-of, group-size}
+use Rattle.model.specs.Record.{record-bytes, record-in, record-of, operation-records, records, plain, lay, encode, record-at, operation-of, change-of}
+use Rattle.model.specs.Record.{group-size}
 use Rattle.model.specs.declared.Name.{Name}
 use Rattle.model.specs.declared.Entry.{Entry}
 use Rattle.model.specs.declared.Record.{Record}
+use Rattle.model.specs.declared.Change.{Change}
 use Rattle.model.specs.declared.Operation.{Operation}
 use Rattle.model.specs.declared.Operation.the-variants.{Create, Update, Delete, Truncate, Rename}
 use borrow.Author.Tests.{lt-ltb, le-ltb}
@@ -41,7 +43,7 @@ pub record RecordFits (r : Record) : Type 0 where
   pub cluster : r .cluster < 256 ^ 2
   pub size : r .size < 256 ^ 4
 
-abbrev pub Fits : Operation → Type 0
+abbrev pub Fits : Change → Type 0
 Fits o = All RecordFits (records o)
 
 -- A record about an entry.
@@ -62,25 +64,26 @@ entry-record e number cluster from size n h c f s = record {
 }
 
 -- What each operation supplies.
-pub fits-create : (e : Entry) → EntryFits e → Fits (Create e)
-unfolding records
+pub fits-create : (e : Entry) → EntryFits e → Fits (plain (Create e))
+unfolding records operation-records
 fits-create e h = (entry-record e 1 0 0 0 (omega arith) h (omega arith) (omega arith) (omega arith), tt)
 
-pub fits-update : (e : Entry) (last from size : ℕ) → EntryFits e → last < 256 ^ 2 → from < 256 ^ 4 → size < 256 ^ 4 → Fits (Update e last from size)
-unfolding records
+pub fits-update : (e : Entry) (last from size : ℕ) → EntryFits e → last < 256 ^ 2 → from < 256 ^ 4 → size < 256 ^ 4 → Fits (plain (Update e last from size))
+unfolding records operation-records
 fits-update e last from size h c f s = (entry-record e 2 last from size (omega arith) h c f s, tt)
 
-pub fits-delete : (e : Entry) (first size : ℕ) → EntryFits e → first < 256 ^ 2 → size < 256 ^ 4 → Fits (Delete e first size)
-unfolding records
+pub fits-delete : (e : Entry) (first size : ℕ) → EntryFits e → first < 256 ^ 2 → size < 256 ^ 4 → Fits (plain (Delete e first size))
+unfolding records operation-records
 fits-delete e first size h c s = (entry-record e 3 first 0 size (omega arith) h c (omega arith) s, tt)
 
-pub fits-truncate : (e : Entry) (first from size : ℕ) → EntryFits e → first < 256 ^ 2 → from < 256 ^ 4 → size < 256 ^ 4 → Fits (Truncate e first from size)
-unfolding records
+pub fits-truncate : (e : Entry) (first from size : ℕ) → EntryFits e → first < 256 ^ 2 → from < 256 ^ 4 → size < 256 ^ 4
+    → Fits (plain (Truncate e first from size))
+unfolding records operation-records
 fits-truncate e first from size h c f s = (entry-record e 4 first from size (omega arith) h c f s, tt)
 
 pub fits-rename : (e : Entry) (first size to : ℕ) (renamed : Name) → EntryFits e → first < 256 ^ 2 → size < 256 ^ 4 → to < 256 ^ 2 → NameFits renamed
-    → Fits (Rename e first size to renamed)
-unfolding records
+    → Fits (plain (Rename e first size to renamed))
+unfolding records operation-records
 fits-rename e first size to renamed h c s t n = (
   entry-record e 5 first 0 size (omega arith) h c (omega arith) s,
   (
@@ -167,40 +170,52 @@ records-back rs few h k = go (less? k 16)
         λ i. getD (map record-bytes rs) (row i) zeros (col i))
         ∙ one-back rs h k)
 
-pub few-records : (o : Operation) → length (records o) ≤ 16
-unfolding records
-few-records (Create e) = omega arith
-few-records (Update e last from size) = omega arith
-few-records (Delete e k size) = omega arith
-few-records (Truncate e k from size) = omega arith
-few-records (Rename e k size to renamed) = omega arith
+few-of : (o : Operation) → length (operation-records o) ≤ 16
+unfolding operation-records
+few-of (Create e) = omega arith
+few-of (Update e last from size) = omega arith
+few-of (Delete e k size) = omega arith
+few-of (Truncate e k from size) = omega arith
+few-of (Rename e k size to renamed) = omega arith
 
-pub encode-back : (o : Operation) → Fits o → record-at (clip (encode o)) ≡ listed (records o)
+pub few-records : (o : Change) → length (records o) ≤ 16
+unfolding records
+few-records o = few-of (o .operation)
+
+pub encode-back : (o : Change) → Fits o → record-at (clip (encode o)) ≡ listed (records o)
 unfolding encode
 encode-back o h = fun-ext (λ k. records-back (records o) (few-records o) h k)
 
--- The records of an operation tell of it, and are as many as a group of it has.
-pub operation-back : (o : Operation) → operation-of (listed (records o)) ≡ o
-unfolding operation-of records record-of
+-- The records of a change tell of it, and are as many as a group of it has.
+operation-back : (o : Operation) → operation-of (listed (operation-records o)) ≡ o
+unfolding operation-of operation-records record-of
 operation-back (Create e) = refl
 operation-back (Update e last from size) = refl
 operation-back (Delete e first size) = refl
 operation-back (Truncate e first from size) = refl
 operation-back (Rename e first size to renamed) = refl
 
-pub size-back : (o : Operation) → group-size (listed (records o)) ≡ length (records o)
-unfolding group-size records record-of
-size-back (Create e) = refl
-size-back (Update e last from size) = refl
-size-back (Delete e first size) = refl
-size-back (Truncate e first from size) = refl
-size-back (Rename e first size to renamed) = refl
+pub change-back : (o : Change) → change-of (listed (records o)) ≡ o
+unfolding change-of records
+change-back o = λ i. plain (operation-back (o .operation) i)
+
+size-of : (o : Operation) → group-size (listed (operation-records o)) ≡ length (operation-records o)
+unfolding group-size operation-records record-of
+size-of (Create e) = refl
+size-of (Update e last from size) = refl
+size-of (Delete e first size) = refl
+size-of (Truncate e first from size) = refl
+size-of (Rename e first size to renamed) = refl
+
+pub size-back : (o : Change) → group-size (listed (records o)) ≡ length (records o)
+unfolding records
+size-back o = size-of (o .operation)
 
 -- After the records their sector is zero.
 pub zero-after : (rs : List Bytes) (j : ℕ) → 32 * length rs ≤ j → lay rs j ≡ 0
 unfolding lay
 zero-after rs j h = ap (λ (b : Bytes). b (j % 32)) (List·getD-eq-default rs zeros {n = j / 32} (omega arith))
 
-pub encode-after : (o : Operation) (j : ℕ) → 32 * length (records o) ≤ j → encode o j ≡ 0
+pub encode-after : (o : Change) (j : ℕ) → 32 * length (records o) ≤ j → encode o j ≡ 0
 unfolding encode
 encode-after o j h = zero-after (map record-bytes (records o)) j (omega (arith, length-map (records o) record-bytes))

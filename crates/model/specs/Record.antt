@@ -9,6 +9,7 @@ use Rattle.model.specs.Sector.{Card, Store, store}
 use Rattle.model.specs.Root.{name-in, attributes}
 use Rattle.model.specs.declared.Entry.{Entry}
 use Rattle.model.specs.declared.Record.{Record}
+use Rattle.model.specs.declared.Change.{Change}
 use Rattle.model.specs.declared.Group.{Group}
 use Rattle.model.specs.declared.Operation.{Operation}
 use Rattle.model.specs.declared.Operation.the-variants.{Create, Update, Delete, Truncate, Rename}
@@ -86,21 +87,28 @@ record-of e number cluster from size = record {
 -- "Operations: 1 create, 2 update, 3 delete, 4 truncate, 5 rename, 0 part of the record before." "First/last: create 0; update,
 -- the last cluster before; others, the first cluster." "DIR_Cluster: update and truncate; others 0." "Size: 0 for create."
 -- "Rename's record 1 is record 0 with the new name, operation 0 and the new slot."
-unfoldable pub records : Operation → List Record
-records (Create e) = record-of e 1 0 0 0 ∷ []
-records (Update e last from size) = record-of e 2 last from size ∷ []
-records (Delete e first size) = record-of e 3 first 0 size ∷ []
-records (Truncate e first from size) = record-of e 4 first from size ∷ []
-records (Rename e first size to renamed) =
+unfoldable pub operation-records : Operation → List Record
+operation-records (Create e) = record-of e 1 0 0 0 ∷ []
+operation-records (Update e last from size) = record-of e 2 last from size ∷ []
+operation-records (Delete e first size) = record-of e 3 first 0 size ∷ []
+operation-records (Truncate e first from size) = record-of e 4 first from size ∷ []
+operation-records (Rename e first size to renamed) =
     record-of e 5 first 0 size
     ∷ record-of (record { slot = to; name = renamed; attributes = e .attributes }) 0 first 0 size ∷ []
+
+unfoldable pub records : Change → List Record
+records x = operation-records (x .operation)
+
+-- A change that is told by its operation alone.
+abbrev pub plain : Operation → Change
+plain o = record { operation = o }
 
 -- Records from record 0 of a sector on; "the rest of the sector is zero".
 unfoldable pub lay : List Bytes → Bytes
 lay rs j = getD rs (j / 32) zeros (j % 32)
 
-unfoldable pub encode : Operation → Bytes
-encode o = lay (map record-bytes (records o))
+unfoldable pub encode : Change → Bytes
+encode x = lay (map record-bytes (records x))
 
 -- Record k of a sector, which has 16, and no record but zeros after them; the entry that a record is about.
 abbrev pub record-at : Bytes → ℕ → Record
@@ -120,13 +128,17 @@ operation-of rs =
     (pick (eqb (r .number) 4) (Truncate e (r .cluster) (r .from) (r .size))
     (Rename e (r .cluster) (r .size) (rs 1 .slot) (rs 1 .name)))))
 
+-- The change that they tell.
+unfoldable pub change-of : (ℕ → Record) → Change
+change-of rs = plain (operation-of rs)
+
 -- How many records the group in a sector has: "record 0 of a sector, with record 1 for a rename".
 unfoldable pub group-size : (ℕ → Record) → ℕ
 group-size rs = pick (eqb (rs 0 .number) 5) 2 1
 
 -- The group in a log sector.
 unfoldable pub group-in : ℕ → Bytes → Group
-group-in s b = record { sector = s; records = group-size (record-at b); operation = operation-of (record-at b) }
+group-in s b = record { sector = s; records = group-size (record-at b); change = change-of (record-at b) }
 
 -- "First byte 0 is an unused record, 0xE5 a committed one, anything else pending." Record r of a sector tells something; it is
 -- pending.

@@ -110,12 +110,17 @@ pub struct Record {
     pub size: u32,
 }
 
+// What a group of records tells: the operation. An array that an operation needs stands here, beside the enum.
+pub struct Change {
+    pub operation: Operation,
+}
+
 // A group of log records, and so the plan of what recovery redoes: the log sector that it stands in, how many records it
-// has, and the operation.
+// has, and what they tell.
 pub struct Group {
     pub sector: u32,
     pub records: u32,
-    pub operation: Operation,
+    pub change: Change,
 }
 
 // What is pending in the log: nothing, records that are no group, or the group in a sector.

@@ -20,13 +20,14 @@ unfolding ones onesIn
     Rattle.model.specs.Root.lowest-slot Rattle.model.specs.Root.find Rattle.model.specs.Root.free-run Rattle.model.specs.Root.end-slot
     Rattle.model.specs.Root.root-ok Rattle.model.specs.Root.entry-at Rattle.model.specs.Root.file-at
     Rattle.model.specs.Log.run Rattle.model.specs.Log.run-ok Rattle.model.specs.Log.area Rattle.model.specs.Log.unused
-    Rattle.model.specs.Record.record-bytes Rattle.model.specs.Record.record-of Rattle.model.specs.Record.records Rattle.model.specs.Record.lay
-    Rattle.model.specs.Record.encode Rattle.model.specs.Record.operation-of Rattle.model.specs.Record.group-size Rattle.model.specs.Record.tells
-    Rattle.model.specs.Record.pends Rattle.model.specs.Record.committed Rattle.model.specs.Record.commit
+    Rattle.model.specs.Record.record-bytes Rattle.model.specs.Record.record-of Rattle.model.specs.Record.operation-records Rattle.model.specs.Record.records
+    Rattle.model.specs.Record.lay Rattle.model.specs.Record.encode Rattle.model.specs.Record.operation-of Rattle.model.specs.Record.change-of
+    Rattle.model.specs.Record.group-size Rattle.model.specs.Record.tells Rattle.model.specs.Record.pends Rattle.model.specs.Record.committed
+    Rattle.model.specs.Record.commit
     Rattle.model.specs.Pending.first-pending Rattle.model.specs.Pending.slot-ok Rattle.model.specs.Pending.record-ok Rattle.model.specs.Pending.alike
-    Rattle.model.specs.Pending.pair-ok Rattle.model.specs.Pending.records-ok Rattle.model.specs.Pending.empty-from
-    Rattle.model.specs.Pending.group-ok Rattle.model.specs.Pending.alone Rattle.model.specs.Pending.accepted Rattle.model.specs.Record.group-in
-    Rattle.model.specs.Pending.pending-in Rattle.model.specs.Pending.pending
+    Rattle.model.specs.Pending.pair-ok Rattle.model.specs.Pending.records-ok Rattle.model.specs.Pending.empty-from Rattle.model.specs.Pending.group-ok
+    Rattle.model.specs.Pending.alone Rattle.model.specs.Pending.accepted Rattle.model.specs.Record.group-in Rattle.model.specs.Pending.pending-in
+    Rattle.model.specs.Pending.pending
     Rattle.model.specs.Ground._>>=_ Rattle.model.specs.Ground._when_ Rattle.model.specs.Ground._>>_
     Rattle.model.specs.Volume.mount Rattle.model.specs.Volume.locate Rattle.model.specs.Volume.inspect Rattle.model.specs.Volume.examine
     Rattle.model.specs.Volume.settled Rattle.model.specs.Volume.clean
@@ -35,9 +36,10 @@ unfolding ones onesIn
     Rattle.model.specs.Listing.dotted Rattle.model.specs.Listing.shown-name Rattle.model.specs.Listing.record-line
     Rattle.model.specs.Listing.has-line Rattle.model.specs.Listing.record-lines Rattle.model.specs.Listing.is-table
     Rattle.model.specs.Listing.table-text Rattle.model.specs.Listing.log-text
-    Rattle.operations.specs.Finish.set-slots Rattle.operations.specs.Finish.new-entry Rattle.operations.specs.Finish.edits
-    Rattle.operations.specs.Finish.effect Rattle.operations.specs.Finish.root-sector Rattle.operations.specs.Finish.concerns
-    Rattle.operations.specs.Finish.root-stores Rattle.operations.specs.Finish.finish Rattle.operations.specs.Finish.redo
+    Rattle.operations.specs.Finish.set-slots Rattle.operations.specs.Finish.new-entry Rattle.operations.specs.Finish.operation-edits
+    Rattle.operations.specs.Finish.edits Rattle.operations.specs.Finish.effect Rattle.operations.specs.Finish.root-sector
+    Rattle.operations.specs.Finish.concerns Rattle.operations.specs.Finish.root-stores Rattle.operations.specs.Finish.finish
+    Rattle.operations.specs.Finish.redo
     Rattle.operations.specs.Plan.clear-all Rattle.operations.specs.Plan.clearing Rattle.operations.specs.Plan.group-sector
     Rattle.operations.specs.Plan.new-group Rattle.operations.specs.Plan.group-store Rattle.operations.specs.Plan.prepare
     Rattle.operations.specs.Plan.journal Rattle.operations.specs.Plan.operate Rattle.operations.specs.Plan.create-stores

@@ -14,10 +14,11 @@ use Rattle.model.specs.Sector.{Card, clip}
 use Rattle.model.specs.Root.{Directory, root-place, slot-at}
 use Rattle.model.specs.declared.Layout.{Layout}
 use Rattle.model.specs.declared.Name.{Name}
+use Rattle.model.specs.declared.Change.{Change}
 use Rattle.model.specs.declared.Operation.{Operation}
 use Rattle.model.specs.declared.Operation.the-variants.{Create, Update, Delete, Truncate, Rename}
-use Rattle.operations.specs.Finish.{set-size, set-first, mark-deleted, set-name, new-entry, Edit, edit, edit-from, set-slots, edits, effect, Slots}
-use Rattle.operations.specs.Finish.{root-sector, concerns}
+use Rattle.operations.specs.Finish.{set-size, set-first, mark-deleted, set-name, new-entry, Edit, edit, edit-from, set-slots, operation-edits, edits}
+use Rattle.operations.specs.Finish.{effect, Slots, root-sector, concerns}
 use Rattle.model.proofs.Tests.{told, less?, same?, or-false}
 use Rattle.model.proofs.All.{All}
 use Rattle.model.proofs.Cards.{clip-at}
@@ -168,33 +169,31 @@ all-same n whole (e ∷ es) d x j near w a =
 own-again : (s : ℕ) (f : Bytes → Bytes) (j : ℕ) → Laid f j → Laid f j × ((s ≡ s → (s ≡ s) × Over f f j) × ((s ≡ s → ⊥) → Unit {0}))
 own-again s f j k = (k, ((λ _. (refl, laid-again f j k)), λ _. tt))
 
-pub again : (o : Operation) (j : ℕ) → Again (edits o) j
-unfolding edits
-again (Create e) j = (own-again (e .slot) (λ b. new-entry (e .name)) j (inl (new-entry (e .name) j, λ b. refl)), tt)
-again (Update e last from size) j = (
-  own-again (e .slot) (λ b. set-size size (pick (eqb last 0) (set-first from b) b)) j
-      (laid-resized (eqb last 0) from size j),
-  tt,
-)
-again (Delete e first size) j = (own-again (e .slot) (λ b. mark-deleted b) j (laid-mark j), tt)
-again (Truncate e first from size) j = (
-  own-again (e .slot) (λ b. set-size size (pick (eqb size 0) (set-first 0 b) b)) j
-      (laid-resized (eqb size 0) 0 size j),
-  tt,
-)
-again (Rename e first size to renamed) j = (
+operation-again : (o : Operation) (j : ℕ) → Again (operation-edits o) j
+unfolding operation-edits
+operation-again (Create e) j = (own-again (e .slot) (λ b. new-entry (e .name)) j (inl (new-entry (e .name) j, λ b. refl)), tt)
+operation-again (Update e last from size) j =
+    (own-again (e .slot) (λ b. set-size size (pick (eqb last 0) (set-first from b) b)) j (laid-resized (eqb last 0) from size j), tt)
+operation-again (Delete e first size) j = (own-again (e .slot) (λ b. mark-deleted b) j (laid-mark j), tt)
+operation-again (Truncate e first from size) j =
+    (own-again (e .slot) (λ b. set-size size (pick (eqb size 0) (set-first 0 b) b)) j (laid-resized (eqb size 0) 0 size j), tt)
+operation-again (Rename e first size to renamed) j = (
   (laid-mark j, ((λ _. (refl, laid-again (λ b. mark-deleted b) j (laid-mark j))), λ ne. absurd (ne refl))),
   ((laid-name renamed j, ((λ _. (refl, name-over renamed j)), λ ne. absurd (ne refl))), tt),
 )
 
+pub again : (o : Change) (j : ℕ) → Again (edits o) j
+unfolding edits
+again o j = operation-again (o .operation) j
+
 -- From a mixture the effect makes the new directory.
-pub effect-mix : (n : ℕ) (o : Operation) (d x : Directory) → Slots n o → (j : ℕ) → ((k : ℕ) → k < n → Near d (effect o d) x k j)
+pub effect-mix : (n : ℕ) (o : Change) (d x : Directory) → Slots n o → (j : ℕ) → ((k : ℕ) → k < n → Near d (effect o d) x k j)
     → (k : ℕ) → k < n → effect o x k j ≡ effect o d k j
 unfolding effect
 effect-mix n o d x w j near k less = edits-mix (edits o) d x k j (all-same n (edits o) (edits o) d x j near w (again o j)) (near k less)
 
--- An operation that edits one slot, or two, the second made of the first.
-module _ (o : Operation) (d : Directory) where
+-- A change that edits one slot, or two, the second made of the first.
+module _ (o : Change) (d : Directory) where
   pub one-in : (x : ℕ) (f : Bytes → Bytes) → edits o ≡ edit x f ∷ [] → effect o d x ≡ f (d x)
   unfolding effect
   one-in x f e = ap (λ es. set-slots es d x) e ∙ set-in (edit x f) [] d x refl
@@ -224,7 +223,7 @@ edits-apart (e ∷ es) d k h =
     let r = or-false (eqb (e .slot / 16) (k / 16)) (any (map (λ e. eqb (e .slot / 16) (k / 16)) es)) h in
     set-out e es d k (λ q. eqb-false (e .slot / 16) (k / 16) (r .0) (ap (λ i. i / 16) (sym q))) ∙ edits-apart es d k (r .1)
 
-pub unconcerned : (o : Operation) (d : Directory) (k : ℕ) → concerns o (k / 16) ≡ false → effect o d k ≡ d k
+pub unconcerned : (o : Change) (d : Directory) (k : ℕ) → concerns o (k / 16) ≡ false → effect o d k ≡ d k
 unfolding effect concerns
 unconcerned o d k h = edits-apart (edits o) d k h
 
@@ -242,7 +241,7 @@ module _ (l : Layout) (c y : Card) (new : Directory) (whole : l .entries % 16 �
       (λ e. inr ((λ t. e t (32 * (k % 16) + j)) ∙ clip-at (root-sector new (k / 16)) (32 * (k % 16) + j) (omega arith) ∙ (λ t. new (row t) (col t))))
       (near (k / 16) (omega arith))
 
-pub sector-mix : (l : Layout) (c y : Card) (o : Operation) → l .entries % 16 ≡ 0 → Slots (l .entries) o
+pub sector-mix : (l : Layout) (c y : Card) (o : Change) → l .entries % 16 ≡ 0 → Slots (l .entries) o
     → ((r : ℕ) → r < l .entries / 16 → (y (root-place l r) ≡ c (root-place l r)) ⊎ (y (root-place l r) ≡ clip (root-sector (effect o (slot-at l c)) r)))
     → (r : ℕ) → r < l .entries / 16 → (j : ℕ) → j < 512 → root-sector (effect o (slot-at l y)) r j ≡ root-sector (effect o (slot-at l c)) r j
 unfolding root-sector

@@ -7,7 +7,7 @@ use Rattle.model.specs.Bytes.{Bytes, part}
 use Rattle.model.specs.Sector.{Card, Store, store}
 use Rattle.model.specs.Root.{Directory, root-place, slot-at}
 use Rattle.model.specs.declared.Layout.{Layout}
-use Rattle.model.specs.declared.Operation.{Operation}
+use Rattle.model.specs.declared.Change.{Change}
 use Rattle.model.proofs.All.{All}
 use Rattle.model.proofs.Cards.{Away, store-same}
 use Rattle.model.proofs.Turns.{map-away, map-same}
@@ -26,7 +26,7 @@ unfolding slot-at
 slot-same l c d k e = ap (λ (b : Bytes). part b (32 * (k % 16))) e
 
 -- Root stores read only root sectors, and store only there.
-pub root-stores-same : (l : Layout) (o : Operation) (c d : Card) → l .entries % 16 ≡ 0 → Slots (l .entries) o
+pub root-stores-same : (l : Layout) (o : Change) (c d : Card) → l .entries % 16 ≡ 0 → Slots (l .entries) o
     → ((r : ℕ) → r < l .entries / 16 → c (root-place l r) ≡ d (root-place l r)) → root-stores l o c ≡ root-stores l o d
 unfolding root-stores effect root-sector
 root-stores-same l o c d whole fit h =
@@ -46,7 +46,7 @@ root-stores-same l o c d whole fit h =
     same-byte r j less b = ap (λ (x : Bytes). x (j % 32))
         (set-slots-same (l .entries) (edits o) (slot-at l c) (slot-at l d) slots fit (16 * r + j / 32) (omega arith))
 
-pub root-stores-away : (l : Layout) (o : Operation) (c : Card) (s : ℕ) → (l .root ≤ s → s < l .root + l .entries / 16 → ⊥) → Away (root-stores l o c) s
+pub root-stores-away : (l : Layout) (o : Change) (c : Card) (s : ℕ) → (l .root ≤ s → s < l .root + l .entries / 16 → ⊥) → Away (root-stores l o c) s
 unfolding root-stores
 root-stores-away l o c s out =
     map-away (λ r. store (root-place l r) (root-sector (effect o (slot-at l c)) r)) (concerns o) (l .entries / 16) s

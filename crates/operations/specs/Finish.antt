@@ -12,6 +12,7 @@ use Rattle.model.specs.Root.{Directory, root-place, slot-at}
 use Rattle.model.specs.Record.{commit}
 use Rattle.model.specs.declared.Layout.{Layout}
 use Rattle.model.specs.declared.Name.{Name}
+use Rattle.model.specs.declared.Change.{Change}
 use Rattle.model.specs.declared.Group.{Group}
 use Rattle.model.specs.declared.Operation.{Operation}
 use Rattle.model.specs.declared.Operation.the-variants.{Create, Update, Delete, Truncate, Rename}
@@ -54,37 +55,40 @@ new-entry n = set-name n (patch 1 0x20 11 (patch 2 0x21 16 (patch 2 0x21 18 (pat
 -- "Root effect. Create: a new slot .. Update: size; first cluster becomes DIR_Cluster if the last was 0. Truncate: size; first
 -- cluster 0 if size is 0. Delete: first byte 0xE5. Rename: the new slot gets the new name and bytes 11 to 31 of the old, the old
 -- gets 0xE5."
-unfoldable pub edits : Operation → List Edit
-edits (Create e) = edit (e .slot) (λ b. new-entry (e .name)) ∷ []
-edits (Update e last from size) = edit (e .slot) (λ b. set-size size (pick (eqb last 0) (set-first from b) b)) ∷ []
-edits (Delete e first size) = edit (e .slot) (λ b. mark-deleted b) ∷ []
-edits (Truncate e first from size) = edit (e .slot) (λ b. set-size size (pick (eqb size 0) (set-first 0 b) b)) ∷ []
-edits (Rename e first size to renamed) =
+unfoldable pub operation-edits : Operation → List Edit
+operation-edits (Create e) = edit (e .slot) (λ b. new-entry (e .name)) ∷ []
+operation-edits (Update e last from size) = edit (e .slot) (λ b. set-size size (pick (eqb last 0) (set-first from b) b)) ∷ []
+operation-edits (Delete e first size) = edit (e .slot) (λ b. mark-deleted b) ∷ []
+operation-edits (Truncate e first from size) = edit (e .slot) (λ b. set-size size (pick (eqb size 0) (set-first 0 b) b)) ∷ []
+operation-edits (Rename e first size to renamed) =
     edit (e .slot) (λ b. mark-deleted b) ∷ edit-from (e .slot) to (λ b. set-name renamed b) ∷ []
 
-unfoldable pub effect : Operation → Directory → Directory
-effect o d = set-slots (edits o) d
+unfoldable pub edits : Change → List Edit
+edits x = operation-edits (x .operation)
 
--- An operation's edits are of slots below n, and made of such.
-abbrev pub Slots : ℕ → Operation → Type 0
-Slots n o = All (λ e. (e .slot < n) × (e .source < n)) (edits o)
+unfoldable pub effect : Change → Directory → Directory
+effect x d = set-slots (edits x) d
 
--- Root sector r of a directory, and whether an operation edits a slot in it.
+-- A change's edits are of slots below n, and made of such.
+abbrev pub Slots : ℕ → Change → Type 0
+Slots n x = All (λ e. (e .slot < n) × (e .source < n)) (edits x)
+
+-- Root sector r of a directory, and whether a change edits a slot in it.
 unfoldable pub root-sector : Directory → ℕ → Bytes
 root-sector d r j = d (16 * r + j / 32) (j % 32)
 
-unfoldable pub concerns : Operation → ℕ → Bool
-concerns o r = any (map (λ e. eqb (e .slot / 16) r) (edits o))
+unfoldable pub concerns : Change → ℕ → Bool
+concerns x r = any (map (λ e. eqb (e .slot / 16) r) (edits x))
 
 -- "5. Root sectors concerned, rising, one store each."
-unfoldable pub root-stores : Layout → Operation → Card → List Store
-root-stores l o c =
-    map (λ r. store (root-place l r) (root-sector (effect o (slot-at l c)) r)) (indices (concerns o) (l .entries / 16))
+unfoldable pub root-stores : Layout → Change → Card → List Store
+root-stores l x c =
+    map (λ r. store (root-place l r) (root-sector (effect x (slot-at l c)) r)) (indices (concerns x) (l .entries / 16))
 
 -- "4. The same FAT sectors into FAT1, rising": those of FAT2 that differ.
-unfoldable pub finish : Layout → Operation → Card → List Store
-finish l o c = write-fat l (l .fat1) (fat2-of l c) (fat1-of l c) ++ root-stores l o c
+unfoldable pub finish : Layout → Change → Card → List Store
+finish l x c = write-fat l (l .fat1) (fat2-of l c) (fat1-of l c) ++ root-stores l x c
 
 -- Steps 4 and 5, then 6: "the log sector again, each record of the group starting 0xE5".
 unfoldable pub redo : Layout → Group → Card → Program
-redo l g c = segment (finish l (g .operation) c) (commit c g) (ending [])
+redo l g c = segment (finish l (g .change) c) (commit c g) (ending [])

@@ -10,14 +10,14 @@ use Rattle.model.specs.Fat.{Fat, entry, fat1-of, fat2-of, free-clusters, link, 
 use Rattle.model.specs.Chain.{needed, chain, file-sector}
 use Rattle.model.specs.Root.{free-slot}
 use Rattle.model.specs.Log.{Log, log-of, unused}
-use Rattle.model.specs.Record.{records, encode, group-in}
+use Rattle.model.specs.Record.{records, plain, encode, group-in}
 use Rattle.model.specs.declared.Layout.{Layout}
 use Rattle.model.specs.declared.Area.{Area}
 use Rattle.model.specs.declared.Name.{Name}
 use Rattle.model.specs.declared.File.{File}
+use Rattle.model.specs.declared.Change.{Change}
 use Rattle.model.specs.declared.Group.{Group}
 use Rattle.model.specs.declared.Volume.{Volume}
-use Rattle.model.specs.declared.Operation.{Operation}
 use Rattle.model.specs.declared.Operation.the-variants.{Create, Update, Delete, Truncate, Rename}
 use Rattle.model.specs.declared.Pending.{Pending}
 use Rattle.model.specs.declared.Pending.the-variants as Pending
@@ -34,12 +34,12 @@ clearing a g = pick (ltb (unused (a .sectors) g) (a .sectors)) [] (clear-all a)
 unfoldable pub group-sector : Area → Log → ℕ
 group-sector a g = let u = unused (a .sectors) g in a .sector + pick (ltb u (a .sectors)) u 0
 
--- The group of an operation: "into the lowest log sector whose first byte is 0".
-unfoldable pub new-group : Area → Card → Operation → Group
-new-group a c o = record { sector = group-sector a (log-of a c); records = length (records o); operation = o }
+-- The group of a change: "into the lowest log sector whose first byte is 0".
+unfoldable pub new-group : Area → Card → Change → Group
+new-group a c x = record { sector = group-sector a (log-of a c); records = length (records x); change = x }
 
 unfoldable pub group-store : Group → Store
-group-store g = store (g .sector) (encode (g .operation))
+group-store g = store (g .sector) (encode (g .change))
 
 -- Steps 1 to 3 but for the group. "2. FAT2 sectors whose bytes change, rising." "3. Clearing of the log, if needed; then the group."
 unfoldable pub prepare : Volume → Card → List Store → Fat → List Store
@@ -50,8 +50,8 @@ prepare v c data-stores f =
 unfoldable pub journal : Layout → Card → Group → List Store → Program
 journal l c g prep = segment prep (group-store g) (redo l g (put (after prep c) (group-store g)))
 
-unfoldable pub operate : Volume → Card → List Store → Fat → Operation → Program
-operate v c data-stores f o = journal (v .layout) c (new-group (v .log) c o) (prepare v c data-stores f)
+unfoldable pub operate : Volume → Card → List Store → Fat → Change → Program
+operate v c data-stores f x = journal (v .layout) c (new-group (v .log) c x) (prepare v c data-stores f)
 
 -- The FAT as it is, on a clean card.
 abbrev pub old-fat : Volume → Card → Fat
@@ -59,7 +59,7 @@ old-fat v c = fat1-of (v .layout) c
 
 unfoldable pub create-stores : Volume → Card → Name → Program
 create-stores v c name =
-    operate v c [] (old-fat v c) (Create (record { slot = free-slot (v .layout) c; name = name; attributes = 0x20 }))
+    operate v c [] (old-fat v c) (plain (Create (record { slot = free-slot (v .layout) c; name = name; attributes = 0x20 })))
 
 -- The clusters of a file.
 unfoldable pub clusters-of : Layout → Fat → File → List ℕ
@@ -103,7 +103,7 @@ extend old (k ∷ ks) t = link (last-of old ++ (k ∷ ks)) t
 unfoldable pub append-along : Volume → Card → File → Span → List ℕ → List ℕ → Program
 append-along v c f d old new =
     operate v c (data-stores (v .layout) c (old ++ new) (f .size) d) (extend old new (old-fat v c))
-    (Update (f .entry) (last-cluster old) (getD new 0 0) (f .size + d .size))
+    (plain (Update (f .entry) (last-cluster old) (getD new 0 0) (f .size + d .size)))
 
 unfoldable pub append-stores : Volume → Card → File → Span → Program
 append-stores v c f d = append-along v c f d (clusters-of (v .layout) (old-fat v c) f) (new-clusters v c f (d .size))
@@ -115,7 +115,7 @@ shorten kept (k ∷ ks) t = release (k ∷ ks) (link (last-of kept) t)
 
 unfoldable pub truncate-along : Volume → Card → File → ℕ → List ℕ → List ℕ → Program
 truncate-along v c f size kept freed =
-    operate v c [] (shorten kept freed (old-fat v c)) (Truncate (f .entry) (f .first) (getD freed 0 0) size)
+    operate v c [] (shorten kept freed (old-fat v c)) (plain (Truncate (f .entry) (f .first) (getD freed 0 0) size))
 
 unfoldable pub truncate-stores : Volume → Card → File → ℕ → Program
 truncate-stores v c f size =
@@ -125,11 +125,11 @@ truncate-stores v c f size =
 
 unfoldable pub delete-stores : Volume → Card → File → Program
 delete-stores v c f =
-    operate v c [] (release (clusters-of (v .layout) (old-fat v c) f) (old-fat v c)) (Delete (f .entry) (f .first) (f .size))
+    operate v c [] (release (clusters-of (v .layout) (old-fat v c) f) (old-fat v c)) (plain (Delete (f .entry) (f .first) (f .size)))
 
 unfoldable pub rename-stores : Volume → Card → File → Name → Program
 rename-stores v c f name =
-    operate v c [] (old-fat v c) (Rename (f .entry) (f .first) (f .size) (free-slot (v .layout) c) name)
+    operate v c [] (old-fat v c) (plain (Rename (f .entry) (f .first) (f .size) (free-slot (v .layout) c) name))
 
 -- "Recovery, pending group: FAT2 sectors that differ go to FAT1, rising, then 5 and 6 from the record. No pending group: FAT1
 -- sectors that differ go to FAT2, rising."

@@ -10,11 +10,12 @@ use lib.Dec.{eqb}
 use Rattle.model.specs.Bytes.{Bytes, overlay, pick}
 use Rattle.model.specs.Sector.{Card, Store, card-of, clip}
 use Rattle.model.specs.Root.{Directory, root-place, slot-at}
+use Rattle.model.specs.Record.{plain}
 use Rattle.model.specs.Promises.{Ran, up-to}
 use Rattle.model.specs.declared.Layout.{Layout}
 use Rattle.model.specs.declared.Name.{Name}
 use Rattle.model.specs.declared.Entry.{Entry}
-use Rattle.model.specs.declared.Operation.{Operation}
+use Rattle.model.specs.declared.Change.{Change}
 use Rattle.model.specs.declared.Operation.the-variants.{Create, Update, Delete, Truncate, Rename}
 use Rattle.model.proofs.Tests.{less?}
 use Rattle.model.proofs.All.{All}
@@ -23,7 +24,8 @@ use Rattle.model.proofs.Changes.{Keeps, after-keeps}
 use Rattle.model.proofs.Overlays.{overlay-in, overlay-below}
 use Rattle.model.proofs.Runs.{ran-card}
 use Rattle.model.proofs.Turns.{map-indices, upto-all}
-use Rattle.operations.specs.Finish.{edit, edit-from, edits, Slots, effect, set-name, mark-deleted, new-entry, root-sector, concerns, root-stores}
+use Rattle.operations.specs.Finish.{edit, edit-from, operation-edits, edits, Slots, effect, set-name, mark-deleted, new-entry, root-sector, concerns}
+use Rattle.operations.specs.Finish.{root-stores}
 use Rattle.operations.proofs.Edits.{laid-resized, laid-mark, laid-name, edit-made, own-made, edit-past, edits-out, sector-mix}
 use Rattle.root_write.specs.Slots.{resized, root-store, root-turn}
 
@@ -33,46 +35,46 @@ slot-byte l w k a j e h = ap (λ (z : ℕ). getD w z 0) (omega arith)
 
 -- ---- operations
 
--- A slot that an operation does not edit, as it was loaded.
-pub out : (o : Operation) (d : Directory) (k : ℕ) (b : Bytes) → All (λ e. k ≡ e .slot → ⊥) (edits o) → ((j : ℕ) → j < 32 → b j ≡ d k j) → (j : ℕ)
+-- A slot that a change does not edit, as it was loaded.
+pub out : (o : Change) (d : Directory) (k : ℕ) (b : Bytes) → All (λ e. k ≡ e .slot → ⊥) (edits o) → ((j : ℕ) → j < 32 → b j ≡ d k j) → (j : ℕ)
     → j < 32 → b j ≡ effect o d k j
 unfolding effect
 out o d k b ne same j h = same j h ∙ sym (λ t. edits-out (edits o) d k ne t j)
 
 -- The slot of an operation's first edit, of its own bytes, which makes r of those that were loaded.
 module _ (d : Directory) (k : ℕ) (b r : Bytes) (same : (j : ℕ) → j < 32 → b j ≡ d k j) where
-  pub in-create : (e : Entry) → k ≡ e .slot → r ≡ new-entry (e .name) → (j : ℕ) → j < 32 → r j ≡ effect (Create e) d k j
-  unfolding effect edits
+  pub in-create : (e : Entry) → k ≡ e .slot → r ≡ new-entry (e .name) → (j : ℕ) → j < 32 → r j ≡ effect (plain (Create e)) d k j
+  unfolding effect edits operation-edits
   in-create e h is j s = ap (λ (x : Bytes). x j) is ∙ own-made (e .slot) (λ x. new-entry (e .name)) [] d k j b h
       (inl (new-entry (e .name) j, λ x. refl)) (same j s)
 
   pub in-update : (e : Entry) (last from size : ℕ) → k ≡ e .slot → r ≡ resized b (eqb last 0) from size → (j : ℕ) → j < 32
-      → r j ≡ effect (Update e last from size) d k j
-  unfolding effect edits
+      → r j ≡ effect (plain (Update e last from size)) d k j
+  unfolding effect edits operation-edits
   in-update e last from size h is j s =
       ap (λ (x : Bytes). x j) is ∙ own-made (e .slot) (λ x. resized x (eqb last 0) from size) [] d k j b h (laid-resized (eqb last 0) from size j) (same j s)
 
-  pub in-delete : (e : Entry) (first size : ℕ) → k ≡ e .slot → r ≡ mark-deleted b → (j : ℕ) → j < 32 → r j ≡ effect (Delete e first size) d k j
-  unfolding effect edits
+  pub in-delete : (e : Entry) (first size : ℕ) → k ≡ e .slot → r ≡ mark-deleted b → (j : ℕ) → j < 32 → r j ≡ effect (plain (Delete e first size)) d k j
+  unfolding effect edits operation-edits
   in-delete e first size h is j s = ap (λ (x : Bytes). x j) is ∙ own-made (e .slot) (λ x. mark-deleted x) [] d k j b h (laid-mark j) (same j s)
 
   pub in-truncate : (e : Entry) (first from size : ℕ) → k ≡ e .slot → r ≡ resized b (eqb size 0) 0 size → (j : ℕ) → j < 32
-      → r j ≡ effect (Truncate e first from size) d k j
-  unfolding effect edits
+      → r j ≡ effect (plain (Truncate e first from size)) d k j
+  unfolding effect edits operation-edits
   in-truncate e first from size h is j s =
       ap (λ (x : Bytes). x j) is ∙ own-made (e .slot) (λ x. resized x (eqb size 0) 0 size) [] d k j b h (laid-resized (eqb size 0) 0 size j) (same j s)
 
   pub in-rename : (e : Entry) (first size to : ℕ) (renamed : Name) → k ≡ e .slot → r ≡ mark-deleted b → (j : ℕ) → j < 32
-      → r j ≡ effect (Rename e first size to renamed) d k j
-  unfolding effect edits
+      → r j ≡ effect (plain (Rename e first size to renamed)) d k j
+  unfolding effect edits operation-edits
   in-rename e first size to renamed h is j s =
       ap (λ (x : Bytes). x j) is ∙ own-made (e .slot) (λ x. mark-deleted x) (edit-from (e .slot) to (λ x. set-name renamed x) ∷ []) d k j b h
       (laid-mark j) (same j s)
 
 -- A rename's new slot, made of the old one's bytes.
 pub in-renamed : (d : Directory) (k : ℕ) (e : Entry) (first size to : ℕ) (renamed : Name) (b r : Bytes) → ((j : ℕ) → j < 32 → b j ≡ d (e .slot) j)
-    → (k ≡ e .slot → ⊥) → k ≡ to → r ≡ set-name renamed b → (j : ℕ) → j < 32 → r j ≡ effect (Rename e first size to renamed) d k j
-unfolding effect edits
+    → (k ≡ e .slot → ⊥) → k ≡ to → r ≡ set-name renamed b → (j : ℕ) → j < 32 → r j ≡ effect (plain (Rename e first size to renamed)) d k j
+unfolding effect edits operation-edits
 in-renamed d k e first size to renamed b r same ne h is j s =
     edit-past (edit (e .slot) (λ x. mark-deleted x)) (edit-from (e .slot) to (λ x. set-name renamed x) ∷ []) d k j (r j) ne
     (ap (λ (x : Bytes). x j) is ∙ edit-made (edit-from (e .slot) to (λ x. set-name renamed x)) [] d k j b h (laid-name renamed j) (same j s))
@@ -104,12 +106,12 @@ laid-more d r i n b s new e so own is j h =
 
 -- ---- the loop
 
-pub root-turns : (l : Layout) (o : Operation) (c : Card) → up-to (root-turn l o c) (l .entries / 16) ≡ root-stores l o c
+pub root-turns : (l : Layout) (o : Change) (c : Card) → up-to (root-turn l o c) (l .entries / 16) ≡ root-stores l o c
 unfolding root-stores
 root-turns l o c = sym (map-indices (root-store l o c) (concerns o) (l .entries / 16))
 
 -- Each turn finds a card whose root sectors are as at entry or as they are to become, and so stores what it would have stored at entry.
-module _ (l : Layout) (o : Operation) (whole : l .entries % 16 ≡ 0) (fit : Slots (l .entries) o) (c : Card) where
+module _ (l : Layout) (o : Change) (whole : l .entries % 16 ≡ 0) (fit : Slots (l .entries) o) (c : Card) where
   abbrev new : Directory
   new = effect o (slot-at l c)
 

@@ -1,4 +1,5 @@
-// The root's part of an operation.
+// The root's part of a change.
+use model::Change;
 use model::Layout;
 use model::Operation;
 use model::Progress;
@@ -45,10 +46,11 @@ fn mark(b: [u8; 32]) -> [u8; 32]
     sector_build::set(b, 0, 1, 0xE5)
 }
 
-// Whether an operation edits a slot in root sector r.
-fn concerns(o: Operation, r: u32) -> bool
-    ensures { λ t. ⌜ t ≡ concerns o r ⌝ }
+// Whether a change edits a slot in root sector r.
+fn concerns(x: Change, r: u32) -> bool
+    ensures { λ t. ⌜ t ≡ concerns x r ⌝ }
 {
+    let o = x.operation;
     match o {
         Operation::Create { entry } => entry.slot / 16 == r,
         Operation::Update {
@@ -83,13 +85,14 @@ fn concerns(o: Operation, r: u32) -> bool
     }
 }
 
-// The 32 bytes of slot k after the edits of an operation. The slots that they are made of may be edited already.
-fn slot_after(w: &[u8], l: Layout, o: Operation, k: u32) -> [u8; 32]
+// The 32 bytes of slot k after the edits of a change. The slots that they are made of may be edited already.
+fn slot_after(w: &[u8], l: Layout, x: Change, k: u32) -> [u8; 32]
     requires { ⌜ Held l (now w) × (k < l .entries) ⌝ }
-    requires { ⌜ Slots (l .entries) o ⌝ }
-    ensures { λ b. ⌜ ((j : ℕ) → j < 32 → getD b j 0 ≡ effect o (slot-at l (card-of (now (w .entry)))) k j) ⌝ }
+    requires { ⌜ Slots (l .entries) x ⌝ }
+    ensures { λ b. ⌜ ((j : ℕ) → j < 32 → getD b j 0 ≡ effect x (slot-at l (card-of (now (w .entry)))) k j) ⌝ }
 {
     let b = load_slot(w, l, k);
+    let o = x.operation;
     match o {
         Operation::Create { entry } => {
             if k == entry.slot {
@@ -147,16 +150,16 @@ fn slot_after(w: &[u8], l: Layout, o: Operation, k: u32) -> [u8; 32]
     }
 }
 
-// Root sector r after the edits of an operation.
-fn sector_after(w: &[u8], l: Layout, o: Operation, r: u32) -> [u8; 512]
+// Root sector r after the edits of a change.
+fn sector_after(w: &[u8], l: Layout, x: Change, r: u32) -> [u8; 512]
     requires { ⌜ Held l (now w) × (r < l .entries / 16) ⌝ }
-    requires { ⌜ Slots (l .entries) o ⌝ }
-    ensures { λ b. ⌜ ((j : ℕ) → j < 512 → getD b j 0 ≡ root-sector (effect o (slot-at l (card-of (now (w .entry))))) r j) ⌝ }
+    requires { ⌜ Slots (l .entries) x ⌝ }
+    ensures { λ b. ⌜ ((j : ℕ) → j < 512 → getD b j 0 ≡ root-sector (effect x (slot-at l (card-of (now (w .entry))))) r j) ⌝ }
 {
     let mut buf = [0u8; 512];
     let mut i = 0;
     while i < 16 {
-        let b = slot_after(w, l, o, 16 * r + i);
+        let b = slot_after(w, l, x, 16 * r + i);
         let more = sector_build::lay(buf, sector::index(i), b);
         buf = more;
         i += 1;
@@ -164,32 +167,32 @@ fn sector_after(w: &[u8], l: Layout, o: Operation, r: u32) -> [u8; 512]
     buf
 }
 
-// Root sector r after the edits of an operation is stored, if the operation concerns it.
-fn store_concerned(w: &mut [u8], l: Layout, o: Operation, r: u32, limit: u32) -> Progress
+// Root sector r after the edits of a change is stored, if the change concerns it.
+fn store_concerned(w: &mut [u8], l: Layout, x: Change, r: u32, limit: u32) -> Progress
     requires { ⌜ Held l (now w) × (r < l .entries / 16) ⌝ }
-    requires { ⌜ Slots (l .entries) o ⌝ }
-    ensures { λ p. ⌜ Ran limit (root-turn l o (card-of (now (w .entry))) r) (now (w .entry)) (now (w .exit)) (p .made) (p .whole) ⌝ }
+    requires { ⌜ Slots (l .entries) x ⌝ }
+    ensures { λ p. ⌜ Ran limit (root-turn l x (card-of (now (w .entry))) r) (now (w .entry)) (now (w .exit)) (p .made) (p .whole) ⌝ }
 {
-    if !concerns(o, r) {
+    if !concerns(x, r) {
         return Progress {
             made: 0,
             whole: true,
         };
     }
-    let buf = sector_after(w, l, o, r);
+    let buf = sector_after(w, l, x, r);
     sector::store_sector(w, l.root + r, &buf, limit)
 }
 
-// The root sectors that an operation concerns, rising.
-pub fn store_root(w: &mut [u8], l: Layout, o: Operation, limit: u32) -> Progress
+// The root sectors that a change concerns, rising.
+pub fn store_root(w: &mut [u8], l: Layout, x: Change, limit: u32) -> Progress
     requires { ⌜ Held l (now w) ⌝ }
-    requires { ⌜ Slots (l .entries) o ⌝ }
-    ensures { λ r. ⌜ Ran limit (root-stores l o (card-of (now (w .entry)))) (now (w .entry)) (now (w .exit)) (r .made) (r .whole) ⌝ }
+    requires { ⌜ Slots (l .entries) x ⌝ }
+    ensures { λ r. ⌜ Ran limit (root-stores l x (card-of (now (w .entry)))) (now (w .entry)) (now (w .exit)) (r .made) (r .whole) ⌝ }
 {
     let mut made = 0;
     let mut r = 0;
     while r < l.entries / 16 {
-        let p = store_concerned(w, l, o, r, limit - made);
+        let p = store_concerned(w, l, x, r, limit - made);
         made += p.made;
         if !p.whole {
             return Progress { made, whole: false };

@@ -13,7 +13,7 @@ use Rattle.model.specs.Promises.{Shape}
 use Rattle.model.specs.declared.Area.{Area}
 use Rattle.model.specs.declared.Group.{Group}
 use Rattle.model.specs.declared.Layout.{Layout}
-use Rattle.model.specs.declared.Operation.{Operation}
+use Rattle.model.specs.declared.Change.{Change}
 use Rattle.operations.specs.Finish.{root-sector, effect, concerns, finish}
 use Rattle.model.proofs.Tests.{less?, told}
 use Rattle.model.proofs.All.{All, all-map}
@@ -33,7 +33,7 @@ abbrev pub last-slot : Card → ℕ
 last-slot c = end-slot (layout-of c .entries) (first-bytes (layout-of c) c)
 
 -- Card u has the group of operation o in log sector i and the change of the FATs in FAT2, and is else as c in what a recovery looks at.
-pub record Entered (c u : Card) (i : ℕ) (o : Operation) : Type 0 where
+pub record Entered (c u : Card) (i : ℕ) (o : Change) : Type 0 where
   pub clipped : Clipped u
   pub fixed : (n : ℕ) → Fixed (layout-of c) n → u n ≡ c n
   pub marks : SameMarks (layout-of c) (fat2-of (layout-of c) u) (first-fat c)
@@ -52,7 +52,7 @@ pub data Target (l : Layout) (u : Card) (new : Directory) (n : ℕ) (b : Bytes) 
 abbrev pub Still : Layout → ℕ → Type 0
 Still l n = ((s : ℕ) → s < l .fatsize → n ≡ l .fat1 + s → ⊥) × ((r : ℕ) → r < l .entries / 16 → n ≡ root-place l r → ⊥)
 
-module _ {size : ℕ} {c : Card} (st : Start size c) {u : Card} {i : ℕ} {o : Operation} (h : Entered c u i o) where
+module _ {size : ℕ} {c : Card} (st : Start size c) {u : Card} {i : ℕ} {o : Change} (h : Entered c u i o) where
   abbrev l : Layout
   l = layout-of c
 

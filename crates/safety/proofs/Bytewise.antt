@@ -22,12 +22,13 @@ use Rattle.model.specs.Volume.{clean, examine}
 use Rattle.model.specs.declared.Group.{Group}
 use Rattle.model.specs.declared.Layout.{Layout}
 use Rattle.model.specs.declared.Name.{Name}
+use Rattle.model.specs.declared.Change.{Change}
 use Rattle.model.specs.declared.Operation.{Operation}
 use Rattle.model.specs.declared.Operation.the-variants.{Create, Update, Delete, Truncate, Rename}
 use Rattle.model.specs.declared.Pending.{Pending}
 use Rattle.model.specs.declared.Volume.{Volume}
 use Rattle.operations.specs.Program.{Program, stores, ending}
-use Rattle.operations.specs.Finish.{Edit, set-slots, set-name, new-entry, edits, effect, root-sector, finish, redo}
+use Rattle.operations.specs.Finish.{Edit, set-slots, set-name, new-entry, operation-edits, edits, effect, root-sector, finish, redo}
 use Rattle.operations.specs.Plan.{prepare, group-store, operate, journal, new-group, last-of, extend, shorten, appended, append-sector, data-stores}
 use Rattle.operations.specs.Plan.{recover-stores}
 use Rattle.operations.specs.Calls.{Call, plan, creates, appends, truncates, deletes, renames, recovers, recover}
@@ -93,7 +94,7 @@ getD-small [] i a = none
 getD-small (r ∷ rs) zero a = a .0
 getD-small (r ∷ rs) (suc i) a = getD-small rs i (a .1)
 
-encode-small : (o : Operation) → Small (encode o)
+encode-small : (o : Change) → Small (encode o)
 unfolding encode lay
 encode-small o j = getD-small (map record-bytes (records o)) (j / 32) (records-small (records o)) (j % 32)
 
@@ -107,13 +108,17 @@ committed-small n b h j = by-pick (λ x. x < 256) (eqb (j % 32) 0 && ltb j (32 *
 abbrev Makes : Edit → Type 0
 Makes e = (b : Bytes) → Small b → Small (e .change b)
 
-edits-small : (o : Operation) → All Makes (edits o)
-unfolding edits new-entry
-edits-small (Create e) = ((λ b h. named (e .name) _ (patched 1 0x20 11 _ (patched 2 0x21 16 _ (patched 2 0x21 18 _ (patched 2 0x21 24 zeros none))))), tt)
-edits-small (Update e last from size) = ((λ b h. patched 4 size 28 _ (if-small (eqb last 0) _ b (patched 2 from 26 b h) h)), tt)
-edits-small (Delete e first size) = ((λ b h. patched 1 0xE5 0 b h), tt)
-edits-small (Truncate e first from size) = ((λ b h. patched 4 size 28 _ (if-small (eqb size 0) _ b (patched 2 0 26 b h) h)), tt)
-edits-small (Rename e first size to renamed) = ((λ b h. patched 1 0xE5 0 b h), ((λ b h. named renamed b h), tt))
+operation-small : (o : Operation) → All Makes (operation-edits o)
+unfolding operation-edits new-entry
+operation-small (Create e) = ((λ b h. named (e .name) _ (patched 1 0x20 11 _ (patched 2 0x21 16 _ (patched 2 0x21 18 _ (patched 2 0x21 24 zeros none))))), tt)
+operation-small (Update e last from size) = ((λ b h. patched 4 size 28 _ (if-small (eqb last 0) _ b (patched 2 from 26 b h) h)), tt)
+operation-small (Delete e first size) = ((λ b h. patched 1 0xE5 0 b h), tt)
+operation-small (Truncate e first from size) = ((λ b h. patched 4 size 28 _ (if-small (eqb size 0) _ b (patched 2 0 26 b h) h)), tt)
+operation-small (Rename e first size to renamed) = ((λ b h. patched 1 0xE5 0 b h), ((λ b h. named renamed b h), tt))
+
+edits-small : (o : Change) → All Makes (edits o)
+unfolding edits
+edits-small o = operation-small (o .operation)
 
 set-small : (es : List Edit) (d : Directory) → All Makes es → ((k : ℕ) → Small (d k)) → (k : ℕ) → Small (set-slots es d k)
 unfolding set-slots
@@ -121,7 +126,7 @@ set-small [] d a h k = h k
 set-small (e ∷ es) d a h k = if-small (eqb k (e .slot)) (e .change (d (e .source))) (set-slots es d k) (a .0 (d (e .source)) (h (e .source)))
     (set-small es d (a .1) h k)
 
-effect-small : (o : Operation) (d : Directory) → ((k : ℕ) → Small (d k)) → (k : ℕ) → Small (effect o d k)
+effect-small : (o : Change) (d : Directory) → ((k : ℕ) → Small (d k)) → (k : ℕ) → Small (effect o d k)
 unfolding effect
 effect-small o d h = set-small (edits o) d (edits-small o) h
 
@@ -182,7 +187,7 @@ data-small l c ks old d h small =
         (λ f. let low : old ≤ i = ltb-false i old e in let high : i < old + d .size = ltb-true i (old + d .size) f in small (i - old) (omega arith))
         (λ _. omega arith))
 
-operate-small : (v : Volume) (c : Card) (ds : List Store) (f : Fat) (o : Operation) → SmallCard c → All SmallStore ds → SmallCard f
+operate-small : (v : Volume) (c : Card) (ds : List Store) (f : Fat) (o : Change) → SmallCard c → All SmallStore ds → SmallCard f
     → All SmallStore (stores (operate v c ds f o))
 unfolding operate journal redo new-group group-store commit root-sector slot-at
 operate-small v c ds f o h own fat =
@@ -213,7 +218,7 @@ module _ {size : ℕ} {c : Card} (st : Start size c) (is : clean (window size c)
   old-small : SmallCard (first-fat c)
   old-small s = st .small (layout-of c .fat1 + s)
 
-  fine : (ds : List Store) (f : Fat) (o : Operation) → All SmallStore ds → SmallCard f → Fine (operate v c ds f o)
+  fine : (ds : List Store) (f : Fat) (o : Change) → All SmallStore ds → SmallCard f → Fine (operate v c ds f o)
   fine ds f o own fat = operate-small v c ds f o (st .small) own fat
 
   unless-fine : (n : ℕ) (q p : Program) → Unless st is n q p → Fine q → Fine p
@@ -255,10 +260,10 @@ recover-small l x Pending.Nothing h = write-all l (l .fat2) (fat1-of l x) (fat2-
 recover-small l x Pending.Broken h = tt
 recover-small l x (Pending.Held n) h =
     let g : Group = group-in n (x n) in
-    let rest : All SmallStore (finish l (g .operation) x) = finish-all l (g .operation) x SmallStore (λ s less j. h _ (j % 512))
-    (λ r less j. effect-small (g .operation) (slot-at l x) (λ k i. h _ (32 * (k % 16) + i)) (16 * r + j % 512 / 32) (j % 512 % 32)) in
+    let rest : All SmallStore (finish l (g .change) x) = finish-all l (g .change) x SmallStore (λ s less j. h _ (j % 512))
+    (λ r less j. effect-small (g .change) (slot-at l x) (λ k i. h _ (32 * (k % 16) + i)) (16 * r + j % 512 / 32) (j % 512 % 32)) in
     let mark : SmallStore (commit x g) = λ j. committed-small (g .records) (x (g .sector)) (h (g .sector)) (j % 512) in
-    all-append SmallStore (finish l (g .operation) x) _ rest (mark, tt)
+    all-append SmallStore (finish l (g .change) x) _ rest (mark, tt)
 
 recovery-small : (w : Window) (a : Answer Program) → plan recovers w ≡ a → SmallCard (w .card) → (limit : ℕ) → All SmallStore (made limit a)
 unfolding made plan recover

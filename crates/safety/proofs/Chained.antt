@@ -14,7 +14,7 @@ use Rattle.model.specs.Chain.{chain, keeps-chain, needed}
 use Rattle.model.specs.Root.{slot-at, file-size, first-cluster, file-at, Directory}
 use Rattle.model.specs.Promises.{Shape}
 use Rattle.model.specs.declared.Layout.{Layout}
-use Rattle.model.specs.declared.Operation.{Operation}
+use Rattle.model.specs.declared.Change.{Change}
 use Rattle.operations.specs.Finish.{effect}
 use Rattle.operations.specs.Plan.{clusters-of}
 use Rattle.safety.specs.Sound.{proper, chain-of}
@@ -37,7 +37,7 @@ pub record HasChain (l : Layout) (t : Card) (s : ℕ) (ks : List ℕ) : Type 0 w
   pub keeps : proper l t s ≡ true
   pub chain : chain-of l t s ≡ ks
 
-module _ {size : ℕ} {c : Card} (st : Start size c) {ds : List Store} {f : Fat} {o : Operation} {t : Card} (end : Ended size c ds f o t) where
+module _ {size : ℕ} {c : Card} (st : Start size c) {ds : List Store} {f : Fat} {o : Change} {t : Card} (end : Ended size c ds f o t) where
   abbrev l : Layout
   l = layout-of c
 

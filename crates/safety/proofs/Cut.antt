@@ -23,7 +23,7 @@ use Rattle.model.specs.declared.Pending.{Pending}
 use Rattle.model.specs.declared.Volume.{Volume}
 use Rattle.model.proofs.Walks.{chain-length}
 use Rattle.operations.specs.Program.{Program, ending}
-use Rattle.operations.specs.Finish.{effect, edits}
+use Rattle.operations.specs.Finish.{effect, edits, operation-edits}
 use Rattle.operations.specs.Plan.{clusters-of}
 use Rattle.operations.specs.Calls.{plan, truncates, slot-of}
 use Rattle.operations.specs.Outcome.{left, largest}
@@ -114,11 +114,11 @@ module _ {size : ℕ} {c : Card} (st : Start size c) (s : ℕ) (live : Live (lay
     new = resized (eqb n 0) 0 n b
 
     pub cut-slot : effect (truncates-as st s live keeps n) d s ≡ new
-    unfolding edits entry-at
+    unfolding edits operation-edits entry-at
     cut-slot = one-in (truncates-as st s live keeps n) d s (λ b. resized (eqb n 0) 0 n b) refl
 
     pub uncut-slot : (k : ℕ) → (k ≡ s → ⊥) → effect (truncates-as st s live keeps n) d k ≡ d k
-    unfolding edits entry-at
+    unfolding edits operation-edits entry-at
     uncut-slot k ne = one-out (truncates-as st s live keeps n) d s (λ b. resized (eqb n 0) 0 n b) refl k ne
 
     pub cut-size : file-size new ≡ n

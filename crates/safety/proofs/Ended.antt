@@ -16,7 +16,7 @@ use Rattle.model.specs.declared.Area.{Area}
 use Rattle.model.specs.declared.Group.{Group}
 use Rattle.model.specs.declared.Layout.{Layout}
 use Rattle.model.specs.declared.Name.{Name}
-use Rattle.model.specs.declared.Operation.{Operation}
+use Rattle.model.specs.declared.Change.{Change}
 use Rattle.model.specs.declared.Pending.{Pending}
 use Rattle.model.specs.declared.Volume.{Volume}
 use Rattle.operations.proofs.Clearing.{clearing-all}
@@ -32,13 +32,13 @@ use Rattle.safety.proofs.Steps.{finish-all}
 use Rattle.safety.proofs.Operate.{Supplies, Leaves, leaves, spot, spot-in}
 use Rattle.model.specs.declared.Pending.the-variants as Pending
 
-pub record Ended (size : ℕ) (c : Card) (ds : List Store) (f : Fat) (o : Operation) (t : Card) : Type 0 where
+pub record Ended (size : ℕ) (c : Card) (ds : List Store) (f : Fat) (o : Change) (t : Card) : Type 0 where
   pub cleans : clean (window size t) ≡ granted (volume-of c Pending.Nothing)
   pub fat : (k : ℕ) → k < 2 + layout-of c .clusters → entry (fat1-of (layout-of c) t) k ≡ entry f k
   pub slots : (k : ℕ) → k < layout-of c .entries → (j : ℕ) → j < 32 → slot-at (layout-of c) t k j ≡ effect o (slot-at (layout-of c) c) k j
   pub sectors : (n : ℕ) → Clear c n → t n ≡ after ds c n
 
-module _ {size : ℕ} {c : Card} (st : Start size c) (ds : List Store) (f : Fat) (o : Operation) where
+module _ {size : ℕ} {c : Card} (st : Start size c) (ds : List Store) (f : Fat) (o : Change) where
   abbrev l : Layout
   l = layout-of c
 

@@ -15,7 +15,7 @@ use Rattle.model.specs.Volume.{clean}
 use Rattle.model.specs.Promises.{Shape}
 use Rattle.model.specs.declared.Group.{Group}
 use Rattle.model.specs.declared.Layout.{Layout}
-use Rattle.model.specs.declared.Operation.{Operation}
+use Rattle.model.specs.declared.Change.{Change}
 use Rattle.model.specs.declared.Pending.{Pending}
 use Rattle.model.specs.declared.Volume.{Volume}
 use Rattle.operations.proofs.Clearing.{clearing-length}
@@ -62,18 +62,18 @@ module _ {size : ℕ} {c : Card} (st : Start size c) where
   sh = shape-of st
 
   -- How many stores there are.
-  operate-length : (ds : List Store) (f : Fat) (o : Operation) → length (stores (operate v c ds f o)) ≤ length ds + 140000
+  operate-length : (ds : List Store) (f : Fat) (o : Change) → length (stores (operate v c ds f o)) ≤ length ds + 140000
   unfolding operate journal redo prepare
   operate-length ds f o =
       let g : Group = new-group (area-of c) c o in
       let u : Card = put (after (prepare v c ds f) c) (group-store g) in
       let fat2 = write-length l (l .fat2) f (fat2-of l c) in
       let cleared = clearing-length (area-of c) (log-of (area-of c) c) in
-      simp length-append (omega (arith, fat2, cleared, finish-length l (g .operation) u, fatsize-few st, entries-few st, log-few st))
+      simp length-append (omega (arith, fat2, cleared, finish-length l (g .change) u, fatsize-few st, entries-few st, log-few st))
 
   -- ---- operations
 
-  module _ (ds : List Store) (f : Fat) (o : Operation) (given : Supplies c ds f o) (taken released : List ℕ) where
+  module _ (ds : List Store) (f : Fat) (o : Change) (given : Supplies c ds f o) (taken released : List ℕ) where
     pub operate-fair : length ds ≤ 8388608 → ((j : ℕ) → free f j ≡ FreeThen (first-fat c) taken released j)
         → (Sound l c → (s i : ℕ) → s < l .entries → is-file (slot-at l c s) ≡ true → i < file-size (slot-at l c s)
         → Spared c ds (file-sector l (chain-of l c s) (i / 512)) (i % 512))
@@ -94,7 +94,7 @@ module _ {size : ℕ} {c : Card} (st : Start size c) where
   no-data sound s i in-root is less = record { clear = file-clear st sound s in-root is i less; kept = tt }
 
   -- An operation without data stores.
-  pub plain-fair : (f : Fat) (o : Operation) → Supplies c [] f o → (taken released : List ℕ) → ((j : ℕ) → free f j ≡ FreeThen (first-fat c) taken released j)
+  pub plain-fair : (f : Fat) (o : Change) → Supplies c [] f o → (taken released : List ℕ) → ((j : ℕ) → free f j ≡ FreeThen (first-fat c) taken released j)
       → Fair size c taken released (operate v c [] f o)
   plain-fair f o given taken released frees = operate-fair [] f o given taken released (omega arith) frees no-data
 

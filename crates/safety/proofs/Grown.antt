@@ -22,7 +22,7 @@ use Rattle.model.specs.declared.Layout.{Layout}
 use Rattle.model.specs.declared.Pending.{Pending}
 use Rattle.model.specs.declared.Volume.{Volume}
 use Rattle.operations.specs.Program.{Program, ending}
-use Rattle.operations.specs.Finish.{effect, edits}
+use Rattle.operations.specs.Finish.{effect, edits, operation-edits}
 use Rattle.operations.specs.Plan.{clusters-of, last-cluster, added, appended, append-sector, data-stores}
 use Rattle.operations.specs.Calls.{plan, appends, slot-of}
 use Rattle.operations.specs.Outcome.{left, largest}
@@ -173,11 +173,11 @@ module _ {size : ℕ} {c : Card} (st : Start size c) (s : ℕ) (live : Live (lay
     grown = resized (eqb (last-cluster own) 0) (getD new 0 0) total b
 
     pub grown-slot : effect (updates-as st s live keeps d room) dir s ≡ grown
-    unfolding edits entry-at
+    unfolding edits operation-edits entry-at
     grown-slot = one-in (updates-as st s live keeps d room) dir s (λ b. resized (eqb (last-cluster own) 0) (getD new 0 0) total b) refl
 
     pub other-slot : (k : ℕ) → (k ≡ s → ⊥) → effect (updates-as st s live keeps d room) dir k ≡ dir k
-    unfolding edits entry-at
+    unfolding edits operation-edits entry-at
     other-slot k ne = one-out (updates-as st s live keeps d room) dir s (λ b. resized (eqb (last-cluster own) 0) (getD new 0 0) total b) refl k ne
 
     pub grown-size : file-size grown ≡ total

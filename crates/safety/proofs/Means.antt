@@ -12,7 +12,7 @@ use Rattle.model.specs.Root.{Directory, slot-at, free-slot, bears, find}
 use Rattle.model.specs.Ground.{granted}
 use Rattle.model.specs.Volume.{clean}
 use Rattle.model.specs.declared.Layout.{Layout}
-use Rattle.model.specs.declared.Operation.{Operation}
+use Rattle.model.specs.declared.Change.{Change}
 use Rattle.model.specs.declared.Pending.{Pending}
 use Rattle.model.specs.declared.Volume.{Volume}
 use Rattle.operations.specs.Program.{Program}
@@ -61,7 +61,7 @@ module _ {size : ℕ} {c : Card} (st : Start size c) (is : clean (window size c)
       → bears (name-of m) b ≡ false
   not-new n m b none less h = ⊎-elim (λ e. absurd (let same : at n ≡ at m = same-at m n (h e) in omega arith)) (λ f. f) (told (bears (name-of m) b))
 
-  module _ {ds : List Store} {f : Fat} {o : Operation} {t : Card} (end : Ended size c ds f o t) (m : Span) where
+  module _ {ds : List Store} {f : Fat} {o : Change} {t : Card} (end : Ended size c ds f o t) (m : Span) where
     -- A slot that is edited, and one that is not.
     edited : (k : ℕ) → k < l .entries → (b : Bytes) → effect o d k ≡ b → bears (name-of m) b ≡ bears (name-of m) (d k)
         → bears (name-of m) (slot-at l t k) ≡ bears (name-of m) (d k)

@@ -20,7 +20,7 @@ use Rattle.model.specs.declared.Pending.{Pending}
 use Rattle.model.specs.declared.Volume.{Volume}
 use Rattle.model.proofs.Walks.{chain-length}
 use Rattle.operations.specs.Program.{Program, stores}
-use Rattle.operations.specs.Finish.{effect, edits, new-entry, set-name, mark-deleted}
+use Rattle.operations.specs.Finish.{effect, edits, operation-edits, new-entry, set-name, mark-deleted}
 use Rattle.operations.specs.Plan.{clusters-of, operate}
 use Rattle.operations.specs.Calls.{Call, plan, creates, renames, deletes, slot-of, name-of}
 use Rattle.operations.specs.Outcome.{left, largest}
@@ -93,11 +93,11 @@ module _ {size : ℕ} {c : Card} (st : Start size c) (is : clean (window size c)
 
   module _ (n : Span) (p : Program) (g : Created st is n p) {t : Card} (end : Ended size c [] fat (creates-as st n) t) where
     pub new-slot : effect (creates-as st n) d z ≡ new-entry (name-of n)
-    unfolding edits
+    unfolding edits operation-edits
     new-slot = one-in (creates-as st n) d z (λ _. new-entry (name-of n)) refl
 
     pub old-slot : (k : ℕ) → (k ≡ z → ⊥) → effect (creates-as st n) d k ≡ d k
-    unfolding edits
+    unfolding edits operation-edits
     old-slot k ne = one-out (creates-as st n) d z (λ _. new-entry (name-of n)) refl k ne
 
     create-found : Found v t n z
@@ -136,15 +136,15 @@ module _ {size : ℕ} {c : Card} (st : Start size c) (is : clean (window size c)
     apart e = live-not-free l c x (g .live) (g .room) (sym e)
 
     pub left-slot : effect (renames-as st x (g .live) m) d x ≡ mark-deleted (d x)
-    unfolding edits entry-at
+    unfolding edits operation-edits entry-at
     left-slot = two-first (renames-as st x (g .live) m) d x z (λ b. mark-deleted b) (λ b. set-name (name-of m) b) refl
 
     pub named-slot : effect (renames-as st x (g .live) m) d z ≡ b
-    unfolding edits entry-at
+    unfolding edits operation-edits entry-at
     named-slot = two-second (renames-as st x (g .live) m) d x z (λ b. mark-deleted b) (λ b. set-name (name-of m) b) refl apart
 
     pub rest-slot : (k : ℕ) → (k ≡ x → ⊥) → (k ≡ z → ⊥) → effect (renames-as st x (g .live) m) d k ≡ d k
-    unfolding edits entry-at
+    unfolding edits operation-edits entry-at
     rest-slot k ne other = two-out (renames-as st x (g .live) m) d x z (λ b. mark-deleted b) (λ b. set-name (name-of m) b) refl k ne other
 
     x-listed : listed (d x) ≡ true
@@ -249,11 +249,11 @@ module _ {size : ℕ} {c : Card} (st : Start size c) (is : clean (window size c)
   module _ (n : Span) (p : Program) (g : Deleted st is n p) {t : Card}
       (end : Ended size c [] (release (ks st (at n) (g .it .live) (g .it .keeps)) fat) (deletes-as st (at n) (g .it .live) (g .it .keeps)) t) where
     pub gone-slot : effect (deletes-as st (at n) (g .it .live) (g .it .keeps)) d (at n) ≡ mark-deleted (d (at n))
-    unfolding edits entry-at
+    unfolding edits operation-edits entry-at
     gone-slot = one-in (deletes-as st (at n) (g .it .live) (g .it .keeps)) d (at n) (λ b. mark-deleted b) refl
 
     pub kept-slot : (k : ℕ) → (k ≡ at n → ⊥) → effect (deletes-as st (at n) (g .it .live) (g .it .keeps)) d k ≡ d k
-    unfolding edits entry-at
+    unfolding edits operation-edits entry-at
     kept-slot k ne = one-out (deletes-as st (at n) (g .it .live) (g .it .keeps)) d (at n) (λ b. mark-deleted b) refl k ne
 
     not-there : bears (name-of n) (slot-at l t (at n)) ≡ false

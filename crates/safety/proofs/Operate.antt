@@ -17,7 +17,7 @@ use Rattle.model.specs.Promises.{Shape}
 use Rattle.model.specs.declared.Area.{Area}
 use Rattle.model.specs.declared.Group.{Group}
 use Rattle.model.specs.declared.Layout.{Layout}
-use Rattle.model.specs.declared.Operation.{Operation}
+use Rattle.model.specs.declared.Change.{Change}
 use Rattle.model.specs.declared.Pending.{Pending}
 use Rattle.model.specs.declared.Volume.{Volume}
 use Rattle.operations.proofs.Clearing.{clearing-all}
@@ -48,7 +48,7 @@ Inside c s = s .sector < layout-of c .total
 
 -- What an operation supplies: its data goes to data sectors outside the log; its FAT marks the same clusters as the log; its group can be
 -- written and read again, and RECORD accepts it; no slot that it fills begins 0.
-pub record Supplies (c : Card) (ds : List Store) (f : Fat) (o : Operation) : Type 0 where
+pub record Supplies (c : Card) (ds : List Store) (f : Fat) (o : Change) : Type 0 where
   pub outside : All (λ s. Clear c (s .sector)) ds
   pub marks : SameMarks (layout-of c) f (first-fat c)
   pub named : Named o
@@ -57,7 +57,7 @@ pub record Supplies (c : Card) (ds : List Store) (f : Fat) (o : Operation) : Typ
   pub lives : Lives (slot-at (layout-of c) c) o
 
 -- What a finished operation leaves: a clean card, both FATs as the operation wants them, the root directory with its effect.
-pub record Leaves (size : ℕ) (c : Card) (f : Fat) (o : Operation) (t : Card) : Type 0 where
+pub record Leaves (size : ℕ) (c : Card) (f : Fat) (o : Change) (t : Card) : Type 0 where
   pub cleans : clean (window size t) ≡ granted (volume-of c Pending.Nothing)
   pub fat1 : (s : ℕ) → s < layout-of c .fatsize → fat1-of (layout-of c) t s ≡ clip (f s)
   pub fat2 : (s : ℕ) → s < layout-of c .fatsize → fat2-of (layout-of c) t s ≡ clip (f s)
@@ -105,7 +105,7 @@ module _ {size : ℕ} {c : Card} (st : Start size c) where
       } in
       (own, data-harmless ds es (λ n j m. h n j m .1) (k .1))
 
-  module _ (ds : List Store) (f : Fat) (o : Operation) (given : Supplies c ds f o) where
+  module _ (ds : List Store) (f : Fat) (o : Change) (given : Supplies c ds f o) where
     abbrev prep : List Store
     prep = prepare v c ds f
 

@@ -10,7 +10,7 @@ use Rattle.model.specs.Fat.{Fat, entry}
 use Rattle.model.specs.Chain.{file-sector}
 use Rattle.model.specs.Root.{Directory, slot-at, free-slot, is-file, is-directory, is-label, listed, vacant, file-size}
 use Rattle.model.specs.declared.Layout.{Layout}
-use Rattle.model.specs.declared.Operation.{Operation}
+use Rattle.model.specs.declared.Change.{Change}
 use Rattle.operations.specs.Finish.{effect}
 use Rattle.safety.specs.Sound.{Sound, chain-of, proper}
 use Rattle.safety.specs.Saved.{SameFile}
@@ -49,7 +49,7 @@ pub file-not-free : (l : Layout) (c : Card) (s : ℕ) → s < l .entries → is-
 file-not-free l c s less h room e = live-not-free l c s (file-live l c s less h) room e
 
 -- What an operation supplies of each root file but the one in slot x: the slot, the entries along the chain and the bytes stay.
-pub record Spares (c : Card) (ds : List Store) (f : Fat) (o : Operation) (x : ℕ) : Type 0 where
+pub record Spares (c : Card) (ds : List Store) (f : Fat) (o : Change) (x : ℕ) : Type 0 where
   pub slot : (s : ℕ) → s < layout-of c .entries → is-file (slot-at (layout-of c) c s) ≡ true → (s ≡ x → ⊥)
       → effect o (slot-at (layout-of c) c) s ≡ slot-at (layout-of c) c s
   pub fat : (s : ℕ) → s < layout-of c .entries → is-file (slot-at (layout-of c) c s) ≡ true → (s ≡ x → ⊥)
@@ -87,7 +87,7 @@ module _ {size : ℕ} {c : Card} (st : Start size c) (sound : Sound (layout-of c
   pub owned-old : (becomes : ℕ → ℕ) (x s r : ℕ) → r < l .entries → is-file (d r) ≡ true → becomes r ≡ s → All (Owner c becomes x s) (chain-of l c r)
   owned-old becomes x s r less file e = all-mem (Owner c becomes x s) (chain-of l c r) (λ k m. Owner.old r less file m e)
 
-  module _ {ds : List Store} {f : Fat} {o : Operation} {x : ℕ} (spares : Spares c ds f o x) {t : Card} (end : Ended size c ds f o t) where
+  module _ {ds : List Store} {f : Fat} {o : Change} {x : ℕ} (spares : Spares c ds f o x) {t : Card} (end : Ended size c ds f o t) where
     module _ (s : ℕ) (less : s < l .entries) (file : is-file (d s) ≡ true) (ne : s ≡ x → ⊥) where
       other-chain : HasChain l t s (chain-of l c s)
       other-chain = kept-then st end s less (d s) (spares .slot s less file ne) s refl refl (sound .chains s less file) (spares .fat s less file ne)

@@ -45,9 +45,8 @@ module _ (size : ℕ) (c : Card) (h : Examined size c) where
       let p = group-place (l .entries) (end-slot (l .entries) (first-bytes l c)) (area-of c) (log-of (area-of c) c) n e in
       let less : p .0 < area-of c .sectors = p .1 in
       let at : n ≡ area-of c .sector + p .0 = p .2 in
-      all-append (Inside c) (finish l (g .operation) c) _
-      (finish-all l (g .operation) c (Inside c) (λ s less. omega (arith, sh)) (λ r less. omega (arith, sh)))
-      (omega (arith, area-high l (first-fat c) sh), tt)
+      all-append (Inside c) (finish l (g .change) c) _
+      (finish-all l (g .change) c (Inside c) (λ s less. omega (arith, sh)) (λ r less. omega (arith, sh))) (omega (arith, area-high l (first-fat c) sh), tt)
 
 pub recovery-within : RecoveryWithin
 unfolding plan recover

@@ -19,7 +19,7 @@ use Rattle.model.specs.Promises.{Shape}
 use Rattle.model.specs.declared.Area.{Area}
 use Rattle.model.specs.declared.Group.{Group}
 use Rattle.model.specs.declared.Layout.{Layout}
-use Rattle.model.specs.declared.Operation.{Operation}
+use Rattle.model.specs.declared.Change.{Change}
 use Rattle.model.specs.declared.Pending.{Pending}
 use Rattle.operations.specs.Program.{segment, ending}
 use Rattle.operations.specs.Finish.{finish, redo, root-sector}
@@ -39,7 +39,7 @@ use Rattle.safety.proofs.After.{Entered, last-slot, Mixed, still-kept, 
 use Rattle.safety.proofs.After.{finish-keeps, finish-whole, done-mixed, start-mixed, done-fat1, still-fat2, done-root}
 use Rattle.model.specs.declared.Pending.the-variants as Pending
 
-module _ {size : ℕ} {c : Card} (st : Start size c) {u : Card} {i : ℕ} {o : Operation} (h : Entered c u i o) where
+module _ {size : ℕ} {c : Card} (st : Start size c) {u : Card} {i : ℕ} {o : Change} (h : Entered c u i o) where
   abbrev l : Layout
   l = layout-of c
 

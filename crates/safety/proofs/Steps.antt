@@ -13,7 +13,7 @@ use Rattle.model.specs.Fat.{Fat, write-fat, fat2-of, fat1-of}
 use Rattle.model.specs.Root.{root-place, slot-at}
 use Rattle.model.specs.Log.{log-of}
 use Rattle.model.specs.declared.Layout.{Layout}
-use Rattle.model.specs.declared.Operation.{Operation}
+use Rattle.model.specs.declared.Change.{Change}
 use Rattle.model.specs.declared.Volume.{Volume}
 use Rattle.operations.proofs.Clearing.{clearing-all}
 use Rattle.operations.specs.Finish.{root-sector, effect, root-stores, concerns, finish}
@@ -39,7 +39,7 @@ prepare-all v c ds f P own fat log =
 
 -- ---- after it
 
-module _ (l : Layout) (o : Operation) (c : Card) where
+module _ (l : Layout) (o : Change) (c : Card) where
   -- The store of a root sector.
   abbrev pub root-store : ℕ → Store
   root-store r = store (root-place l r) (root-sector (effect o (slot-at l c)) r)

@@ -4,8 +4,9 @@ use native.Mathlib.Omega.{arith}
 use mathlib.Core.Path.{_≡_, refl}
 use mathlib.Core.List.{List, []}
 use mathlib.Core.Bool.{true}
+use lib.Dec.{eqb}
 use lib.ListN.{getD, take, drop, length}
-use Rattle.model.specs.Bytes.{Bytes, Span}
+use Rattle.model.specs.Bytes.{Bytes, Span, overlay, byte-of}
 use Rattle.model.specs.Sector.{Card}
 use Rattle.model.specs.Fat.{Fat, entry, release, free-clusters}
 use Rattle.model.specs.Chain.{keeps-chain, needed}
@@ -13,18 +14,20 @@ use Rattle.model.specs.Root.{slot-at, name-ok, free-slot, name-in, entry-at, fi
 use Rattle.model.specs.Promises.{Shape}
 use Rattle.model.specs.declared.Entry.{Entry}
 use Rattle.model.specs.declared.Layout.{Layout}
-use Rattle.model.specs.declared.Operation.{Operation}
+use Rattle.model.specs.declared.Change.{Change}
 use Rattle.model.specs.declared.Operation.the-variants.{Create, Update, Rename, Delete, Truncate}
+use Rattle.operations.specs.Finish.{operation-edits, edits, new-entry}
 use Rattle.operations.specs.Plan.{shorten, extend, last-cluster, added}
 use Rattle.model.proofs.All.{All, all-take, all-drop}
 use Rattle.model.proofs.Names.{name-starts, name-fits, free-low, Live, live-not-free}
 use Rattle.model.proofs.Volumes.{layout-of, first-fat}
 use Rattle.safety.proofs.Start.{Start, shape-of, entries-few}
+use Rattle.safety.proofs.Effect.{resized-lives}
 use Rattle.safety.proofs.Operate.{Supplies}
 use Rattle.safety.proofs.Clusters.{Plain, released-marks, plain-fits, shorten-marks, extend-marks}
 use Rattle.model.proofs.Records.{fits-create, fits-update, fits-delete, fits-truncate, fits-rename}
-use Rattle.model.proofs.Pendings.{recorded-create, recorded-update, recorded-delete, recorded-truncate, recorded-rename}
-use Rattle.model.specs.Record.{records, record-of}
+use Rattle.model.proofs.Pendings.{recorded-create, recorded-update, recorded-delete, recorded-truncate, recorded-rename, starts-not-zero}
+use Rattle.model.specs.Record.{operation-records, records, record-of, plain}
 use Rattle.safety.proofs.After.{last-slot}
 use Rattle.safety.proofs.Operations.{entry-fits, slot-seat, slot-named, slot-lives, first-fits, size-fits, the-chain, old-plain, old-busy}
 use Rattle.safety.proofs.Appends.{new, ds, total, new-plain, total-fits, outside}
@@ -39,18 +42,18 @@ module _ {size : ℕ} {c : Card} (st : Start size c) where
   sh : Shape l
   sh = shape-of st
 
-  abbrev pub creates-as : Span → Operation
-  creates-as n = Create (record { slot = free-slot l c; name = name-in (n .byte); attributes = 0x20 })
+  abbrev pub creates-as : Span → Change
+  creates-as n = plain (Create (record { slot = free-slot l c; name = name-in (n .byte); attributes = 0x20 }))
 
   pub create-supplies : (n : Span) → name-ok n ≡ true → free-slot l c < l .entries → Supplies c [] fat (creates-as n)
-  unfolding records record-of
+  unfolding records operation-records record-of edits operation-edits new-entry overlay byte-of
   create-supplies n ok room = record {
     outside = tt;
     marks = λ k low high. refl;
     named = name-starts n ok;
     fits = fits-create _ (record { slot = omega (arith, entries-few st, room); name = name-fits n ok; attributes = omega arith });
     recorded = recorded-create (l .entries) (last-slot c) _ (room, free-low l c);
-    lives = name-starts n ok;
+    lives = (starts-not-zero _ (name-starts n ok), tt);
   }
 
   module _ (s : ℕ) (live : Live l c s) where
@@ -60,11 +63,11 @@ module _ {size : ℕ} {c : Card} (st : Start size c) where
     abbrev e : Entry
     e = entry-at s b
 
-    abbrev pub renames-as : Span → Operation
-    renames-as n = Rename e (first-cluster b) (file-size b) (free-slot l c) (name-in (n .byte))
+    abbrev pub renames-as : Span → Change
+    renames-as n = plain (Rename e (first-cluster b) (file-size b) (free-slot l c) (name-in (n .byte)))
 
     pub rename-supplies : (n : Span) → name-ok n ≡ true → free-slot l c < l .entries → Supplies c [] fat (renames-as n)
-    unfolding entry-at records record-of
+    unfolding entry-at records operation-records record-of edits operation-edits overlay byte-of
     rename-supplies n ok room = record {
       outside = tt;
       marks = λ k low high. refl;
@@ -72,35 +75,35 @@ module _ {size : ℕ} {c : Card} (st : Start size c) where
       fits = fits-rename _ _ _ _ _ (entry-fits st s live) (first-fits st s live) (size-fits st s live) (omega (arith, entries-few st, room)) (name-fits n ok);
       recorded = recorded-rename (l .entries) (last-slot c) _ _ _ _ _ (slot-seat st s live) (room, free-low l c) (live-not-free l c s live room)
           (name-starts n ok);
-      lives = tt;
+      lives = ((λ r. omega arith), (starts-not-zero _ (name-starts n ok), tt));
     }
 
     module _ (whole : keeps-chain l (entry fat) (first-cluster b) (file-size b) ≡ true) where
       abbrev pub ks : List ℕ
       ks = the-chain st s live whole
 
-      abbrev pub deletes-as : Operation
-      deletes-as = Delete e (first-cluster b) (file-size b)
+      abbrev pub deletes-as : Change
+      deletes-as = plain (Delete e (first-cluster b) (file-size b))
 
       pub delete-supplies : Supplies c [] (release ks fat) deletes-as
-      unfolding entry-at records record-of
+      unfolding entry-at records operation-records record-of edits operation-edits overlay byte-of
       delete-supplies = record {
         outside = tt;
         marks = λ k low high. released-marks l (sh .few) fat ks (old-plain st s live whole) k;
         named = slot-named st s live;
         fits = fits-delete _ _ _ (entry-fits st s live) (first-fits st s live) (size-fits st s live);
         recorded = recorded-delete (l .entries) (last-slot c) _ _ _ (slot-seat st s live);
-        lives = tt;
+        lives = ((λ r. omega arith), tt);
       }
 
       abbrev pub cut-fat : ℕ → Fat
       cut-fat n = shorten (take (needed l n) ks) (drop (needed l n) ks) fat
 
-      abbrev pub truncates-as : ℕ → Operation
-      truncates-as n = Truncate e (first-cluster b) (getD (drop (needed l n) ks) 0 0) n
+      abbrev pub truncates-as : ℕ → Change
+      truncates-as n = plain (Truncate e (first-cluster b) (getD (drop (needed l n) ks) 0 0) n)
 
       pub truncate-supplies : (n : ℕ) → n ≤ file-size b → Supplies c [] (cut-fat n) (truncates-as n)
-      unfolding entry-at records record-of
+      unfolding entry-at records operation-records record-of edits operation-edits overlay byte-of
       truncate-supplies n less =
           let m : ℕ = needed l n in
           let plain : All (Plain l fat) (take m ks) = all-take (Plain l fat) m ks (old-plain st s live whole) in
@@ -113,18 +116,18 @@ module _ {size : ℕ} {c : Card} (st : Start size c) where
             named = slot-named st s live;
             fits = fits-truncate _ _ (getD (drop m ks) 0 0) n (entry-fits st s live) (first-fits st s live) (omega arith) (omega (arith, size-fits st s live));
             recorded = recorded-truncate (l .entries) (last-slot c) _ _ _ _ (slot-seat st s live) from;
-            lives = slot-lives st s live;
+            lives = (resized-lives (eqb n 0) 0 n b (slot-lives st s live), tt);
           }
 
       module _ (d : Span) (room : added l (file-at l c s) (d .size) ≤ length (free-clusters l fat)) where
         abbrev pub longer-fat : Fat
         longer-fat = extend ks (new st s live whole d room) fat
 
-        abbrev pub updates-as : Operation
-        updates-as = Update e (last-cluster ks) (getD (new st s live whole d room) 0 0) (total st s live whole d room)
+        abbrev pub updates-as : Change
+        updates-as = plain (Update e (last-cluster ks) (getD (new st s live whole d room) 0 0) (total st s live whole d room))
 
         pub append-supplies : Supplies c (ds st s live whole d room) longer-fat updates-as
-        unfolding entry-at records record-of
+        unfolding entry-at records operation-records record-of edits operation-edits overlay byte-of
         append-supplies =
             let few : l .clusters ≤ 65524 = sh .few in
             let from : getD (new st s live whole d room) 0 0 < 65536 = plain-fits l few fat (new st s live whole d room) (new-plain st s live whole d room) 0 in
@@ -136,5 +139,9 @@ module _ {size : ℕ} {c : Card} (st : Start size c) where
               fits = fits-update _ _ (getD (new st s live whole d room) 0 0) (total st s live whole d room) (entry-fits st s live)
                   (plain-fits l few fat ks (old-plain st s live whole) (length ks - 1)) (omega arith) (total-fits st s live whole d room);
               recorded = recorded-update (l .entries) (last-slot c) _ _ _ _ (slot-seat st s live) from;
-              lives = slot-lives st s live;
+              lives = (
+                resized-lives (eqb (last-cluster ks) 0) (getD (new st s live whole d room) 0 0) (total st s live whole d room) b
+                    (slot-lives st s live),
+                tt,
+              );
             }

@@ -1,7 +1,8 @@
+use mathlib.Core.Path.{sym, subst}
 use Rattle.model.specs.Sector.{card-of}
 use Rattle.operations.specs.Plan.{old-fat}
 use Rattle.call_truncate.proofs.Cuts.{all-inside, delete-is}
-use Rattle.operations.specs.Finish.{edits}
+use Rattle.operations.specs.Finish.{Slots, edits, operation-edits}
 use borrow.Author.Needs.{needs}
 use Rattle.call_truncate.proofs.delete_file.Statement.{statement}
 use Rattle.call_truncate.proofs.delete_file.Tie as tie
@@ -11,23 +12,28 @@ use Rattle.fat_chain.proofs.clusters_for.Reads as clusters-for-reads
 use Rattle.call_truncate.proofs.shorten.Reads as shorten-reads
 
 shorten-requires : tie.Need-shorten-requires
-unfolding edits
+unfolding edits operation-edits
 shorten-requires c κs =
-    let pre = c .before .before .before .before .before .pre in
-    let a = c .before .before .before .before .before .args in (
-      pre .0,
+    let k = c .before .before .before in
+    let b = k .before .before .before in
+    let a = b .args in
+    let p = b .pre in
+    let s = p .1 .seated .slot in (
+      p .0,
       (
-        rw (c .before .before .clusters-for .ensures)
-            (all-inside (a .v .layout) (pre .0 .0 .fits) (old-fat (a .v) (card-of (a .w .now))) (a .f) (pre .1 .chain)),
-        ((pre .1 .seated .slot, pre .1 .seated .slot), tt),
+        rw (k .clusters-for .ensures) (all-inside (a .v .layout) (p .0 .0 .fits) (old-fat (a .v) (card-of (a .w .now))) (a .f) (p .1 .chain)),
+        subst (Slots (a .v .layout .entries)) (sym (c .plain .ensures)) ((s, s), tt),
       ),
     )
 
 returns : tie.Need-returns
 returns c =
-    let args = c .before .before .before .before .before .before .before .before .args in
-    let clusters-for = c .before .before .before .before .before .clusters-for in
-    rw (delete-is (args .v) (card-of (args .w .now)) (args .f), ← clusters-for .ensures) (c .before .before .shorten .ensures)
+    let g = c .before .before .before in
+    let k = g .before .before .before in
+    let a = k .before .before .before .args in
+    rw (delete-is (a .v) (card-of (a .w .now)) (a .f), ← k .clusters-for .ensures) (rw (g .plain .ensures) at (c .before .before .shorten .ensures))
 
 pub delete-file-spec : {M : Type 1} → statement M
-delete-file-spec = tie.close (tie.spec (λ c κs. search needs) shorten-requires (λ c. search needs) returns)
+delete-file-spec =
+    tie.close
+    (tie.spec (λ c κs. search needs) (λ c κs. search needs) shorten-requires (λ c. search needs) returns)

@@ -16,7 +16,7 @@ returns c =
     let pre = c .before .before .before .before .before .before .before .before .pre in
     let shorten-fat = c .before .before .before .before .shorten-fat in
     let a = c .before .before .before .before .before .before .before .before .args in
-    steps-cut (a .v) (cut (old-fat (a .v) (card-of (a .w .now))) (a .c .kept) (a .c .from) (a .c .freed)) (a .o) (pre .0 .0 .fits .shape) (pre .0 .1)
+    steps-cut (a .v) (cut (old-fat (a .v) (card-of (a .w .now))) (a .c .kept) (a .c .from) (a .c .freed)) (a .x) (pre .0 .0 .fits .shape) (pre .0 .1)
     (a .limit) (a .w .now) _ _
     (rw (not-true (shorten-fat .result .whole) (c .if1 .taken)) at (shorten-fat .ensures))
 
@@ -27,7 +27,7 @@ returns-2 c =
     let if1 = c .before .before .before .before .before .if1 in
     let log-steps = c .before .before .before .log-steps in
     let a = c .before .before .before .before .before .before .before .before .before .before .before .before .before .args in
-    steps-ran (a .v) (cut (old-fat (a .v) (card-of (a .w .now))) (a .c .kept) (a .c .from) (a .c .freed)) (a .o) (pre .0 .0 .fits .shape) (pre .0 .1)
+    steps-ran (a .v) (cut (old-fat (a .v) (card-of (a .w .now))) (a .c .kept) (a .c .from) (a .c .freed)) (a .x) (pre .0 .0 .fits .shape) (pre .0 .1)
     (a .limit) (a .w .now) _ _
     (rw (not-false (shorten-fat .result .whole) (if1 .left)) at (shorten-fat .ensures)) _ _ _ (log-steps .ensures)
 

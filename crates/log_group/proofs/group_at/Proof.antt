@@ -1,10 +1,10 @@
-use Rattle.model.specs.Record.{group-in}
+use Rattle.model.specs.Record.{group-in, change-of}
 use borrow.Author.Needs.{needs}
 use Rattle.log_group.proofs.group_at.Statement.{statement}
 use Rattle.log_group.proofs.group_at.Tie as tie
 
 returns : tie.Need-returns
-unfolding group-in
+unfolding group-in change-of
 returns c = rw (c .before .group-size .ensures .0, c .decode .ensures)
 
 pub group-at-spec : {M : Type 1} → statement M

@@ -19,7 +19,7 @@ returns c =
     let a = c .before .before .before .before .before .before .before .args in
     let e = card-of (a .w .now) in
     ran-stop (a .limit) (write-fat (a .l) (a .l .fat1) (fat2-of (a .l) e) (fat1-of (a .l) e)) (a .w .now) (to-fat1 .last .0) (to-fat1 .result .made)
-    (rw (not-true (to-fat1 .result .whole) (c .if1 .taken)) at (to-fat1 .ensures)) (root-stores (a .l) (a .o) e)
+    (rw (not-true (to-fat1 .result .whole) (c .if1 .taken)) at (to-fat1 .ensures)) (root-stores (a .l) (a .x) e)
 
 returns-2 : tie.Need-returns-2
 unfolding finish
@@ -34,8 +34,8 @@ returns-2 c =
     let m = to-fat1 .result .made in
     let one = rw (not-false (to-fat1 .result .whole) (if1 .left)) at (to-fat1 .ensures) in
     ran-then (a .limit) (write-fat (a .l) (a .l .fat1) (fat2-of (a .l) e) (fat1-of (a .l) e)) (a .w .now) x m one
-    (root-stores (a .l) (a .o) e) (store-root .last .0) (store-root .result .made) (store-root .result .whole)
-    (rw (root-kept (a .l) (pre .0 .fits .shape) (a .limit) (a .w .now) x m _ (a .o) (pre .1) one) at (store-root .ensures))
+    (root-stores (a .l) (a .x) e) (store-root .last .0) (store-root .result .made) (store-root .result .whole)
+    (rw (root-kept (a .l) (pre .0 .fits .shape) (a .limit) (a .w .now) x m _ (a .x) (pre .1) one) at (store-root .ensures))
 
 pub finish-spec : {M : Type 1} → statement M
 finish-spec =

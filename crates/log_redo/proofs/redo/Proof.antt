@@ -16,27 +16,27 @@ use Rattle.log_redo.proofs.finish.Reads as finish-reads
 returns : tie.Need-returns
 unfolding redo
 returns c =
-    let finish-2 = c .before .before .before .before .finish in
-    let a = c .before .before .before .before .before .before .before .args in
+    let f = c .before .before .before .before in
+    let a = f .before .before .before .before .args in
     let e = card-of (a .w .now) in
-    ran-stop (a .limit) (finish (a .l) (a .g .operation) e) (a .w .now) (finish-2 .last .0) (finish-2 .result .made)
-    (rw (not-true (finish-2 .result .whole) (c .if1 .taken)) at (finish-2 .ensures)) (commit e (a .g) ∷ [])
+    ran-stop (a .limit) (finish (a .l) (a .g .change) e) (a .w .now) (f .finish .last .0) (f .finish .result .made)
+    (rw (not-true (f .finish .result .whole) (c .if1 .taken)) at (f .finish .ensures)) (commit e (a .g) ∷ [])
 
 returns-2 : tie.Need-returns-2
 unfolding redo
 returns-2 c =
-    let pre = c .before .before .before .before .before .before .before .before .before .before .before .before .pre in
-    let finish-2 = c .before .before .before .before .before .before .before .before .before .finish in
-    let if1 = c .before .before .before .before .before .if1 in
-    let commit-2 = c .before .before .before .commit in
-    let a = c .before .before .before .before .before .before .before .before .before .before .before .before .args in
+    let q = c .before .before .before in
+    let t = q .before .before in
+    let f = t .before .before .before .before in
+    let b = f .before .before .before .before in
+    let a = b .args in
     let e = card-of (a .w .now) in
-    let x = finish-2 .last .0 in
-    let m = finish-2 .result .made in
-    let one = rw (not-false (finish-2 .result .whole) (if1 .left)) at (finish-2 .ensures) in
-    ran-then (a .limit) (finish (a .l) (a .g .operation) e) (a .w .now) x m one
-    (commit e (a .g) ∷ []) (commit-2 .last .0) (commit-2 .result .made) (commit-2 .result .whole)
-    (rw (group-kept (a .l) (pre .0 .fits .shape) (a .limit) (a .w .now) x m _ (a .g .operation) (a .g) (pre .1 .1 .0) one) at (commit-2 .ensures))
+    let x = f .finish .last .0 in
+    let m = f .finish .result .made in
+    let one = rw (not-false (f .finish .result .whole) (t .if1 .left)) at (f .finish .ensures) in
+    ran-then (a .limit) (finish (a .l) (a .g .change) e) (a .w .now) x m one
+    (commit e (a .g) ∷ []) (q .commit .last .0) (q .commit .result .made) (q .commit .result .whole)
+    (rw (group-kept (a .l) (b .pre .0 .fits .shape) (a .limit) (a .w .now) x m _ (a .g .change) (a .g) (b .pre .1 .1 .0) one) at (q .commit .ensures))
 
 pub redo-spec : {M : Type 1} → statement M
 redo-spec =

@@ -18,7 +18,7 @@ returns : tie.Need-returns
 returns c =
     let a = c .before .before .before .before .before .before .before .before .before .before .before .args in
     let clear-log = c .before .before .before .before .clear-log in
-    log-steps-cut (a .limit) (a .v) (a .o) (a .w .now) _ _ (rw (not-true (clear-log .result .whole) (c .if1 .taken)) at (clear-log .ensures))
+    log-steps-cut (a .limit) (a .v) (a .x) (a .w .now) _ _ (rw (not-true (clear-log .result .whole) (c .if1 .taken)) at (clear-log .ensures))
 
 store-and-redo-requires : tie.Need-store-and-redo-requires
 store-and-redo-requires c κs =
@@ -36,7 +36,7 @@ returns-2 c =
     let if1 = c .before .before .before .before .before .before .if1 in
     let records-of = c .before .before .before .before .before .records-of in
     let store-and-redo = c .before .before .before .store-and-redo in
-    log-steps-ran (a .limit) (a .v) (a .o) (a .w .now) _ _ (rw (not-false (clear-log .result .whole) (if1 .left)) at (clear-log .ensures)) _ _ _
+    log-steps-ran (a .limit) (a .v) (a .x) (a .w .now) _ _ (rw (not-false (clear-log .result .whole) (if1 .left)) at (clear-log .ensures)) _ _ _
     (rw (group-sector .ensures, records-of .ensures .0) at (store-and-redo .ensures))
 
 pub log-steps-spec : {M : Type 1} → statement M

@@ -21,10 +21,10 @@ use Rattle.log_write.proofs.record_of.Reads as record-of-reads
 use Rattle.log_write.proofs.records_of.Reads as records-of-reads
 
 abbrev Inv-loop : tie.InvT-loop
-Inv-loop o n buf₀ k₀ buf k = (k ≤ n) × (length buf ≡ 512) × (bytes-of buf ≡ lay (map record-bytes (take k (records o))))
+Inv-loop x n buf₀ k₀ buf k = (k ≤ n) × (length buf ≡ 512) × (bytes-of buf ≡ lay (map record-bytes (take k (records x))))
 
 abbrev μ-loop : tie.MeasureT-loop
-μ-loop o n buf₀ k₀ buf k = n - k
+μ-loop x n buf₀ k₀ buf k = n - k
 
 loop-holds : tie.Need-loop-holds Inv-loop μ-loop
 loop-holds c = (search needs, search needs, lay-zeros)
@@ -41,7 +41,7 @@ loop-again c =
     let record-bytes-2 = c .before .before .record-bytes in (
       search needs,
       search needs,
-      lay-next (records (a .o)) (turn .k) (bytes-of (record-bytes-2 .result)) (bytes-of (turn .buf))
+      lay-next (records (a .x)) (turn .k) (bytes-of (record-bytes-2 .result)) (bytes-of (turn .buf))
           (bytes-of (c .lay .result)) (omega (arith, records-of .ensures .0)) (record-bytes-2 .ensures ∙ ap record-bytes (record-of .ensures))
           (turn .inv .2) (c .lay .ensures ∙ ap (λ (z : ℕ). overlay 32 (bytes-of (record-bytes-2 .result)) (32 * z) (bytes-of (turn .buf)))
           (c .before .index .ensures)),
@@ -52,7 +52,7 @@ unfolding encode
 returns c =
     let a = c .before .before .before .args in
     c .before .loop .inv .2 ∙ ap (λ (rs : List Record). lay (map record-bytes rs))
-    (take-all (c .before .loop .k) (records (a .o)) (omega (arith, c .before .before .records-of .ensures .0)))
+    (take-all (c .before .loop .k) (records (a .x)) (omega (arith, c .before .before .records-of .ensures .0)))
 
 pub encode-group-spec : {M : Type 1} → statement M
 encode-group-spec =

@@ -13,9 +13,9 @@ use Rattle.log_write.proofs.encode_group.Reads as encode-group-reads
 returns : tie.Need-returns
 unfolding group-store
 returns c =
-    let a = c .before .before .before .before .before .before .before .args in
-    let encode-group = c .before .before .before .before .before .encode-group in
-    rw (ap (λ (b : Bytes). store (a .g .sector) b) (encode-group .ensures)) at (c .before .before .store-sector .ensures)
+    let before = c .before .before .before .before .before in
+    let b = before in
+    rw (ap (λ (y : Bytes). store (b .before .before .before .args .g .sector) y) (b .encode-group .ensures)) at (c .before .before .store-sector .ensures)
 
 pub store-group-spec : {M : Type 1} → statement M
 store-group-spec = tie.close (tie.spec (λ c κs. search needs) (λ c κs. search needs) (λ c. search needs) returns)

@@ -1,6 +1,6 @@
 use Rattle.model.specs.Scan.{any}
 use borrow.Author.Tests.{eq-eqb, ne-eqb}
-use Rattle.operations.specs.Finish.{concerns, edits}
+use Rattle.operations.specs.Finish.{concerns, edits, operation-edits}
 use Rattle.root_write.proofs.Laws.{or-one}
 use borrow.Author.Needs.{needs}
 use Rattle.root_write.proofs.concerns.Statement.{statement}
@@ -9,27 +9,27 @@ use Rattle.root_write.proofs.concerns.Reads as reads
 use Rattle.root_write.proofs.concerns.Lts as lts
 
 returns : tie.Need-returns
-unfolding concerns edits any
+unfolding concerns edits operation-edits any
 returns c = rw (c .before .before .before .o5 .given .1, eq-eqb _ _ (c .if1 .taken))
 
 returns-2 : tie.Need-returns-2
-unfolding concerns edits any
+unfolding concerns edits operation-edits any
 returns-2 c = rw (c .before .before .o .given .1) (or-one _)
 
 returns-3 : tie.Need-returns-3
-unfolding concerns edits any
+unfolding concerns edits operation-edits any
 returns-3 c = rw (c .before .before .o2 .given .1) (or-one _)
 
 returns-4 : tie.Need-returns-4
-unfolding concerns edits any
+unfolding concerns edits operation-edits any
 returns-4 c = rw (c .before .before .o3 .given .1) (or-one _)
 
 returns-5 : tie.Need-returns-5
-unfolding concerns edits any
+unfolding concerns edits operation-edits any
 returns-5 c = rw (c .before .before .o4 .given .1) (or-one _)
 
 returns-6 : tie.Need-returns-6
-unfolding concerns edits any
+unfolding concerns edits operation-edits any
 returns-6 c = rw (c .before .before .before .o5 .given .1, ne-eqb _ _ (c .if1 .left)) (or-one _)
 
 pub concerns-spec : {M : Type 1} → statement M

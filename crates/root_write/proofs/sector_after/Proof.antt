@@ -33,7 +33,7 @@ loop-again c =
     let slot-after = c .before .before .slot-after in (
       search needs,
       search needs,
-      laid-more (effect (a .o) (slot-at (a .l) (card-of (a .w .now)))) (a .r) (turn .i) (c .before .index .result)
+      laid-more (effect (a .x) (slot-at (a .l) (card-of (a .w .now)))) (a .r) (turn .i) (c .before .index .result)
           (bytes-of (turn .buf)) (bytes-of (slot-after .result)) (bytes-of (c .lay .result)) (c .before .index .ensures) (turn .inv .2)
           (slot-after .ensures) (c .lay .ensures),
     )

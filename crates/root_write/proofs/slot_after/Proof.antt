@@ -1,7 +1,7 @@
 use Rattle.model.specs.Bytes.{bytes-of}
 use Rattle.model.specs.Sector.{card-of}
 use Rattle.model.specs.Root.{slot-at}
-use Rattle.operations.specs.Finish.{edits}
+use Rattle.operations.specs.Finish.{effect, edits, operation-edits}
 use Rattle.root_write.proofs.Laws.{out, in-create, in-update, in-delete, in-truncate, in-rename, in-renamed}
 use borrow.Author.Needs.{needs}
 use Rattle.root_write.proofs.slot_after.Statement.{statement}
@@ -15,6 +15,7 @@ use Rattle.root_write.proofs.mark.Reads as mark-reads
 use Rattle.root_write.proofs.resize.Reads as resize-reads
 
 returns : tie.Need-returns
+unfolding effect edits
 returns c =
     let a = c .before .before .before .before .before .before .before .before .args in
     let load-slot = c .before .before .before .before .before .before .load-slot in
@@ -23,6 +24,7 @@ returns c =
     (load-slot .ensures) (o .given .0 .0) (c .before .if1 .taken) (c .new-entry .ensures))
 
 returns-2 : tie.Need-returns-2
+unfolding effect edits
 returns-2 c =
     let a = c .before .before .before .before .before .before .before .before .args in
     let load-slot = c .before .before .before .before .before .before .load-slot in
@@ -32,6 +34,7 @@ returns-2 c =
     (c .resize .ensures))
 
 returns-3 : tie.Need-returns-3
+unfolding effect edits
 returns-3 c =
     let a = c .before .before .before .before .before .before .before .before .args in
     let load-slot = c .before .before .before .before .before .before .load-slot in
@@ -40,6 +43,7 @@ returns-3 c =
     (load-slot .ensures) (o3 .given .0 .0) (o3 .given .0 .1 .0) (o3 .given .0 .1 .1 .0) (c .before .if3 .taken) (c .mark .ensures))
 
 returns-4 : tie.Need-returns-4
+unfolding effect edits
 returns-4 c =
     let a = c .before .before .before .before .before .before .before .before .args in
     let load-slot = c .before .before .before .before .before .before .load-slot in
@@ -49,6 +53,7 @@ returns-4 c =
     (c .resize2 .ensures))
 
 returns-5 : tie.Need-returns-5
+unfolding effect edits
 returns-5 c =
     let a = c .before .before .before .before .before .before .before .before .args in
     let load-slot = c .before .before .before .before .before .before .load-slot in
@@ -58,13 +63,14 @@ returns-5 c =
     (c .before .if5 .taken) (c .mark2 .ensures))
 
 load-slot-requires-2 : tie.Need-load-slot-requires-2
-unfolding edits
+unfolding edits operation-edits
 load-slot-requires-2 c κs =
     let pre = c .before .before .before .before .before .before .before .before .pre in
     let o5 = c .before .before .before .before .o5 in
     (pre .0 .0, (rw (o5 .given .1) at (pre .1)) .0 .0)
 
 returns-6 : tie.Need-returns-6
+unfolding effect edits
 returns-6 c =
     let a = c .before .before .before .before .before .before .before .before .before .before .args in
     let o5 = c .before .before .before .before .before .before .o5 in
@@ -74,44 +80,44 @@ returns-6 c =
     (c .before .load-slot2 .ensures) (if5 .left) (c .before .before .if6 .taken) (c .set-name .ensures))
 
 returns-7 : tie.Need-returns-7
-unfolding edits
+unfolding edits operation-edits
 returns-7 c =
     let a = c .before .before .before .before .before .before .before .args in
     let load-slot = c .before .before .before .before .before .load-slot in
     let o = c .before .before .before .o in
-    out (a .o) (slot-at (a .l) (card-of (a .w .now))) (a .k) (bytes-of (load-slot .result)) (rw (o .given .1) (c .if1 .left, tt)) (load-slot .ensures)
+    out (a .x) (slot-at (a .l) (card-of (a .w .now))) (a .k) (bytes-of (load-slot .result)) (rw (o .given .1) (c .if1 .left, tt)) (load-slot .ensures)
 
 returns-8 : tie.Need-returns-8
-unfolding edits
+unfolding edits operation-edits
 returns-8 c =
     let a = c .before .before .before .before .before .before .before .args in
     let load-slot = c .before .before .before .before .before .load-slot in
     let o2 = c .before .before .before .o2 in
-    out (a .o) (slot-at (a .l) (card-of (a .w .now))) (a .k) (bytes-of (load-slot .result)) (rw (o2 .given .1) (c .if2 .left, tt)) (load-slot .ensures)
+    out (a .x) (slot-at (a .l) (card-of (a .w .now))) (a .k) (bytes-of (load-slot .result)) (rw (o2 .given .1) (c .if2 .left, tt)) (load-slot .ensures)
 
 returns-9 : tie.Need-returns-9
-unfolding edits
+unfolding edits operation-edits
 returns-9 c =
     let a = c .before .before .before .before .before .before .before .args in
     let load-slot = c .before .before .before .before .before .load-slot in
     let o3 = c .before .before .before .o3 in
-    out (a .o) (slot-at (a .l) (card-of (a .w .now))) (a .k) (bytes-of (load-slot .result)) (rw (o3 .given .1) (c .if3 .left, tt)) (load-slot .ensures)
+    out (a .x) (slot-at (a .l) (card-of (a .w .now))) (a .k) (bytes-of (load-slot .result)) (rw (o3 .given .1) (c .if3 .left, tt)) (load-slot .ensures)
 
 returns-10 : tie.Need-returns-10
-unfolding edits
+unfolding edits operation-edits
 returns-10 c =
     let a = c .before .before .before .before .before .before .before .args in
     let load-slot = c .before .before .before .before .before .load-slot in
     let o4 = c .before .before .before .o4 in
-    out (a .o) (slot-at (a .l) (card-of (a .w .now))) (a .k) (bytes-of (load-slot .result)) (rw (o4 .given .1) (c .if4 .left, tt)) (load-slot .ensures)
+    out (a .x) (slot-at (a .l) (card-of (a .w .now))) (a .k) (bytes-of (load-slot .result)) (rw (o4 .given .1) (c .if4 .left, tt)) (load-slot .ensures)
 
 returns-11 : tie.Need-returns-11
-unfolding edits
+unfolding edits operation-edits
 returns-11 c =
     let a = c .before .before .before .before .before .before .before .before .args in
     let load-slot = c .before .before .before .before .before .before .load-slot in
     let o5 = c .before .before .before .before .o5 in
-    out (a .o) (slot-at (a .l) (card-of (a .w .now))) (a .k) (bytes-of (load-slot .result))
+    out (a .x) (slot-at (a .l) (card-of (a .w .now))) (a .k) (bytes-of (load-slot .result))
     (rw (o5 .given .1) (c .before .if5 .left, (c .if6 .left, tt))) (load-slot .ensures)
 
 pub slot-after-spec : {M : Type 1} → statement M

@@ -28,7 +28,7 @@ returns-2 c =
     rw (
       sym (concerns .ensures) ∙ not-false _ (if1 .left),
       ← store-same (a .l .root + a .r) (bytes-of (sector-after .result))
-          (root-sector (effect (a .o) (slot-at (a .l) (card-of (a .w .now)))) (a .r)) (sector-after .ensures),
+          (root-sector (effect (a .x) (slot-at (a .l) (card-of (a .w .now)))) (a .r)) (sector-after .ensures),
     ) (c .before .before .store-sector .ensures)
 
 pub store-concerned-spec : {M : Type 1} → statement M

@@ -32,10 +32,10 @@ returns c =
     let pre = c .before .before .before .before .before .before .before .before .before .before .before .pre in
     let turn = c .before .before .before .before .before .before .before .before .before .loop in
     let store-concerned = c .before .before .before .before .before .store-concerned in
-    rw (← root-turns (a .l) (a .o) (card-of (a .w .now)))
-    (turns-cut (root-turn (a .l) (a .o) (card-of (a .w .now))) (a .limit) (turn .r) (a .w .now) (turn .w) _ (turn .made) _ (turn .inv .2)
+    rw (← root-turns (a .l) (a .x) (card-of (a .w .now)))
+    (turns-cut (root-turn (a .l) (a .x) (card-of (a .w .now))) (a .limit) (turn .r) (a .w .now) (turn .w) _ (turn .made) _ (turn .inv .2)
     (a .l .entries / 16) (omega arith) (rw (
-      turn-same (a .l) (a .o) (pre .0 .fits .shape .whole-sectors) (pre .1) (card-of (a .w .now)) (a .limit)
+      turn-same (a .l) (a .x) (pre .0 .fits .shape .whole-sectors) (pre .1) (card-of (a .w .now)) (a .limit)
           (turn .r) (a .w .now) (turn .w) (turn .made) refl (turn .inv .2) (omega arith),
       not-true (store-concerned .result .whole)
           (c .if2 .taken),
@@ -49,9 +49,9 @@ loop-again c =
     let store-concerned = c .before .before .before .before .before .store-concerned in (
       search needs,
       search needs,
-      turns-more (root-turn (a .l) (a .o) (card-of (a .w .now))) (a .limit) (turn .r) (a .w .now) (turn .w) _ (turn .made)
+      turns-more (root-turn (a .l) (a .x) (card-of (a .w .now))) (a .limit) (turn .r) (a .w .now) (turn .w) _ (turn .made)
           _ (turn .inv .2) (rw (
-            turn-same (a .l) (a .o) (pre .0 .fits .shape .whole-sectors) (pre .1) (card-of (a .w .now)) (a .limit) (turn .r)
+            turn-same (a .l) (a .x) (pre .0 .fits .shape .whole-sectors) (pre .1) (card-of (a .w .now)) (a .limit) (turn .r)
                 (a .w .now) (turn .w) (turn .made) refl (turn .inv .2) (omega arith),
             not-false (store-concerned .result .whole)
                 (c .if2 .left),
@@ -62,7 +62,7 @@ returns-2 : tie.Need-returns-2 Inv-loop μ-loop
 returns-2 c =
     let a = c .before .before .before .before .args in
     let turn = c .before .before .loop in
-    let end : turn .r ≡ a .l .entries / 16 = omega arith in rw (← root-turns (a .l) (a .o) (card-of (a .w .now))) (rw end at (turn .inv .2))
+    let end : turn .r ≡ a .l .entries / 16 = omega arith in rw (← root-turns (a .l) (a .x) (card-of (a .w .now))) (rw end at (turn .inv .2))
 
 pub store-root-spec : {M : Type 1} → statement M
 store-root-spec =
