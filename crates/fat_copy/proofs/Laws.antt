@@ -4,8 +4,8 @@ use native.Mathlib.Omega.{arith}
 use mathlib.Core.Path.{_≡_, refl, sym, ap, _∙_, fun-ext}
 use mathlib.Core.Logic.{⊎-elim}
 use mathlib.Core.Bool.{Bool, true, false, not}
-use mathlib.Core.List.{List, [], _∷_, _++_}
-use lib.ListN.{length, getD, take, drop, set, length-set}
+use mathlib.Core.List.{List, [], _∷_}
+use lib.ListN.{length, getD, set, length-set}
 use lib.Dec.{eqb}
 use borrow.Author.Tests.{lt-ltb, le-ltb, ne-eqb}
 use Rattle.model.specs.Bytes.{Bytes, bytes-of, byte-of, overlay, patch, pick}
@@ -22,7 +22,6 @@ use Rattle.model.proofs.Turns.{upto-same}
 use Rattle.model.proofs.Copies.{write-fat-turns}
 use Rattle.model.proofs.Fats.{entry-same}
 use Rattle.model.proofs.Entries.{set-here, set-local, set-away}
-use Rattle.sector.proofs.Stored.{lent-sector, ran-lent, ran-kept}
 use Rattle.fat_copy.specs.Change.{lead, renewal, sectors-of, own-fat}
 
 -- ---- the store of a sector
@@ -41,20 +40,6 @@ pub renewal-same : (at : ℕ) (a b old : Bytes) → ((j : ℕ) → j < 512 → a
 unfolding renewal same
 renewal-same at a b old h =
     rw (all-same (λ j. eqb (a j) (old j)) (λ j. eqb (b j) (old j)) 0 512 (λ j lo hi. rw (h j (omega arith))), store-same at a b h)
-
--- A sector that is lent, renewed and given back.
-pub renewed : (xs ys : List ℕ) (s : ℕ) → 512 * s + 512 ≤ length xs → length ys ≡ 512 → (limit m : ℕ) (w : Bool) (b : Bytes)
-    → Ran limit (renewal 0 b (card-of (take 512 (drop (512 * s) xs)) 0)) (take 512 (drop (512 * s) xs)) ys m w
-    → Ran limit (renewal s b (card-of xs s)) xs (take (512 * s) xs ++ (ys ++ drop 512 (drop (512 * s) xs))) m w
-renewed xs ys s fits one limit m w b so = go (not (same b (card-of xs s))) refl
-  where
-    lent : card-of (take 512 (drop (512 * s) xs)) 0 ≡ card-of xs s
-    lent = lent-sector xs ys s fits one
-
-    go : (t : Bool) → not (same b (card-of xs s)) ≡ t → Ran limit (renewal s b (card-of xs s)) xs
-        (take (512 * s) xs ++ (ys ++ drop 512 (drop (512 * s) xs))) m w
-    go true e = rw (renewal-one s b (card-of xs s) e) (ran-lent xs ys s fits one limit m w b (rw (lent, renewal-one 0 b (card-of xs s) e) at so))
-    go false e = rw (renewal-none s b (card-of xs s) e) (ran-kept xs ys s fits one limit m w (rw (lent, renewal-none 0 b (card-of xs s) e) at so))
 
 pub renewal-away : (at : ℕ) (new old : Bytes) (s : ℕ) → (s ≡ at → ⊥) → Away (renewal at new old) s
 unfolding renewal

@@ -37,32 +37,21 @@ pub fn load_leading(w: &[u8], fat: u32, s: u32, k: u32, v: u32) -> [u8; 512]
     buf
 }
 
-// The copy of a FAT sector: the sector that is lent becomes the bytes given, where it differs from them.
-pub fn copy_sector(part: &mut [u8], buf: &[u8; 512], limit: u32) -> Progress
-    requires { ⌜ length (now part) ≡ 512 ⌝ }
-    ensures { λ r. ⌜
-        Ran limit (renewal 0 (bytes-of (now (buf .entry))) (card-of (now (part .entry)) 0)) (now (part .entry)) (now (part .exit)) (r .made) (r .whole) ⌝ }
-{
-    if !sector::alters(buf, part, 0) {
-        return Progress {
-            made: 0,
-            whole: true,
-        };
-    }
-    sector::overwrite(part, buf, limit)
-}
-
 // Stores a buffer as a sector, where they differ.
 pub fn store_changed(w: &mut [u8], s: u32, buf: &[u8; 512], limit: u32) -> Progress
     requires { ⌜ 512 * s + 512 ≤ length (now w) ⌝ }
     ensures { λ r. ⌜ Ran limit (renewal s (bytes-of (now (buf .entry))) (card-of (now (w .entry)) s)) (now (w .entry)) (now (w .exit)) (r .made) (r .whole) ⌝ }
 {
-    let at = 512 * sector::index(s);
-    copy_sector(&mut w[at..at + 512], buf, limit)
+    if !sector::alters(buf, w, s) {
+        return Progress {
+            made: 0,
+            whole: true,
+        };
+    }
+    sector::store_sector(w, s, buf, limit)
 }
 
-// Stores one sector as another, where they differ. They are compared in place first, since most are alike; only the sector
-// overwritten is lent to the copy.
+// The copy of a FAT sector onto another, where they differ. Only the sector overwritten is lent to be written.
 pub fn copy_changed(w: &mut [u8], from: u32, to: u32, limit: u32) -> Progress
     requires { ⌜ (512 * from + 512 ≤ length (now w)) × (512 * to + 512 ≤ length (now w)) ⌝ }
     ensures { λ r. ⌜
@@ -76,7 +65,7 @@ pub fn copy_changed(w: &mut [u8], from: u32, to: u32, limit: u32) -> Progress
     }
     let buf = sector::load(w, from);
     let at = 512 * sector::index(to);
-    copy_sector(&mut w[at..at + 512], &buf, limit)
+    sector::overwrite(&mut w[at..at + 512], &buf, limit)
 }
 
 // n sectors onto n others, rising. The two ranges have no sector in common.

@@ -5,6 +5,7 @@ use model::Layout;
 ghost use mathlib.Core.Path.{_≡_};
 ghost use mathlib.Core.Bool.{true, false};
 ghost use Prim.Native.Nat.{_+_, _*_, _≤_, _<_};
+ghost use lib.Dec.{eqb};
 ghost use lib.ListN.{length};
 ghost use Rattle.model.specs.Bytes.{bytes-of};
 ghost use Rattle.model.specs.Scan.{first-from, count-from};
@@ -55,6 +56,18 @@ pub fn classify(l: Layout, v: u32) -> Class
     }
 }
 
+// The mark of the log.
+fn is_reserved(l: Layout, v: u32) -> bool
+    requires { ⌜ l .clusters ≤ 65524 ⌝ }
+    ensures { λ r. ⌜ r ≡ eqb v 0xFFF6 ⌝ }
+{
+    let c = classify(l, v);
+    match c {
+        Class::Reserved => true,
+        _ => false,
+    }
+}
+
 // The first sector of cluster k.
 pub fn cluster_sector(l: Layout, k: u32) -> u32
     requires { ⌜ Fits l × (2 ≤ k) × (k ≤ l .clusters + 1) ⌝ }
@@ -63,13 +76,13 @@ pub fn cluster_sector(l: Layout, k: u32) -> u32
     l.start + (k - 2) * l.factor
 }
 
-// How many of the n entries from k on hold v.
+// How many of the n entries from k on hold v. The count is as wide as an entry: so the compiler counts eight entries at once.
 pub fn count_entries(w: &[u8], fat: u32, k: u32, n: u32, v: u32) -> u32
-    requires { ⌜ 512 * fat + 2 * (k + n) ≤ length (now w) ⌝ }
+    requires { ⌜ (512 * fat + 2 * (k + n) ≤ length (now w)) × (n < 65536) ⌝ }
     ensures { λ r. ⌜ (r ≡ count-from (holds v (fat-at (card-of (now (w .entry))) fat)) k n) × (r ≤ n) ⌝ }
 {
     let at = 512 * sector::index(fat) + 2 * sector::index(k);
-    let mut found = 0;
+    let mut found: u16 = 0;
     let mut i = 0;
     while i < n {
         if pair(w, at + 2 * sector::index(i)) == v {
@@ -77,23 +90,23 @@ pub fn count_entries(w: &[u8], fat: u32, k: u32, n: u32, v: u32) -> u32
         }
         i += 1;
     }
-    found
+    found as u32
 }
 
-// Whether one of the 256 entries from k on holds v. What was seen is kept in a flag as wide as an entry, and the loop has no way
-// out but its end: so the compiler compares eight entries at once.
+// Whether one of the 256 entries from k on holds v. The loop has no way out but its end: so the compiler compares eight entries
+// at once.
 fn is_among(w: &[u8], fat: u32, k: u32, v: u32) -> bool
     requires { ⌜ 512 * fat + 2 * (k + 256) ≤ length (now w) ⌝ }
     ensures { λ r. ⌜ (r ≡ false → count-from (holds v (fat-at (card-of (now (w .entry))) fat)) k 256 ≡ 0) ⌝ }
 {
     let at = 512 * sector::index(fat) + 2 * sector::index(k);
-    let mut seen: u16 = 0;
+    let mut seen = false;
     let mut i = 0;
     while i < 256 {
-        seen = if pair(w, at + 2 * i) == v { 1 } else { seen };
+        seen = seen | (pair(w, at + 2 * i) == v);
         i += 1;
     }
-    seen != 0
+    seen
 }
 
 // Whether a whole sector of the FAT begins at entry k, below the end, and holds no v.
@@ -130,15 +143,15 @@ pub fn find_entry(w: &[u8], fat: u32, k: u32, n: u32, v: u32) -> u32
     end
 }
 
-// The first entry from k on that does not hold v, or the end.
-fn find_other(w: &[u8], fat: u32, k: u32, n: u32, v: u32) -> u32
-    requires { ⌜ (k + n < 4294967296) × (512 * fat + 2 * (k + n) ≤ length (now w)) ⌝ }
-    ensures { λ r. ⌜ (r ≡ first-from (lacks v (fat-at (card-of (now (w .entry))) fat)) k n) × (k ≤ r) × (r ≤ k + n) ⌝ }
+// The first entry from k on that is not reserved, or the end.
+fn find_other(w: &[u8], l: Layout, k: u32, n: u32) -> u32
+    requires { ⌜ (l .clusters ≤ 65524) × (k + n < 4294967296) × (512 * l .fat1 + 2 * (k + n) ≤ length (now w)) ⌝ }
+    ensures { λ r. ⌜ (r ≡ first-from (lacks 0xFFF6 (fat1-of l (card-of (now (w .entry))))) k n) × (k ≤ r) × (r ≤ k + n) ⌝ }
 {
     let end = k + n;
     let mut i = k;
     while i < end {
-        if entry_at(w, fat, i) != v {
+        if !is_reserved(l, entry_at(w, l.fat1, i)) {
             return i;
         }
         i += 1;
@@ -153,7 +166,7 @@ pub fn locate(w: &[u8], l: Layout) -> Located
 {
     let end = l.clusters + 2;
     let start = find_entry(w, l.fat1, 2, l.clusters, 0xFFF6);
-    let stop = find_other(w, l.fat1, start, end - start, 0xFFF6);
+    let stop = find_other(w, l, start, end - start);
     let size = stop - start;
     if size == 0 {
         return Located::Nowhere;

@@ -17,7 +17,7 @@ use Rattle.model.specs.Fat.{Fat, entry, fat1-of, set-entry, end-value, link, re
 use Rattle.model.specs.Chain.{chain}
 use Rattle.model.specs.Promises.{Shape}
 use Rattle.model.specs.declared.Layout.{Layout}
-use Rattle.model.proofs.Tests.{same?, and-left, and-right}
+use Rattle.model.proofs.Tests.{same?, less?, and-left, and-right}
 use Rattle.model.proofs.Scan.{all-at}
 use Rattle.model.proofs.All.{All}
 use Rattle.model.proofs.Chains.{chain-same}
@@ -34,9 +34,9 @@ among-none l [] x h le = refl
 among-none l (k ∷ ks) x h le = rw (ne-eqb x k (λ e. let less : k < l .clusters + 2 = h .0 in omega arith)) (among-none l ks x (h .1) le)
 
 -- No cluster lies so high.
-pub marked-none : (l : Layout) (ks : List ℕ) (from : ℕ) (marks : List ℕ) → Inside l ks → l .clusters + 2 ≤ from
-    → ((i : ℕ) → i < 16384 → mark-of marks i ≡ 0) → Marked ks from marks
-marked-none l ks from marks h le none i less = rw (among-none l ks (from + i) h (omega arith)) (none i less)
+pub marked-none : (l : Layout) (ks : List ℕ) (from : ℕ) (marks : List ℕ) → Inside l ks → l .clusters + 2 ≤ from → ((i : ℕ) → mark-of marks i ≡ 0)
+    → Marked ks from marks
+marked-none l ks from marks h le none i less = rw (among-none l ks (from + i) h (omega arith)) (none i)
 
 -- Bits of a byte: set, and none in 0. All bytes are tried.
 with-bit : ℕ → ℕ → ℕ
@@ -83,6 +83,19 @@ pub bit-zero : (b i : ℕ) → b ≡ 0 → bit-of b i ≡ 0
 unfolding bit-of
 bit-zero b i e = rw (e, zero-div (2 ^ i))
 
+-- What lies past the end of a list.
+past : (xs : List ℕ) (i : ℕ) → length xs ≤ i → getD xs i 0 ≡ 0
+past [] i h = refl
+past (x ∷ xs) zero h = absurd (omega arith)
+past (x ∷ xs) (suc i) h = past xs i (omega arith)
+
+-- No mark where no byte is lent for them, and where all are 0.
+pub mark-past : (marks : List ℕ) → length marks ≡ 0 → (i : ℕ) → mark-of marks i ≡ 0
+mark-past marks e i = bit-zero (getD marks (i / 8) 0) (i % 8) (past marks (i / 8) (omega arith))
+
+pub all-clear : (marks : List ℕ) (n : ℕ) → length marks ≤ n → ((m : ℕ) → m < n → getD marks m 0 ≡ 0) → (i : ℕ) → mark-of marks i ≡ 0
+all-clear marks n le none i = bit-zero (getD marks (i / 8) 0) (i % 8) (⊎-elim (λ l. none (i / 8) l) (λ g. past marks (i / 8) (omega arith)) (less? (i / 8) n))
+
 -- Mark `at + m / 2`, of the entry that byte m of a sector is of, is a bit of the byte of marks for eight entries.
 pub mark-in : (marks : List ℕ) (at k m : ℕ) → at % 8 ≡ 0 → m / 16 ≡ k
     → bit-of (getD marks (at / 8 + k) 0) (m / 2 % 8) ≡ mark-of marks (at + m / 2)
@@ -122,8 +135,8 @@ Marking e from first m marks k n = (i : ℕ) → i < 16384
     → pick (among (chain e n k) (from + i)) 1 (mark-of marks i) ≡ pick (among (chain e m first) (from + i)) 1 0
 
 module _ (e : ℕ → ℕ) (from first m : ℕ) where
-  pub marking-none : (marks : List ℕ) → ((i : ℕ) → i < 16384 → mark-of marks i ≡ 0) → Marking e from first m marks first m
-  marking-none marks none i less = rw (none i less)
+  pub marking-none : (marks : List ℕ) → ((i : ℕ) → mark-of marks i ≡ 0) → Marking e from first m marks first m
+  marking-none marks none i less = rw (none i)
 
   pub marking-done : (marks : List ℕ) (k n : ℕ) → n ≡ 0 → Marking e from first m marks k n → Marked (chain e m first) from marks
   unfolding chain any

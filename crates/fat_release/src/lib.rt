@@ -13,13 +13,12 @@ ghost use Rattle.model.specs.Promises.{Held};
 ghost use Rattle.fat_copy.specs.Change.{own-fat};
 ghost use Rattle.fat_release.specs.Release.{bit-of, mark-of, Inside, Marked};
 
-// The marks of 16,384 clusters, one bit each.
+// The marks of 16,384 clusters, one bit each. Where no cluster is freed no byte need be lent for them.
 fn clear_marks(marks: &mut [u8])
-    requires { ⌜ length (now marks) ≡ 2048 ⌝ }
-    ensures { λ _. ⌜ ((i : ℕ) → i < 16384 → mark-of (now (marks .exit)) i ≡ 0) ⌝ }
+    ensures { λ _. ⌜ ((i : ℕ) → mark-of (now (marks .exit)) i ≡ 0) ⌝ }
 {
     let mut i = 0;
-    while i < 2048 {
+    while i < marks.len() {
         marks[i] = 0;
         i += 1;
     }
@@ -62,7 +61,7 @@ fn mark(marks: &mut [u8], from: u32, k: u32)
 // The marks for sector s: made anew where 64 sectors begin, by a walk along the m clusters from `first` on.
 pub fn mark_block(w: &[u8], l: Layout, marks: &mut [u8], s: u32, first: u32, m: u32)
     requires { ⌜
-        Held l (now w) × (length (now marks) ≡ 2048) × (s < l .fatsize) × Inside l (chain (entry (own-fat l (now w))) m first)
+        Held l (now w) × (0 < m → length (now marks) ≡ 2048) × (s < l .fatsize) × Inside l (chain (entry (own-fat l (now w))) m first)
         × ((s % 64 ≡ 0 → ⊥) → Marked (chain (entry (own-fat l (now w))) m first) (16384 * (s / 64)) (now marks)) ⌝ }
     ensures { λ _. ⌜ Marked (chain (entry (own-fat l (now (w .entry)))) m first) (16384 * (s / 64)) (now (marks .exit)) ⌝ }
 {
@@ -83,19 +82,22 @@ pub fn mark_block(w: &[u8], l: Layout, marks: &mut [u8], s: u32, first: u32, m: 
     }
 }
 
-// Whether one of the 256 clusters from `at` on is marked.
+// Whether one of the 256 clusters from `at` on is marked. The loop has no way out but its end: so the compiler looks at sixteen
+// bytes at once.
 pub fn has_mark(marks: &[u8], at: usize) -> bool
-    requires { ⌜ (at % 8 ≡ 0) × (at + 256 ≤ 8 * length (now marks)) ⌝ }
+    requires { ⌜ (at % 8 ≡ 0) × (at + 256 ≤ 16384) × (length (now marks) % 2048 ≡ 0) ⌝ }
     ensures { λ r. ⌜ (r ≡ false → (i : ℕ) → i < 256 → mark-of (now (marks .entry)) (at + i) ≡ 0) ⌝ }
 {
+    if marks.len() == 0 {
+        return false;
+    }
+    let mut seen = false;
     let mut i = 0;
     while i < 32 {
-        if marks[at / 8 + i] != 0 {
-            return true;
-        }
+        seen = seen | (marks[at / 8 + i] != 0);
         i += 1;
     }
-    false
+    seen
 }
 
 // A byte of an entry, 0 where the entry's bit is set.
@@ -127,10 +129,13 @@ fn clear_eight(buf: &mut [u8], k: usize, m: u8)
 
 // Clears the entries that the marks from `at` on name, in the buffer of a sector. Eight that have no mark are passed over.
 pub fn clear_marked(buf: &mut [u8], marks: &[u8], at: usize)
-    requires { ⌜ (length (now buf) ≡ 512) × (at % 8 ≡ 0) × (at + 256 ≤ 16384) × (length (now marks) ≡ 2048) ⌝ }
+    requires { ⌜ (length (now buf) ≡ 512) × (at % 8 ≡ 0) × (at + 256 ≤ 16384) × (length (now marks) % 2048 ≡ 0) ⌝ }
     ensures { λ _. ⌜
         ((j : ℕ) → j < 512 → getD (now (buf .exit)) j 0 ≡ pick (eqb (mark-of (now (marks .entry)) (at + j / 2)) 0) (getD (now (buf .entry)) j 0) 0) ⌝ }
 {
+    if marks.len() == 0 {
+        return;
+    }
     let mut k = 0;
     while k < 32 {
         clear_eight(buf, k, marks[at / 8 + k]);

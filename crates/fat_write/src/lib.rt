@@ -24,7 +24,7 @@ pub struct Turn {
 
 // Whether sector s may hold `last`, a new cluster or, by the marks, a freed one.
 fn is_changed(marks: &[u8], s: u32, last: u32, at: u32, left: u32) -> bool
-    requires { ⌜ length (now marks) ≡ 2048 ⌝ }
+    requires { ⌜ length (now marks) % 2048 ≡ 0 ⌝ }
     ensures { λ r. ⌜
         (r ≡ false → (s ≡ last / 256 → ⊥) × (0 < left → s ≡ at / 256 → ⊥) × ((i : ℕ) → i < 256 → mark-of (now (marks .entry)) (256 * (s % 64) + i) ≡ 0)) ⌝ }
 {
@@ -47,7 +47,8 @@ fn renew_sector(
     marks: &[u8],
     limit: u32,
 ) -> Turn
-    requires { ⌜ Held l (now w) × (s < l .fatsize) × (value < 65536) × Cursor l (own-fat l (now w)) at left × Above s at left × (length (now marks) ≡ 2048) ⌝ }
+    requires { ⌜
+        Held l (now w) × (s < l .fatsize) × (value < 65536) × Cursor l (own-fat l (now w)) at left × Above s at left × (length (now marks) % 2048 ≡ 0) ⌝ }
     ensures { λ r. ⌜
         Ran limit (renewal (l .fat2 + s) (cleared (now (marks .entry))
         (link (news l (own-fat l (now (w .entry))) at left) (lead last value (own-fat l (now (w .entry))))) s)
@@ -75,7 +76,8 @@ fn renew_sector(
     }
 }
 
-// All of FAT2: `last` leads to `value`, the n new clusters from `first` on are linked, and the m clusters from `old` on freed.
+// All of FAT2: `last` leads to `value`, the n new clusters from `first` on are linked, and the m clusters from `old` on freed. The
+// marks of freed clusters need 2 KiB; none where nothing is freed.
 fn renew_all(
     w: &mut [u8],
     l: Layout,
@@ -85,21 +87,22 @@ fn renew_all(
     n: u32,
     old: u32,
     m: u32,
+    marks: &mut [u8],
     limit: u32,
 ) -> Progress
     requires { ⌜ Held l (now w) × (value < 65536) × Cursor l (own-fat l (now w)) first n × Inside l (chain (entry (own-fat l (now w))) m old) ⌝ }
+    requires { ⌜ (length (now marks) % 2048 ≡ 0) × (0 < m → length (now marks) ≡ 2048) ⌝ }
     ensures { λ r. ⌜
         Ran limit (write-fat l (l .fat2) (passed l (own-fat l (now (w .entry))) last value first n m old) (fat2-of l (card-of (now (w .entry)))))
         (now (w .entry)) (now (w .exit)) (r .made) (r .whole) ⌝ }
 {
-    let mut marks = [0u8; 2048];
     let mut made = 0;
     let mut at = first;
     let mut left = n;
     let mut s = 0;
     while s < l.fatsize {
-        fat_release::mark_block(w, l, &mut marks, s, old, m);
-        let p = renew_sector(w, l, s, last, value, at, left, &marks, limit - made);
+        fat_release::mark_block(w, l, marks, s, old, m);
+        let p = renew_sector(w, l, s, last, value, at, left, marks, limit - made);
         made += p.made;
         if !p.whole {
             return Progress { made, whole: false };
@@ -111,6 +114,55 @@ fn renew_all(
     Progress { made, whole: true }
 }
 
+// Where nothing is new: the m clusters from `old` on are freed; the last one kept is `last`, 0 if there is none.
+fn free_clusters(
+    w: &mut [u8],
+    l: Layout,
+    last: u32,
+    old: u32,
+    m: u32,
+    marks: &mut [u8],
+    limit: u32,
+) -> Progress
+    requires { ⌜ Held l (now w) × Inside l (chain (entry (fat1-of l (card-of (now w)))) m old) ⌝ }
+    requires { ⌜ (length (now marks) % 2048 ≡ 0) × (0 < m → length (now marks) ≡ 2048) ⌝ }
+    ensures { λ r. ⌜
+        Ran limit (write-fat l (l .fat2) (cut (fat1-of l (card-of (now (w .entry)))) last old m) (fat2-of l (card-of (now (w .entry)))))
+        (now (w .entry)) (now (w .exit)) (r .made) (r .whole) ⌝ }
+{
+    if m == 0 {
+        return renew_all(w, l, 0, 0, 0, 0, 0, 0, marks, limit);
+    }
+    renew_all(w, l, last, 0xFFFF, 0, 0, old, m, marks, limit)
+}
+
+// Step 2 of any change of a file's clusters: the sectors of FAT2 that change when the n lowest free clusters are linked after
+// `last`, the last one kept (0 if there is none), and the m clusters from `old` on are freed.
+fn renew_fat(
+    w: &mut [u8],
+    l: Layout,
+    last: u32,
+    n: u32,
+    old: u32,
+    m: u32,
+    marks: &mut [u8],
+    limit: u32,
+) -> Progress
+    requires { ⌜
+        Held l (now w) × (n ≤ length (free-clusters l (fat1-of l (card-of (now w))))) × Inside l (chain (entry (fat1-of l (card-of (now w)))) m old) ⌝ }
+    requires { ⌜ (length (now marks) % 2048 ≡ 0) × (0 < m → length (now marks) ≡ 2048) ⌝ }
+    ensures { λ r. ⌜
+        Ran limit (write-fat l (l .fat2) (renewed last (take n (free-clusters l (fat1-of l (card-of (now (w .entry))))))
+        (chain (entry (fat1-of l (card-of (now (w .entry))))) m old) (fat1-of l (card-of (now (w .entry)))))
+        (fat2-of l (card-of (now (w .entry))))) (now (w .entry)) (now (w .exit)) (r .made) (r .whole) ⌝ }
+{
+    if n == 0 {
+        return free_clusters(w, l, last, old, m, marks, limit);
+    }
+    let first = fat_read::find_entry(w, l.fat1, 2, l.clusters, 0);
+    renew_all(w, l, last, first, first, n, old, m, marks, limit)
+}
+
 // Step 2 of a truncate or a delete, where nothing is new: the sectors of FAT2 that change when the m clusters from `old` on are
 // freed; the last one kept is `last`, 0 if there is none.
 pub fn shorten_fat(w: &mut [u8], l: Layout, last: u32, old: u32, m: u32, limit: u32) -> Progress
@@ -119,35 +171,8 @@ pub fn shorten_fat(w: &mut [u8], l: Layout, last: u32, old: u32, m: u32, limit: 
         Ran limit (write-fat l (l .fat2) (cut (fat1-of l (card-of (now (w .entry)))) last old m) (fat2-of l (card-of (now (w .entry)))))
         (now (w .entry)) (now (w .exit)) (r .made) (r .whole) ⌝ }
 {
-    if m == 0 {
-        return renew_all(w, l, 0, 0, 0, 0, 0, 0, limit);
-    }
-    renew_all(w, l, last, 0xFFFF, 0, 0, old, m, limit)
-}
-
-// Step 2 of any change of a file's clusters: the sectors of FAT2 that change when the n lowest free clusters are linked after
-// `last`, the last one kept (0 if there is none), and the m clusters from `old` on are freed.
-pub fn renew_fat(
-    w: &mut [u8],
-    l: Layout,
-    last: u32,
-    n: u32,
-    old: u32,
-    m: u32,
-    limit: u32,
-) -> Progress
-    requires { ⌜
-        Held l (now w) × (n ≤ length (free-clusters l (fat1-of l (card-of (now w))))) × Inside l (chain (entry (fat1-of l (card-of (now w)))) m old) ⌝ }
-    ensures { λ r. ⌜
-        Ran limit (write-fat l (l .fat2) (renewed last (take n (free-clusters l (fat1-of l (card-of (now (w .entry))))))
-        (chain (entry (fat1-of l (card-of (now (w .entry))))) m old) (fat1-of l (card-of (now (w .entry)))))
-        (fat2-of l (card-of (now (w .entry))))) (now (w .entry)) (now (w .exit)) (r .made) (r .whole) ⌝ }
-{
-    if n == 0 {
-        return shorten_fat(w, l, last, old, m, limit);
-    }
-    let first = fat_read::find_entry(w, l.fat1, 2, l.clusters, 0);
-    renew_all(w, l, last, first, first, n, old, m, limit)
+    let mut marks = [0u8; 2048];
+    renew_fat(w, l, last, 0, old, m, &mut marks, limit)
 }
 
 // Step 2 of an append, where nothing is freed: the sectors of FAT2 that change when the n lowest free clusters are linked after
@@ -158,5 +183,6 @@ pub fn extend_fat(w: &mut [u8], l: Layout, last: u32, n: u32, limit: u32) -> Pro
         Ran limit (write-fat l (l .fat2) (grown l (fat1-of l (card-of (now (w .entry)))) last n) (fat2-of l (card-of (now (w .entry)))))
         (now (w .entry)) (now (w .exit)) (r .made) (r .whole) ⌝ }
 {
-    renew_fat(w, l, last, n, 0, 0, limit)
+    let mut none = [0u8; 0];
+    renew_fat(w, l, last, n, 0, 0, &mut none, limit)
 }

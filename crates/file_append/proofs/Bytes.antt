@@ -4,7 +4,8 @@ use native.Mathlib.Omega.{arith}
 use mathlib.Core.Path.{_≡_, refl, sym, ap, _∙_, subst}
 use mathlib.Core.Logic.{⊎-elim}
 use mathlib.Core.List.{List}
-use lib.ListN.{getD, length, replicate}
+use lib.ListN.{getD, length, replicate, take, drop}
+use lib.Seq.{getD-take, getD-drop}
 use Rattle.model.specs.Bytes.{Bytes, overlay, part, zeros, view, bytes-of}
 use Rattle.model.specs.Sector.{card-of, clip}
 use Rattle.model.proofs.Tests.{less?}
@@ -82,3 +83,10 @@ built b old d q a e from n x low ia ie at is h = clip-same (bytes-of x) (appende
   where
     end : a + n ≡ e
     end = ends old q a e n (old + length d) ia ie (le-add old (length d)) is
+
+-- A sector that is filled: 512 of the new bytes.
+pub filled : (b : Bytes) (old : ℕ) (d : List ℕ) (q from : ℕ) → old ≤ 512 * q → 512 * q + 512 ≤ old + length d → from ≡ 512 * q - old
+    → clip (bytes-of (take 512 (drop from d))) ≡ clip (appended b old (view d) q)
+filled b old d q from low high at = clip-same (bytes-of (take 512 (drop from d))) (appended b old (view d) q) (λ j less.
+    let z : from + j ≡ 512 * q + j - old = omega arith in
+    getD-take 512 (drop from d) j 0 less ∙ getD-drop from d j 0 ∙ ap (bytes-of d) z ∙ sym (appended-new b old (view d) q j (omega arith) (omega arith)))

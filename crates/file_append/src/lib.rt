@@ -3,6 +3,7 @@ use model::File;
 use model::Layout;
 use model::Progress;
 ghost use mathlib.Core.Path.{_≡_};
+ghost use mathlib.Core.Bool.{true};
 ghost use mathlib.Core.List.{[], _∷_};
 ghost use Prim.Native.Nat.{ℕ, _+_, _-_, _*_, _/_, _≤_, _<_, min};
 ghost use lib.ListN.{length, getD};
@@ -79,12 +80,29 @@ fn build(w: &[u8], s: u32, size: u32, new: &[u8], q: u32) -> [u8; 512]
     lay(w, s, a, new, at + a - old, b - a)
 }
 
-// Stores that sector, if the limit allows a store.
+// Whether sector q of a file of `size` bytes is filled by n bytes appended, all 512 of its bytes being new.
+fn is_filled(size: u32, n: usize, q: u32) -> bool
+    requires { ⌜ size + n < 4294967296 ⌝ }
+    ensures { λ r. ⌜ (r ≡ true → (size ≤ 512 * q) × (512 * q + 512 ≤ size + n)) ⌝ }
+{
+    let at = 512 * sector::index(q);
+    let old = sector::index(size);
+    if at < old {
+        return false;
+    }
+    at + 512 <= old + n
+}
+
+// Stores that sector, if the limit allows a store: one that is filled straight from the new bytes.
 fn append_sector(w: &mut [u8], s: u32, size: u32, new: &[u8], q: u32, limit: u32) -> Progress
     requires { ⌜ (512 * s + 512 ≤ length (now w)) × (size < 512 * q + 512) × (512 * q < size + length (now new)) × (size + length (now new) < 4294967296) ⌝ }
     ensures { λ r. ⌜
         Ran limit (append-sector (card-of (now (w .entry))) s size (view (now (new .entry))) q ∷ []) (now (w .entry)) (now (w .exit)) (r .made) (r .whole) ⌝ }
 {
+    if is_filled(size, new.len(), q) {
+        let from = 512 * sector::index(q) - sector::index(size);
+        return sector::store_from(w, s, &new[from..from + 512], limit);
+    }
     let buf = build(w, s, size, new, q);
     sector::store_sector(w, s, &buf, limit)
 }

@@ -1,51 +1,54 @@
--- Bytes of a sector by their index, a flag for what a loop has seen, sectors compared by such a flag, and a sector that is lent to be stored.
+-- Bytes of a sector by their index, sectors compared by a loop that keeps one truth, and a sector that is lent to be stored.
 use Prim.Native.Nat.{ℕ, zero, suc, _+_, _*_, _<_, _≤_}
 use mathlib.Core.Path.{_≡_, refl, sym, ap, _∙_, fun-ext}
 use mathlib.Core.List.{List, [], _∷_, _++_, append-nil}
 use lib.ListN.{getD, length, take, drop}
-use mathlib.Core.Bool.{Bool, true, false, not}
+use mathlib.Core.Bool.{Bool, true, false, not, _&&_}
+use mathlib.Core.Logic.{⊎-elim}
 use lib.Dec.{eqb}
-use borrow.Author.Tests.{ne-eqb}
 use native.Mathlib.Omega.{arith}
 use Rattle.model.specs.Bytes.{Bytes, bytes-of}
-use Rattle.model.specs.Scan.{count-from}
+use Rattle.model.specs.Scan.{all-from}
 use Rattle.model.specs.Sector.{card-of, clip, store, put, after}
 use Rattle.model.specs.Fat.{same}
 use Rattle.model.specs.Promises.{Ran}
-use Rattle.model.proofs.Scan.{all-same, count-none, count-step}
+use Rattle.model.proofs.Tests.{less?, and-left, and-right, and-both}
+use Rattle.model.proofs.Scan.{all-same, all-of0, all-at0}
 use Rattle.model.proofs.Sectors.{byte-in, part-sector}
 use Rattle.model.proofs.Cards.{sector-back, put-in, put-case, clip-clip}
-use Rattle.model.proofs.Searches.{count-fails}
 
 pub in-sector : (xs : List ℕ) (r s : ℕ) → r ≡ s → (j : ℕ) → j < 512 → getD xs (512 * r + j) 0 ≡ card-of xs s j
 in-sector xs r s e j h = ap (λ z. getD xs (512 * z + j) 0) e ∙ sym (byte-in xs s j h)
 
--- A flag is 0 as long as p has held of none of the n numbers from i on.
-abbrev pub Flag : (ℕ → Bool) → ℕ → ℕ → ℕ → Type 0
-Flag p i n m = eqb m 0 ≡ eqb (count-from p i n) 0
+-- A truth that a loop keeps: p has held of all numbers below n.
+pub all-none : (p : ℕ → Bool) → true ≡ all-from p 0 0
+all-none p = sym (all-of0 p 0 (λ k h. absurd (omega arith)))
 
-pub flag-none : (p : ℕ → Bool) (i : ℕ) → Flag p i 0 0
-flag-none p i = ap (λ z. eqb z 0) (sym (count-none p i))
+pub all-more : (p : ℕ → Bool) (n : ℕ) (b : Bool) → b ≡ all-from p 0 n → (b && p n) ≡ all-from p 0 (n + 1)
+all-more p n b so = go (all-from p 0 (n + 1)) refl
+  where
+    no : (t : Bool) → (b && p n) ≡ t → all-from p 0 (n + 1) ≡ false → t ≡ false
+    no true h e =
+        sym (all-of0 p (n + 1) (λ k less. ⊎-elim
+        (λ l. all-at0 p n (sym so ∙ and-left b (p n) h) k l)
+        (λ g. let z : k ≡ n = omega arith in rw z (and-right b (p n) h))
+        (less? k n))) ∙ e
+    no false h e = refl
 
--- One number further: k.
-module _ (p : ℕ → Bool) (i n k : ℕ) (at : k ≡ i + n) where
-  pub flag-hit : p k ≡ true → Flag p i (n + 1) 1
-  flag-hit h = rw (count-step p i n, ← at, h) (sym (ne-eqb (count-from p i n + 1) 0 (λ e. omega arith)))
+    go : (t : Bool) → all-from p 0 (n + 1) ≡ t → (b && p n) ≡ t
+    go true e = and-both b (p n) (so ∙ all-of0 p n (λ k less. all-at0 p (n + 1) e k (omega arith))) (all-at0 p (n + 1) e n (omega arith))
+    go false e = no (b && p n) refl e
 
-  pub flag-miss : (m : ℕ) → Flag p i n m → p k ≡ false → Flag p i (n + 1) m
-  flag-miss m so h = let z : count-from p i n + 0 ≡ count-from p i n = omega arith in rw (count-step p i n, ← at, h, z) so
-
-abbrev pub unlike : Bytes → Bytes → ℕ → Bool
-unlike x y j = not (eqb (x j) (y j))
+abbrev pub equal : Bytes → Bytes → ℕ → Bool
+equal x y j = eqb (x j) (y j)
 
 -- x and y are bytes of the sectors b and c.
-pub flagged : (x y b c : Bytes) (n : ℕ) → ((j : ℕ) → j < 512 → x j ≡ b j) → ((j : ℕ) → j < 512 → y j ≡ c j)
-    → (j : ℕ) → j ≡ 512 → Flag (unlike x y) 0 j n → not (eqb n 0) ≡ not (same b c)
+pub compared : (x y b c : Bytes) → ((j : ℕ) → j < 512 → x j ≡ b j) → ((j : ℕ) → j < 512 → y j ≡ c j)
+    → (j : ℕ) → j ≡ 512 → (t : Bool) → t ≡ all-from (equal x y) 0 j → not t ≡ not (same b c)
 unfolding same
-flagged x y b c n f g j end e =
+compared x y b c f g j end t e =
     ap not
-    (e ∙ ap (λ z. eqb (count-from (unlike x y) 0 z) 0) end ∙ count-fails (λ j. eqb (x j) (y j)) 0 512
-    ∙ all-same (λ j. eqb (x j) (y j)) (λ j. eqb (b j) (c j)) 0 512 (λ j l h. rw (f j (omega arith), g j (omega arith))))
+    (e ∙ ap (all-from (equal x y) 0) end ∙ all-same (equal x y) (equal b c) 0 512 (λ j l h. rw (f j (omega arith), g j (omega arith))))
 
 -- ---- a sector that is lent, and given back
 
@@ -70,26 +73,21 @@ module _ (xs ys : List ℕ) (s : ℕ) (fits : 512 * s + 512 ≤ length xs) (one 
   abbrev back : List ℕ
   back = take (512 * s) xs ++ (ys ++ drop 512 (drop (512 * s) xs))
 
-  pub lent-sector : card-of lent 0 ≡ card-of xs s
+  lent-sector : card-of lent 0 ≡ card-of xs s
   lent-sector = part-sector xs s 512 0 (omega arith) ∙ ap (card-of xs) (omega arith)
 
   stored : (b : Bytes) → card-of ys 0 ≡ clip b → card-of back ≡ put (card-of xs) (store s b)
   stored b e = sector-back xs ys s fits one ∙ ap (λ (f : Bytes). put (card-of xs) (record { sector = s; bytes = f })) (first-sector ys ∙ e)
 
   -- As it was.
-  pub back-same : card-of ys ≡ card-of lent → card-of back ≡ card-of xs
+  back-same : card-of ys ≡ card-of lent → card-of back ≡ card-of xs
   back-same e = stored (card-of xs s) (ap (λ c. c 0) e ∙ lent-sector ∙ sym (clip-clip (λ j. getD xs (512 * s + j) 0)))
       ∙ fun-ext (λ t. put-case (λ (b : Bytes). b ≡ card-of xs t) (card-of xs) (store s (card-of xs s)) t
       (λ h. clip-clip (card-of xs s) ∙ clip-clip (λ j. getD xs (512 * s + j) 0) ∙ ap (card-of xs) (sym h)) (λ _. refl))
 
   -- With other bytes.
-  pub back-put : (b : Bytes) → card-of ys ≡ put (card-of lent) (store 0 b) → card-of back ≡ put (card-of xs) (store s b)
+  back-put : (b : Bytes) → card-of ys ≡ put (card-of lent) (store 0 b) → card-of back ≡ put (card-of xs) (store s b)
   back-put b e = stored b (ap (λ c. c 0) e ∙ put-in (card-of lent) (store 0 b) 0 refl ∙ clip-clip b)
-
-  pub ran-kept : (limit m : ℕ) (w : Bool) → Ran limit [] lent ys m w → Ran limit [] xs back m w
-  unfolding after
-  ran-kept zero m w so = record { stores = so .stores; all = so .all; card = back-same (so .card) }
-  ran-kept (suc limit) m w so = record { stores = so .stores; all = so .all; card = back-same (so .card) }
 
   pub ran-lent : (limit m : ℕ) (w : Bool) (b : Bytes) → Ran limit (store 0 b ∷ []) lent ys m w → Ran limit (store s b ∷ []) xs back m w
   unfolding after

@@ -69,21 +69,21 @@ pub fn le64(w: &[u8], s: u32, j: u32) -> u64
     wider(le32(w, s, j)) + 4294967296 * wider(le32(w, s, j + 4))
 }
 
-// Whether two sectors hold different bytes. What was seen is kept in a flag of one byte, and the loop has no way out but its
-// end: so the compiler compares sixteen bytes at once.
+// Whether two sectors hold different bytes. The loop has no way out but its end, and keeps one truth: so the compiler compares
+// sixteen bytes at once.
 pub fn differs(w: &[u8], s: u32, t: u32) -> bool
     requires { ⌜ (512 * s + 512 ≤ length (now w)) × (512 * t + 512 ≤ length (now w)) ⌝ }
     ensures { λ r. ⌜ r ≡ not (same (card-of (now (w .entry)) s) (card-of (now (w .entry)) t)) ⌝ }
 {
     let a = 512 * index(s);
     let b = 512 * index(t);
-    let mut seen: u8 = 0;
+    let mut alike = true;
     let mut j = 0;
     while j < 512 {
-        seen = if w[a + j] != w[b + j] { 1 } else { seen };
+        alike = alike & (w[a + j] == w[b + j]);
         j += 1;
     }
-    seen != 0
+    !alike
 }
 
 // Whether a buffer holds other bytes than a sector.
@@ -92,13 +92,13 @@ pub fn alters(buf: &[u8; 512], w: &[u8], s: u32) -> bool
     ensures { λ r. ⌜ r ≡ not (same (bytes-of (now (buf .entry))) (card-of (now (w .entry)) s)) ⌝ }
 {
     let own = 512 * index(s);
-    let mut seen: u8 = 0;
+    let mut alike = true;
     let mut j = 0;
     while j < 512 {
-        seen = if buf[j] != w[own + j] { 1 } else { seen };
+        alike = alike & (buf[j] == w[own + j]);
         j += 1;
     }
-    seen != 0
+    !alike
 }
 
 // The bytes of a sector.
@@ -116,10 +116,10 @@ pub fn load(w: &[u8], s: u32) -> [u8; 512]
     buf
 }
 
-// The one function that changes a card: stores a buffer as the sector that is lent, if the limit allows a store.
-pub fn overwrite(part: &mut [u8], buf: &[u8; 512], limit: u32) -> Progress
-    requires { ⌜ length (now part) ≡ 512 ⌝ }
-    ensures { λ r. ⌜ Ran limit (store 0 (bytes-of (now (buf .entry))) ∷ []) (now (part .entry)) (now (part .exit)) (r .made) (r .whole) ⌝ }
+// The one function that changes a card: stores 512 bytes as the sector that is lent, if the limit allows a store.
+pub fn overwrite(part: &mut [u8], bytes: &[u8], limit: u32) -> Progress
+    requires { ⌜ (length (now part) ≡ 512) × (length (now bytes) ≡ 512) ⌝ }
+    ensures { λ r. ⌜ Ran limit (store 0 (bytes-of (now (bytes .entry))) ∷ []) (now (part .entry)) (now (part .exit)) (r .made) (r .whole) ⌝ }
 {
     if limit == 0 {
         return Progress {
@@ -129,7 +129,7 @@ pub fn overwrite(part: &mut [u8], buf: &[u8; 512], limit: u32) -> Progress
     }
     let mut j = 0;
     while j < 512 {
-        part[j] = buf[j];
+        part[j] = bytes[j];
         j += 1;
     }
     Progress {
@@ -138,11 +138,19 @@ pub fn overwrite(part: &mut [u8], buf: &[u8; 512], limit: u32) -> Progress
     }
 }
 
-// Stores a buffer as a sector of a window, if the limit allows a store. Only the sector is lent to be written.
+// Stores 512 bytes as a sector of a window, if the limit allows a store. Only the sector is lent to be written.
+pub fn store_from(w: &mut [u8], s: u32, bytes: &[u8], limit: u32) -> Progress
+    requires { ⌜ (512 * s + 512 ≤ length (now w)) × (length (now bytes) ≡ 512) ⌝ }
+    ensures { λ r. ⌜ Ran limit (store s (bytes-of (now (bytes .entry))) ∷ []) (now (w .entry)) (now (w .exit)) (r .made) (r .whole) ⌝ }
+{
+    let at = 512 * index(s);
+    overwrite(&mut w[at..at + 512], bytes, limit)
+}
+
+// The same for a buffer.
 pub fn store_sector(w: &mut [u8], s: u32, buf: &[u8; 512], limit: u32) -> Progress
     requires { ⌜ 512 * s + 512 ≤ length (now w) ⌝ }
     ensures { λ r. ⌜ Ran limit (store s (bytes-of (now (buf .entry))) ∷ []) (now (w .entry)) (now (w .exit)) (r .made) (r .whole) ⌝ }
 {
-    let at = 512 * index(s);
-    overwrite(&mut w[at..at + 512], buf, limit)
+    store_from(w, s, buf, limit)
 }

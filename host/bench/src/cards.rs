@@ -7,6 +7,14 @@ pub const NAME: &[u8; 11] = b"ROUTE   CUT";
 pub const LOG_SECTORS: usize = 64;
 const ROOT_ENTRIES: usize = 512;
 
+/// The smallest and the largest cards.
+pub const SHAPES: [Shape; 4] = [
+    Shape::new(4_085, 1),
+    Shape::new(4_085, 64),
+    Shape::new(65_524, 1),
+    Shape::new(65_524, 64),
+];
+
 /// How large a card is.
 #[derive(Clone, Copy)]
 pub struct Shape {
@@ -114,6 +122,11 @@ impl Card {
         2 + LOG_SECTORS / usize::from(self.shape.sectors_per_cluster)
     }
 
+    /// Where the bytes of that cluster begin.
+    pub fn first_data(&self) -> usize {
+        512 * (self.shape.data() + LOG_SECTORS)
+    }
+
     /// So many clusters, evenly over the card.
     fn spread(&self, count: usize) -> Vec<usize> {
         let first = self.first_free();
@@ -130,6 +143,13 @@ impl Card {
 }
 
 impl Shape {
+    pub const fn new(clusters: u32, sectors_per_cluster: u8) -> Shape {
+        Shape {
+            clusters,
+            sectors_per_cluster,
+        }
+    }
+
     pub fn fat_sectors(self) -> usize {
         (self.clusters as usize + 2).div_ceil(256)
     }

@@ -53,10 +53,7 @@ pub fn print() {
 }
 
 fn row(text: &str, sectors_per_cluster: u8, layout: (Layout, &str), size: usize, piece: usize) {
-    let shape = Shape {
-        clusters: 65_524,
-        sectors_per_cluster,
-    };
+    let shape = Shape::new(65_524, sectors_per_cluster);
     let [created, appended, deleted] = save(shape, layout.0, size, piece);
     let cost = 512.0 * (created + appended) as f64 / size as f64;
     println!(

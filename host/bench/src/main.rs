@@ -1,9 +1,11 @@
 //! Prints docs/BENCH.md: each call of the library against the independent Rust implementation, on the same input.
 //!
-//! `cargo run --release --offline -p bench > ../docs/BENCH.md` in `host`, after `rt staticlib lfat`.
+//! `cargo run --release --offline -p bench > ../docs/BENCH.md` in `host`, after `rt staticlib lfat`. With `-- --floor` only what is
+//! set against memcmp and memcpy, in seconds.
 
 mod cards;
 mod cost;
+mod floor;
 mod machine;
 mod speed;
 mod timing;
@@ -14,6 +16,9 @@ mod timing;
 mod call;
 
 fn main() {
+    if std::env::args().any(|word| word == "--floor") {
+        return floor::print();
+    }
     println!("# Speed and write cost\n");
     println!(
         "Printed by `cargo run --release --offline -p bench` in `host`, after `rt staticlib lfat`. The library is compared with the\n\
@@ -21,6 +26,7 @@ fn main() {
          of a writing call the card is put back; that is not timed.\n"
     );
     println!("{}\n", machine::description());
+    floor::print();
     speed::print();
     cost::print();
 }

@@ -1,29 +1,10 @@
 //! The tables of times.
 
 use crate::call::Call;
-use crate::cards::{Card, Layout, Shape, LOG_SECTORS, NAME};
-use crate::timing::{compare, time, Times};
+use crate::cards::{Card, Layout, Shape, LOG_SECTORS, NAME, SHAPES};
+use crate::timing::compare;
 use reference::{plan, run, Operation};
-use std::hint::black_box;
 
-const SHAPES: [Shape; 4] = [
-    Shape {
-        clusters: 4_085,
-        sectors_per_cluster: 1,
-    },
-    Shape {
-        clusters: 4_085,
-        sectors_per_cluster: 64,
-    },
-    Shape {
-        clusters: 65_524,
-        sectors_per_cluster: 1,
-    },
-    Shape {
-        clusters: 65_524,
-        sectors_per_cluster: 64,
-    },
-];
 const SIZES: [(usize, &str); 3] = [(4_096, "4 KiB"), (65_536, "64 KiB"), (1_048_576, "1 MiB")];
 const LAYOUTS: [(Layout, &str); 2] = [
     (Layout::OnePiece, "one piece"),
@@ -47,7 +28,7 @@ pub fn print() {
         for shape in SHAPES {
             let (mut card, call) = setup(shape);
             let times = compare(&mut card.bytes, &call);
-            print!(" {} |", cell(&times));
+            print!(" {times} |");
             ratios.push(times.ratio());
         }
         println!();
@@ -59,16 +40,6 @@ pub fn print() {
         ratios[0],
         ratios[ratios.len() - 1]
     );
-    clean_check();
-}
-
-fn cell(times: &Times) -> String {
-    format!(
-        "{:.1} / {:.1} = {:.2}",
-        times.library,
-        times.plain,
-        times.ratio()
-    )
 }
 
 fn rows() -> Vec<(String, Setup)> {
@@ -152,32 +123,4 @@ fn cut_append(shape: Shape, layout: Layout, size: usize) -> Card {
     let group = stores.iter().position(|store| log.contains(&store.sector));
     run(&mut card.bytes, &append, group.expect("a group") as u32 + 1);
     card
-}
-
-fn clean_check() {
-    println!("## The clean check\n");
-    println!(
-        "List on an empty root directory asks every ground of the card; its time is set against one memcmp of the two FATs, the least\n\
-         that any check could do. In microseconds.\n"
-    );
-    println!("| clusters | bytes of a FAT | library | memcmp | ratio |");
-    println!("|---|---|---|---|---|");
-    for clusters in [4_085, 16_384, 65_524] {
-        let shape = Shape {
-            clusters,
-            sectors_per_cluster: 1,
-        };
-        let card = Card::empty(shape);
-        let library = time(|| {
-            black_box(lfat_card::calls::list(black_box(&card.bytes), &mut []));
-        });
-        let memcmp = time(|| {
-            let (fat1, fat2) = black_box(card.fats());
-            black_box(fat1 == fat2);
-        });
-        let bytes = 512 * shape.fat_sectors();
-        let ratio = library / memcmp;
-        println!("| {clusters} | {bytes} | {library:.1} | {memcmp:.1} | {ratio:.1} |");
-    }
-    println!();
 }

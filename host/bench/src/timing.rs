@@ -2,7 +2,9 @@
 
 use crate::call::Call;
 use reference::{plan, Answer, Store};
+use std::fmt;
 use std::hint::black_box;
+use std::ops::Range;
 use std::time::{Duration, Instant};
 
 const LIMIT: u32 = u32::MAX;
@@ -11,10 +13,10 @@ const MOST_RUNS: usize = 301;
 /// No more runs after this time.
 const ENOUGH: Duration = Duration::from_millis(150);
 
-/// Medians in microseconds.
+/// Medians in microseconds: of the library, and of what it is compared with.
 pub struct Times {
-    pub library: f64,
-    pub plain: f64,
+    library: f64,
+    plain: f64,
 }
 
 impl Times {
@@ -23,32 +25,80 @@ impl Times {
     }
 }
 
+impl fmt::Display for Times {
+    fn fmt(&self, f: &mut fmt::Formatter) -> fmt::Result {
+        write!(
+            f,
+            "{:.1} / {:.1} = {:.2}",
+            self.library,
+            self.plain,
+            self.ratio()
+        )
+    }
+}
+
 /// Runs the call by turns under both, each time on the card as it is given.
 pub fn compare(card: &mut [u8], call: &Call) -> Times {
-    let operation = call.operation();
-    let stores = operation.map_or(Vec::new(), |operation| {
-        plan(card, &operation).expect("accepted")
-    });
-    let undo: Vec<(usize, Vec<u8>)> = stores
-        .iter()
-        .map(|store| (store.sector * 512, sector(card, store.sector).to_vec()))
-        .collect();
+    let (stores, undo) = stores_of(card, call);
     let mut buffer = vec![0; call.room()];
-    let mut times = (Vec::new(), Vec::new());
-    let begun = Instant::now();
-    while times.0.len() < LEAST_RUNS || times.0.len() < MOST_RUNS && begun.elapsed() < ENOUGH {
+    by_turns(|| {
         let start = Instant::now();
         let answer = call.on_library(black_box(card), LIMIT, &mut buffer);
-        times.0.push(start.elapsed());
+        let library = start.elapsed();
         assert_made(card, &stores);
         put_back(card, &undo);
 
         let start = Instant::now();
         let expected = call.on_reference(black_box(card), LIMIT, &mut buffer);
-        times.1.push(start.elapsed());
+        let plain = start.elapsed();
         put_back(card, &undo);
         assert_eq!(answer.encode(), expected.encode(), "{call:?}");
         assert!(matches!(expected, Answer::Done(_)), "{call:?}");
+        (library, plain)
+    })
+}
+
+/// Runs the call by turns with one memcpy of the bytes that it moves to or from that place of the card.
+pub fn compare_copy(card: &mut [u8], call: &Call, place: Range<usize>) -> Times {
+    let (_, undo) = stores_of(card, call);
+    let mut buffer = vec![0; call.room()];
+    by_turns(|| {
+        let start = Instant::now();
+        let answer = call.on_library(black_box(card), LIMIT, &mut buffer);
+        let library = start.elapsed();
+        put_back(card, &undo);
+        assert_eq!(answer.encode() >> 32, 0, "{call:?}");
+
+        let start = Instant::now();
+        match call {
+            Call::Append(_, data) => black_box(&mut card[place.clone()]).copy_from_slice(data),
+            _ => black_box(&mut buffer).copy_from_slice(&card[place.clone()]),
+        }
+        let memcpy = start.elapsed();
+        put_back(card, &undo);
+        (library, memcpy)
+    })
+}
+
+/// The stores that a call makes, and the bytes that they overwrite, with their places.
+fn stores_of(card: &[u8], call: &Call) -> (Vec<Store>, Vec<(usize, Vec<u8>)>) {
+    let stores = call.operation().map_or(Vec::new(), |operation| {
+        plan(card, &operation).expect("accepted")
+    });
+    let undo = stores
+        .iter()
+        .map(|store| (store.sector * 512, sector(card, store.sector).to_vec()))
+        .collect();
+    (stores, undo)
+}
+
+fn by_turns(mut turn: impl FnMut() -> (Duration, Duration)) -> Times {
+    let mut times = (Vec::new(), Vec::new());
+    let begun = Instant::now();
+    while times.0.len() < LEAST_RUNS || times.0.len() < MOST_RUNS && begun.elapsed() < ENOUGH {
+        let (library, plain) = turn();
+        times.0.push(library);
+        times.1.push(plain);
     }
     Times {
         library: median(times.0),

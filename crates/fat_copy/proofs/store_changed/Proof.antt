@@ -1,28 +1,26 @@
-use mathlib.Core.Path.{_≡_}
-use Prim.Native.Nat.{_+_, _*_, _-_}
-use native.Mathlib.Omega.{arith}
-use Rattle.model.specs.Bytes.{bytes-of}
-use Rattle.fat_copy.proofs.Laws.{renewed}
+use mathlib.Core.Path.{sym, _∙_}
+use borrow.Author.Tests.{not-true, not-false}
+use Rattle.model.proofs.Runs.{ran-none}
+use Rattle.fat_copy.proofs.Laws.{renewal-none, renewal-one}
+use borrow.Author.Needs.{needs}
 use borrow.Author.Needs.{needs}
 use Rattle.fat_copy.proofs.store_changed.Statement.{statement}
 use Rattle.fat_copy.proofs.store_changed.Tie as tie
 use Rattle.fat_copy.proofs.store_changed.Reads as reads
 use Rattle.fat_copy.proofs.store_changed.Lts as lts
-use Rattle.fat_copy.proofs.copy_sector.Reads as copy-sector-reads
-use Rattle.sector.proofs.index.Reads as index-reads
+use Rattle.sector.proofs.alters.Reads as alters-reads
+use Rattle.sector.proofs.store_sector.Reads as store-sector-reads
 
 returns : tie.Need-returns
-returns c =
-    let a = c .before .before .before .before .before .before .args in
-    let index = c .before .before .before .before .index in
-    let copy-sector = c .before .before .copy-sector in
-    let k : 512 * index .result + 512 - 512 * index .result ≡ 512 = omega arith in
-    rw (k, index .ensures)
-    (renewed (a .w .now) (copy-sector .last .0) (a .s) (omega arith) (omega arith) (a .limit) _ _ (bytes-of (a .buf .now))
-    (rw (k, index .ensures) at (copy-sector .ensures)))
+returns c = rw (renewal-none _ _ _ (sym (c .before .alters .ensures) ∙ not-true _ (c .if1 .taken))) (ran-none _ _)
+
+returns-2 : tie.Need-returns-2
+returns-2 c =
+    let alters = c .before .before .before .before .before .alters in
+    let if1 = c .before .before .before .before .if1 in
+    rw (renewal-one _ _ _ (sym (alters .ensures) ∙ not-false _ (if1 .left))) (c .before .before .store-sector .ensures)
 
 pub store-changed-spec : {M : Type 1} → statement M
 store-changed-spec =
     tie.close
-    (tie.spec (λ c κs. search needs) (λ c. search needs) (λ c. search needs) (λ c. search needs) (λ c. search needs) (λ c. search needs)
-    (λ c κs. search needs) (λ c. search needs) returns)
+    (tie.spec (λ c κs. search needs) (λ c. search needs) returns (λ c κs. search needs) (λ c. search needs) returns-2)

@@ -11,8 +11,13 @@ use Rattle.model.proofs.Searches.{count-hit, count-miss}
 use Rattle.fat_read.specs.Located.{holds}
 use Rattle.fat_read.proofs.Laws.{flat}
 use borrow.Author.Needs.{needs}
+use borrow.Author.Needs.{needs}
 use Rattle.fat_read.proofs.count_entries.Statement.{statement}
 use Rattle.fat_read.proofs.count_entries.Tie as tie
+use Rattle.fat_read.proofs.count_entries.Reads as reads
+use Rattle.fat_read.proofs.count_entries.Lts as lts
+use Rattle.fat_read.proofs.pair.Reads as pair-reads
+use Rattle.sector.proofs.index.Reads as index-reads
 
 abbrev Inv-loop : tie.InvT-loop
 Inv-loop w fat k n v at found₀ i₀ found i = (i ≤ n) × (found ≤ i) × (found ≡ count-from (holds v (fat-at (card-of w) fat)) k i)
@@ -43,8 +48,7 @@ loop-again c =
     )
 
 returns : tie.Need-returns Inv-loop μ-loop
-returns c =
-    let a = c .before .before .before .before .before .args in
+returns c = let a = c .before .before .before .before .before .args in
     let e : c .before .loop .i ≡ a .n = omega arith in
     (c .before .loop .inv .2 ∙ ap (count-from (holds (a .v) (fat-at (card-of (a .w .now)) (a .fat))) (a .k)) e, omega arith)
 
@@ -53,4 +57,4 @@ count-entries-spec =
     tie.close
     (tie.spec Inv-loop μ-loop (λ c κs. search needs) (λ c. search needs) (λ c κs. search needs) (λ c. search needs) (λ c. search needs)
     loop-holds (λ c κs. search needs) (λ c. search needs) (λ c. search needs) (λ c κs. search needs) add-found (λ c. search needs)
-    (λ c. search needs) loop-again returns)
+    (λ c. search needs) loop-again (λ c. search needs) returns)

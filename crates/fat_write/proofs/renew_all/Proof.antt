@@ -18,57 +18,65 @@ use Rattle.fat_release.proofs.Laws.{next-marks}
 use Rattle.fat_write.specs.Renew.{passed}
 use Rattle.fat_write.proofs.Laws.{fat-same, turn-same}
 use borrow.Author.Needs.{needs}
+use borrow.Author.Needs.{needs}
 use Rattle.fat_write.proofs.renew_all.Statement.{statement}
 use Rattle.fat_write.proofs.renew_all.Tie as tie
+use Rattle.fat_write.proofs.renew_all.Reads as reads
+use Rattle.fat_write.proofs.renew_all.Lts as lts
+use Rattle.fat_release.proofs.mark_block.Reads as mark-block-reads
+use Rattle.fat_write.proofs.renew_sector.Reads as renew-sector-reads
 
 abbrev Inv-loop : tie.InvT-loop
-Inv-loop w₀ l last value first n old m limit marks₀ made₀ at₀ left₀ s₀ w marks made at left s = (s ≤ l .fatsize) × (length w ≡ length w₀)
-    × (length marks ≡ 2048) × Ran limit (up-to (renewals l (passed l (own-fat l w₀) last value first n m old) (fat2-of l (card-of w₀))) s) w₀ w made
-    true × ((s % 64 ≡ 0 → ⊥) → Marked (chain (entry (own-fat l w₀)) m old) (16384 * (s / 64)) marks) × Moved l (own-fat l w₀) s first n at left
-    × Above s at left
+Inv-loop w₀ l last value first n old m marks₀ limit made₀ at₀ left₀ s₀ w marks made at left s = (s ≤ l .fatsize) × (length w ≡ length w₀)
+    × (length marks ≡ length marks₀)
+    × Ran limit (up-to (renewals l (passed l (own-fat l w₀) last value first n m old) (fat2-of l (card-of w₀))) s) w₀ w made true
+    × ((s % 64 ≡ 0 → ⊥) → Marked (chain (entry (own-fat l w₀)) m old) (16384 * (s / 64)) marks) × Moved l (own-fat l w₀) s first n at left × Above s at left
 
 abbrev μ-loop : tie.MeasureT-loop
-μ-loop w₀ l last value first n old m limit marks₀ made₀ at₀ left₀ s₀ w marks made at left s = l .fatsize - s
+μ-loop w₀ l last value first n old m marks₀ limit made₀ at₀ left₀ s₀ w marks made at left s = l .fatsize - s
 
 loop-holds : tie.Need-loop-holds Inv-loop μ-loop
 loop-holds c = (
   search needs,
   refl,
-  search needs,
+  refl,
   turns-none _ _ _,
   λ ne. absurd (ne refl),
   record
-      { cursor = c .before .pre .2; later = λ f r le. refl },
+      { cursor = c .before .before .pre .0 .2; later = λ f r le. refl },
   λ h. omega arith,
 )
 
 mark-block-requires : tie.Need-mark-block-requires Inv-loop μ-loop
 mark-block-requires c κs =
-    let pre = c .before .before .before .before .before .before .pre in
-    let a = c .before .before .before .before .before .before .args in
+    let pre = c .before .before .before .before .before .before .before .pre in
+    let a = c .before .before .before .before .before .before .before .args in
     let o = c .before .before .before .before .loop in
-    let same = fat-same (a .l) (pre .0 .fits .shape) (a .last) (a .value) (a .first) (a .n) (a .m) (a .old) (a .limit) (a .w .now) (o .w) (o .s)
+    let same = fat-same (a .l) (pre .0 .0 .fits .shape) (a .last) (a .value) (a .first) (a .n) (a .m) (a .old) (a .limit) (a .w .now) (o .w) (o .s)
     (o .made) (o .inv .3) in
-    (search needs, search needs, search needs, rw same (pre .3), rw same (o .inv .4))
+    (search needs, λ p. omega (arith, o .inv .2, pre .1 .1 p), search needs, rw same (pre .0 .3), rw same (o .inv .4))
 
 renew-sector-requires : tie.Need-renew-sector-requires Inv-loop μ-loop
 renew-sector-requires c κs =
-    let pre = c .before .before .before .before .before .before .before .before .before .before .pre in
-    let a = c .before .before .before .before .before .before .before .before .before .before .args in
-    let o = c .before .before .before .before .before .before .before .before .loop in
-    let same = fat-same (a .l) (pre .0 .fits .shape) (a .last) (a .value) (a .first) (a .n) (a .m) (a .old) (a .limit) (a .w .now) (o .w) (o .s)
+    let pre = c .before .before .before .before .before .before .before .before .before .before .before .before .pre in
+    let a = c .before .before .before .before .before .before .before .before .before .before .before .before .args in
+    let o = c .before .before .before .before .before .before .before .before .before .loop in
+    let same = fat-same (a .l) (pre .0 .0 .fits .shape) (a .last) (a .value) (a .first) (a .n) (a .m) (a .old) (a .limit) (a .w .now) (o .w) (o .s)
     (o .made) (o .inv .3) in
-    (search needs, search needs, search needs, rw same (o .inv .5 .cursor), o .inv .6, search needs)
+    (search needs, search needs, search needs, rw same (o .inv .5 .cursor), o .inv .6, omega (arith, o .inv .2, pre .1 .0))
 
 returns : tie.Need-returns Inv-loop μ-loop
 returns c =
-    let pre = c .before .before .before .before .before .before .before .before .before .before .before .before .before .before .before .before .pre in
-    let mark-block = c .before .before .before .before .before .before .before .before .before .mark-block in
+    let back = c .before .before .before .before .before .before .before .before .before in
+    let pre = back .before .before .before .before .before .before .before .before .before .pre in
+    let mark-block = c .before .before .before .before .before .before .before .before .before .before .mark-block in
     let renew-sector = c .before .before .before .before .before .renew-sector in
-    let a = c .before .before .before .before .before .before .before .before .before .before .before .before .before .before .before .before .args in
-    let o = c .before .before .before .before .before .before .before .before .before .before .before .before .before .before .loop in
-    let t = turn-same (a .l) (pre .0 .fits .shape) (a .last) (a .value) (a .first) (a .n) (a .m) (a .old) (a .limit) (a .w .now) (o .w) (o .s)
-    (o .made) (o .inv .3) (mark-block .last .1 .1 .0) (mark-block .ensures) (o .at) (o .left) (o .inv .5) in
+    let back = c .before .before .before .before .before .before .before .before .before in
+    let a = back .before .before .before .before .before .before .before .before .before .args in
+    let o = c .before .before .before .before .before .before .before .before .before .before .before .before .before .before .before .loop in
+    let t = turn-same (a .l) (pre .0 .0 .fits .shape) (a .last) (a .value) (a .first) (a .n) (a .m) (a .old) (a .limit) (a .w .now) (o .w) (o .s)
+    (o .made) (o .inv .3)
+    (mark-block .last .1 .1 .0) (mark-block .ensures) (o .at) (o .left) (o .inv .5) in
     rw (← write-turns (a .l) (passed (a .l) (own-fat (a .l) (a .w .now)) (a .last) (a .value) (a .first) (a .n) (a .m) (a .old))
     (fat2-of (a .l) (card-of (a .w .now))))
     (turns-cut _ (a .limit) (o .s) (a .w .now) (o .w) _ (o .made) _ (o .inv .3) (a .l .fatsize) (omega arith)
@@ -76,15 +84,18 @@ returns c =
 
 loop-again : tie.Need-loop-again Inv-loop μ-loop
 loop-again c =
-    let pre = c .before .before .before .before .before .before .before .before .before .before .before .before .before .before .before .before .pre in
-    let mark-block = c .before .before .before .before .before .before .before .before .before .mark-block in
+    let back = c .before .before .before .before .before .before .before .before .before in
+    let pre = back .before .before .before .before .before .before .before .before .before .pre in
+    let mark-block = c .before .before .before .before .before .before .before .before .before .before .mark-block in
     let renew-sector = c .before .before .before .before .before .renew-sector in
-    let a = c .before .before .before .before .before .before .before .before .before .before .before .before .before .before .before .before .args in
-    let o = c .before .before .before .before .before .before .before .before .before .before .before .before .before .before .loop in
-    let same = fat-same (a .l) (pre .0 .fits .shape) (a .last) (a .value) (a .first) (a .n) (a .m) (a .old) (a .limit) (a .w .now) (o .w) (o .s)
+    let back = c .before .before .before .before .before .before .before .before .before in
+    let a = back .before .before .before .before .before .before .before .before .before .args in
+    let o = c .before .before .before .before .before .before .before .before .before .before .before .before .before .before .before .loop in
+    let same = fat-same (a .l) (pre .0 .0 .fits .shape) (a .last) (a .value) (a .first) (a .n) (a .m) (a .old) (a .limit) (a .w .now) (o .w) (o .s)
     (o .made) (o .inv .3) in
-    let t = turn-same (a .l) (pre .0 .fits .shape) (a .last) (a .value) (a .first) (a .n) (a .m) (a .old) (a .limit) (a .w .now) (o .w) (o .s)
-    (o .made) (o .inv .3) (mark-block .last .1 .1 .0) (mark-block .ensures) (o .at) (o .left) (o .inv .5) in (
+    let t = turn-same (a .l) (pre .0 .0 .fits .shape) (a .last) (a .value) (a .first) (a .n) (a .m) (a .old) (a .limit) (a .w .now) (o .w) (o .s)
+    (o .made) (o .inv .3)
+    (mark-block .last .1 .1 .0) (mark-block .ensures) (o .at) (o .left) (o .inv .5) in (
       search needs,
       search needs,
       search needs,
@@ -98,7 +109,7 @@ loop-again c =
 returns-2 : tie.Need-returns-2 Inv-loop μ-loop
 returns-2 c =
     let turn = c .before .before .loop in
-    let a = c .before .before .before .before .args in
+    let a = c .before .before .before .before .before .args in
     let end : turn .s ≡ a .l .fatsize = omega arith in
     rw (← write-turns (a .l) (passed (a .l) (own-fat (a .l) (a .w .now)) (a .last) (a .value) (a .first) (a .n) (a .m) (a .old))
     (fat2-of (a .l) (card-of (a .w .now))))
@@ -107,6 +118,6 @@ returns-2 c =
 pub renew-all-spec : {M : Type 1} → statement M
 renew-all-spec =
     tie.close
-    (tie.spec Inv-loop μ-loop loop-holds (λ c. search needs) mark-block-requires (λ c. search needs) (λ c. search needs)
-    renew-sector-requires (λ c. search needs) (λ c. search needs) returns (λ c. search needs) (λ c. search needs) loop-again
+    (tie.spec Inv-loop μ-loop loop-holds mark-block-requires (λ c. search needs) renew-sector-requires (λ c. search needs)
+    (λ c. search needs) (λ c. search needs) returns (λ c. search needs) (λ c. search needs) loop-again (λ c. search needs)
     (λ c. search needs) returns-2)

@@ -11,43 +11,56 @@ use Rattle.fat_release.proofs.Laws.{own-chain}
 use Rattle.fat_write.specs.Renew.{renewed, passed}
 use Rattle.fat_write.proofs.Laws.{renewed-cut, passed-some}
 use borrow.Author.Needs.{needs}
+use borrow.Author.Needs.{needs}
 use Rattle.fat_write.proofs.renew_fat.Statement.{statement}
 use Rattle.fat_write.proofs.renew_fat.Tie as tie
+use Rattle.fat_write.proofs.renew_fat.Reads as reads
+use Rattle.fat_write.proofs.renew_fat.Lts as lts
+use Rattle.fat_read.proofs.find_entry.Reads as find-entry-reads
+use Rattle.fat_write.proofs.free_clusters.Reads as free-clusters-reads
+use Rattle.fat_write.proofs.renew_all.Reads as renew-all-reads
 
 returns : tie.Need-returns
 returns c =
-    let if1 = c .before .before .before .before .if1 in
-    let a = c .before .before .before .before .before .before .args in
+    let if1 = c .before .before .before .before .before .before .before .if1 in
+    let free-clusters-2 = c .before .before .before .before .free-clusters in
+    let a = c .before .before .before .before .before .before .before .before .before .before .args in
     let t = fat1-of (a .l) (card-of (a .w .now)) in
-    rw (if1 .taken, renewed-cut (free-clusters (a .l) t) t (a .last) (a .old) (a .m)) (c .before .before .shorten-fat .ensures)
+    rw (if1 .taken, renewed-cut (free-clusters (a .l) t) t (a .last) (a .old) (a .m)) (free-clusters-2 .ensures)
 
 renew-all-requires : tie.Need-renew-all-requires
 renew-all-requires c κs =
-    let pre = c .before .before .before .before .before .pre in
-    let a = c .before .before .before .before .before .args in
+    let pre = c .before .before .before .before .before .before .before .pre in
+    let find-entry = c .before .before .find-entry in
+    let a = c .before .before .before .before .before .before .before .args in
     let x = card-of (a .w .now) in (
-      search needs,
-      omega (arith, c .before .find-entry .ensures .2, pre .0 .fits .shape .few),
-      first-cursor (a .l) x (pre .0 .fits .shape) (a .n) (c .before .find-entry .result) (pre .1)
-          (c .before .find-entry .ensures .0 ∙ own-first (a .l) x 2 (a .l .clusters) (omega (arith, pre .0))),
-      rw (own-chain (a .l) x (pre .0 .fits .shape) (a .m) (a .old) (pre .2)) (pre .2),
+      (
+        search needs,
+        omega (arith, find-entry .ensures .2, pre .0 .0 .fits .shape .few),
+        first-cursor (a .l) x (pre .0 .0 .fits .shape) (a .n) (find-entry .result) (pre .0 .1)
+            (find-entry .ensures .0 ∙ own-first (a .l) x 2 (a .l .clusters) (omega (arith, pre .0 .0))),
+        rw (own-chain (a .l) x (pre .0 .0 .fits .shape) (a .m) (a .old) (pre .0 .2)) (pre .0 .2),
+      ),
+      pre .1,
     )
 
 returns-2 : tie.Need-returns-2
 returns-2 c =
-    let pre = c .before .before .before .before .before .before .before .before .pre in
-    let find-entry = c .before .before .before .before .find-entry in
-    let a = c .before .before .before .before .before .before .before .before .args in
+    let pre = c .before .before .before .before .before .before .before .before .before .before .before .before .pre in
+    let find-entry = c .before .before .before .before .before .before .before .find-entry in
+    let renew-all = c .before .before .before .before .renew-all in
+    let a = c .before .before .before .before .before .before .before .before .before .before .before .before .args in
     let x = card-of (a .w .now) in
     let t = fat1-of (a .l) x in
     let r = find-entry .result in
-    let is = find-entry .ensures .0 ∙ own-first (a .l) x 2 (a .l .clusters) (omega (arith, pre .0)) in
+    let is = find-entry .ensures .0 ∙ own-first (a .l) x 2 (a .l .clusters) (omega (arith, pre .0 .0)) in
     rw (write-same (a .l) (renewed (a .last) (take (a .n) (free-clusters (a .l) t)) (chain (entry t) (a .m) (a .old)) t)
     (passed (a .l) (own-fat (a .l) (a .w .now)) (a .last) r r (a .n) (a .m) (a .old)) (fat2-of (a .l) x)
-    (λ s j h b. passed-some (a .l) x (pre .0 .fits .shape) (a .last) (a .old) (a .m) (pre .2) (a .n) r (pre .1) is (omega arith) s j h))
-    (c .before .before .renew-all .ensures)
+    (λ s j h b. passed-some (a .l) x (pre .0 .0 .fits .shape) (a .last) (a .old) (a .m) (pre .0 .2) (a .n) r (pre .0 .1) is (omega arith) s j h))
+    (renew-all .ensures)
 
 pub renew-fat-spec : {M : Type 1} → statement M
 renew-fat-spec =
     tie.close
-    (tie.spec (λ c κs. search needs) (λ c. search needs) returns (λ c κs. search needs) renew-all-requires (λ c. search needs) returns-2)
+    (tie.spec (λ c κs. search needs) (λ c. search needs) (λ c. search needs) returns (λ c κs. search needs) renew-all-requires
+    (λ c. search needs) (λ c. search needs) returns-2)

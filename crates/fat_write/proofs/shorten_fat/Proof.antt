@@ -1,51 +1,23 @@
-use Rattle.model.specs.Sector.{card-of}
-use Rattle.model.specs.Fat.{fat1-of, fat2-of, end-value}
 use native.Mathlib.Omega.{arith}
-use Rattle.model.specs.Chain.{chain}
-use Rattle.fat_copy.specs.Change.{own-fat}
-use Rattle.fat_copy.proofs.Laws.{write-same}
-use Rattle.fat_link.proofs.News.{no-cursor}
-use Rattle.fat_release.specs.Release.{cut}
-use Rattle.fat_release.proofs.Laws.{own-chain}
-use Rattle.fat_write.specs.Renew.{passed}
-use Rattle.fat_write.proofs.Laws.{passed-none, passed-cut}
+use mathlib.Core.Path.{refl}
+use Rattle.model.specs.Sector.{card-of}
+use Rattle.model.specs.Fat.{fat1-of, free-clusters}
+use Rattle.fat_write.proofs.Laws.{renewed-cut}
+use borrow.Author.Needs.{needs}
 use borrow.Author.Needs.{needs}
 use Rattle.fat_write.proofs.shorten_fat.Statement.{statement}
 use Rattle.fat_write.proofs.shorten_fat.Tie as tie
+use Rattle.fat_write.proofs.shorten_fat.Reads as reads
+use Rattle.fat_write.proofs.shorten_fat.Lts as lts
+use Rattle.fat_write.proofs.renew_fat.Reads as renew-fat-reads
 
-renew-all-requires : tie.Need-renew-all-requires
-unfolding chain
-renew-all-requires c κs = (search needs, search needs, no-cursor _ _, tt)
+renew-fat-requires : tie.Need-renew-fat-requires
+renew-fat-requires c κs = ((search needs, omega arith, c .before .before .before .pre .1), (refl, λ p. refl))
 
 returns : tie.Need-returns
-returns c =
-    let if1 = c .before .before .before .before .if1 in
-    let a = c .before .before .before .before .before .before .args in
-    let x = card-of (a .w .now) in
-    rw (
-      if1 .taken,
-      write-same (a .l) (cut (fat1-of (a .l) x) (a .last) (a .old) 0) (passed (a .l) (own-fat (a .l) (a .w .now)) 0 0 0 0 0 0)
-          (fat2-of (a .l) x) (λ s j h b. passed-none (a .l) x (a .last) (a .old) s j h),
-    )
-    (c .before .before .renew-all .ensures)
-
-renew-all-requires-2 : tie.Need-renew-all-requires-2
-renew-all-requires-2 c κs =
-    let pre = c .before .before .before .pre in
-    let a = c .before .before .before .args in
-    (search needs, search needs, no-cursor _ _, rw (own-chain (a .l) (card-of (a .w .now)) (pre .0 .fits .shape) (a .m) (a .old) (pre .1)) (pre .1))
-
-returns-2 : tie.Need-returns-2
-returns-2 c =
-    let pre = c .before .before .before .before .before .before .pre in
-    let a = c .before .before .before .before .before .before .args in
-    let x = card-of (a .w .now) in
-    rw (write-same (a .l) (cut (fat1-of (a .l) x) (a .last) (a .old) (a .m))
-    (passed (a .l) (own-fat (a .l) (a .w .now)) (a .last) end-value 0 0 (a .m) (a .old)) (fat2-of (a .l) x)
-    (λ s j h b. passed-cut (a .l) x (pre .0 .fits .shape) (a .last) (a .old) (a .m) (pre .1) s j (omega arith) h))
-    (c .before .before .renew-all2 .ensures)
+returns c = let a = c .before .before .before .before .before .before .before .args in
+    let t = fat1-of (a .l) (card-of (a .w .now)) in
+    rw (← renewed-cut (free-clusters (a .l) t) t (a .last) (a .old) (a .m)) (c .before .before .before .renew-fat .ensures)
 
 pub shorten-fat-spec : {M : Type 1} → statement M
-shorten-fat-spec =
-    tie.close
-    (tie.spec renew-all-requires (λ c. search needs) returns renew-all-requires-2 (λ c. search needs) returns-2)
+shorten-fat-spec = tie.close (tie.spec (λ c. search needs) renew-fat-requires (λ c. search needs) returns)

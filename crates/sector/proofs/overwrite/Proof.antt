@@ -17,26 +17,26 @@ use Rattle.sector.proofs.overwrite.Reads as reads
 use Rattle.sector.proofs.overwrite.Lts as lts
 
 abbrev Inv-loop : tie.InvT-loop
-Inv-loop part₀ buf limit j₀ part j = (j ≤ 512) × (length part ≡ 512) × ((m : ℕ) → m < j → getD part m 0 ≡ getD buf m 0)
+Inv-loop part₀ bytes limit j₀ part j = (j ≤ 512) × (length part ≡ 512) × ((m : ℕ) → m < j → getD part m 0 ≡ getD bytes m 0)
 
 abbrev μ-loop : tie.MeasureT-loop
-μ-loop part₀ buf limit j₀ part j = 512 - j
+μ-loop part₀ bytes limit j₀ part j = 512 - j
 
 returns : tie.Need-returns Inv-loop μ-loop
-returns c = rw (c .if1 .taken) (ran-zero (store 0 (bytes-of (c .before .args .buf .now))) [] (c .before .args .part .now))
+returns c = rw (c .if1 .taken) (ran-zero (store 0 (bytes-of (c .before .args .bytes .now))) [] (c .before .args .part .now))
 
 loop-again : tie.Need-loop-again Inv-loop μ-loop
 loop-again c =
     let a = c .before .before .before .before .args in
     let turn = c .before .before .loop in
-    (search needs, search needs, copied-more (λ m. getD (a .buf .now) m 0) (turn .part) (turn .j) (omega arith) (turn .inv .2))
+    (search needs, search needs, copied-more (λ m. getD (a .bytes .now) m 0) (turn .part) (turn .j) (omega arith) (turn .inv .2))
 
 returns-2 : tie.Need-returns-2 Inv-loop μ-loop
 returns-2 c =
     let a = c .before .before .before .args in
-    ran-one (store 0 (bytes-of (a .buf .now))) (a .part .now) (c .before .loop .part) (a .limit) (omega arith)
+    ran-one (store 0 (bytes-of (a .bytes .now))) (a .part .now) (c .before .loop .part) (a .limit) (omega arith)
     (lent-put (a .part .now) (c .before .loop .part) (omega arith) (omega arith)
-    ∙ ap (put (card-of (a .part .now))) (store-same 0 (bytes-of (c .before .loop .part)) (bytes-of (a .buf .now))
+    ∙ ap (put (card-of (a .part .now))) (store-same 0 (bytes-of (c .before .loop .part)) (bytes-of (a .bytes .now))
     (λ j h. c .before .loop .inv .2 j (omega arith))))
 
 pub overwrite-spec : {M : Type 1} → statement M

@@ -1,0 +1,63 @@
+//! Calls against the least that the machine could do: comparing the FATs once, copying the bytes once.
+
+use crate::call::Call;
+use crate::cards::{Card, Layout, Shape, NAME, SHAPES};
+use crate::timing::{compare_copy, time};
+use std::hint::black_box;
+
+const BYTES: usize = 1 << 20;
+
+pub fn print() {
+    clean_check();
+    copies();
+}
+
+fn clean_check() {
+    println!("## The clean check\n");
+    println!(
+        "List on an empty root directory asks every ground of the card; its time is set against one memcmp of the two FATs, the least\n\
+         that any check could do. In microseconds. To be at most 5 on the largest card.\n"
+    );
+    println!("| clusters | bytes of a FAT | library | memcmp | ratio |");
+    println!("|---|---|---|---|---|");
+    for clusters in [4_085, 16_384, 65_524] {
+        let shape = Shape::new(clusters, 1);
+        let card = Card::empty(shape);
+        let library = time(|| {
+            black_box(lfat_card::calls::list(black_box(&card.bytes), &mut []));
+        });
+        let memcmp = time(|| {
+            let (fat1, fat2) = black_box(card.fats());
+            black_box(fat1 == fat2);
+        });
+        let bytes = 512 * shape.fat_sectors();
+        let ratio = library / memcmp;
+        println!("| {clusters} | {bytes} | {library:.1} | {memcmp:.1} | {ratio:.1} |");
+    }
+    println!();
+}
+
+fn copies() {
+    println!("## Bytes moved\n");
+    println!(
+        "Append and read of 1 MiB in one piece, against one memcpy of the same bytes to or from the same place of the card. In\n\
+         microseconds: library / memcpy = ratio. With 64 sectors per cluster append is to be at most 2, read at most 1.4.\n"
+    );
+    println!("| call | 4,085 × 1 | 4,085 × 64 | 65,524 × 1 | 65,524 × 64 |");
+    println!("|---|---|---|---|---|");
+    print!("| append 1 MiB |");
+    for shape in SHAPES {
+        let mut card = Card::with_room(shape, Layout::OnePiece, BYTES);
+        let call = Call::Append(NAME.to_vec(), vec![7; BYTES]);
+        let place = card.first_data()..card.first_data() + BYTES;
+        print!(" {} |", compare_copy(&mut card.bytes, &call, place));
+    }
+    print!("\n| read 1 MiB |");
+    for shape in SHAPES {
+        let mut card = Card::with_file(shape, Layout::OnePiece, BYTES);
+        let call = Call::Read(NAME.to_vec(), 0, BYTES);
+        let place = card.first_data()..card.first_data() + BYTES;
+        print!(" {} |", compare_copy(&mut card.bytes, &call, place));
+    }
+    println!("\n");
+}
