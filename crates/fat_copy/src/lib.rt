@@ -5,7 +5,7 @@ ghost use mathlib.Core.Path.{_≡_};
 ghost use Prim.Native.Nat.{ℕ, _+_, _*_, _%_, _≤_, _<_, _-_};
 ghost use lib.ListN.{length, getD};
 ghost use Rattle.model.specs.Bytes.{bytes-of, patch};
-ghost use Rattle.model.specs.Sector.{card-of};
+ghost use Rattle.model.specs.Sector.{card-of, store};
 ghost use Rattle.model.specs.Fat.{fat-at, fat1-of, fat2-of, write-fat};
 ghost use Rattle.model.specs.Promises.{Ran, Held};
 ghost use Rattle.fat_copy.specs.Change.{lead, renewal};
@@ -51,7 +51,15 @@ pub fn store_changed(w: &mut [u8], s: u32, buf: &[u8; 512], limit: u32) -> Progr
     sector::store_sector(w, s, buf, limit)
 }
 
-// The copy of a FAT sector onto another, where they differ. Only the sector overwritten is lent to be written.
+// The copy of a FAT sector: the sector that is lent, and nothing else, becomes the bytes given.
+fn copy_sector(part: &mut [u8], buf: &[u8; 512], limit: u32) -> Progress
+    requires { ⌜ length (now part) ≡ 512 ⌝ }
+    ensures { λ r. ⌜ Ran limit (store 0 (bytes-of (now (buf .entry))) ∷ []) (now (part .entry)) (now (part .exit)) (r .made) (r .whole) ⌝ }
+{
+    sector::overwrite(part, buf, limit)
+}
+
+// One sector onto another, where they differ.
 pub fn copy_changed(w: &mut [u8], from: u32, to: u32, limit: u32) -> Progress
     requires { ⌜ (512 * from + 512 ≤ length (now w)) × (512 * to + 512 ≤ length (now w)) ⌝ }
     ensures { λ r. ⌜
@@ -65,7 +73,7 @@ pub fn copy_changed(w: &mut [u8], from: u32, to: u32, limit: u32) -> Progress
     }
     let buf = sector::load(w, from);
     let at = 512 * sector::index(to);
-    sector::overwrite(&mut w[at..at + 512], &buf, limit)
+    copy_sector(&mut w[at..at + 512], &buf, limit)
 }
 
 // n sectors onto n others, rising. The two ranges have no sector in common.

@@ -7,7 +7,6 @@ use Rattle.operations.specs.Plan.{truncate-stores}
 use Rattle.log_steps.proofs.Ends.{did-refused, did-ran}
 use Rattle.call_truncate.proofs.Laws.{as-longer, as-same, as-shorter}
 use borrow.Author.Needs.{needs}
-use borrow.Author.Needs.{needs}
 use Rattle.call_truncate.proofs.truncate_as.Statement.{statement}
 use Rattle.call_truncate.proofs.truncate_as.Tie as tie
 use Rattle.call_truncate.proofs.truncate_as.Reads as reads

@@ -3,7 +3,6 @@ use borrow.Author.Tests.{not-true, not-false}
 use Rattle.model.proofs.Runs.{ran-none}
 use Rattle.fat_copy.proofs.Laws.{renewal-none, renewal-one}
 use borrow.Author.Needs.{needs}
-use borrow.Author.Needs.{needs}
 use Rattle.fat_copy.proofs.store_changed.Statement.{statement}
 use Rattle.fat_copy.proofs.store_changed.Tie as tie
 use Rattle.fat_copy.proofs.store_changed.Reads as reads

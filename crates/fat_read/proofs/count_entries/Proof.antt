@@ -11,7 +11,6 @@ use Rattle.model.proofs.Searches.{count-hit, count-miss}
 use Rattle.fat_read.specs.Located.{holds}
 use Rattle.fat_read.proofs.Laws.{flat}
 use borrow.Author.Needs.{needs}
-use borrow.Author.Needs.{needs}
 use Rattle.fat_read.proofs.count_entries.Statement.{statement}
 use Rattle.fat_read.proofs.count_entries.Tie as tie
 use Rattle.fat_read.proofs.count_entries.Reads as reads

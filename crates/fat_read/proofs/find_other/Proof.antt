@@ -9,7 +9,6 @@ use Rattle.model.specs.Fat.{fat1-of}
 use Rattle.model.proofs.Scan.{first-is, first-none, Sofar, sofar-none, sofar-more, sofar-cut}
 use Rattle.fat_read.specs.Located.{lacks}
 use borrow.Author.Needs.{needs}
-use borrow.Author.Needs.{needs}
 use Rattle.fat_read.proofs.find_other.Statement.{statement}
 use Rattle.fat_read.proofs.find_other.Tie as tie
 use Rattle.fat_read.proofs.find_other.Reads as reads

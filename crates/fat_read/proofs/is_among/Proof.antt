@@ -9,7 +9,6 @@ use Rattle.model.proofs.Scan.{count-none}
 use Rattle.fat_read.specs.Located.{holds}
 use Rattle.fat_read.proofs.Laws.{flat, unseen}
 use borrow.Author.Needs.{needs}
-use borrow.Author.Needs.{needs}
 use Rattle.fat_read.proofs.is_among.Statement.{statement}
 use Rattle.fat_read.proofs.is_among.Tie as tie
 use Rattle.fat_read.proofs.is_among.Reads as reads

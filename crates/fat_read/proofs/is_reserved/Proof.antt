@@ -2,7 +2,6 @@ use mathlib.Core.Path.{sym, ap, _∙_}
 use native.Mathlib.Omega.{arith}
 use Rattle.fat_read.proofs.Laws.{marks, not-reserved, reserved-marks}
 use borrow.Author.Needs.{needs}
-use borrow.Author.Needs.{needs}
 use Rattle.fat_read.proofs.is_reserved.Statement.{statement}
 use Rattle.fat_read.proofs.is_reserved.Tie as tie
 use Rattle.fat_read.proofs.is_reserved.Reads as reads

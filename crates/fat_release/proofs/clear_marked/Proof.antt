@@ -9,7 +9,6 @@ use Rattle.model.proofs.Tests.{same?}
 use Rattle.fat_release.specs.Release.{mark-of}
 use Rattle.fat_release.proofs.Laws.{mark-in, mark-past}
 use borrow.Author.Needs.{needs}
-use borrow.Author.Needs.{needs}
 use Rattle.fat_release.proofs.clear_marked.Statement.{statement}
 use Rattle.fat_release.proofs.clear_marked.Tie as tie
 use Rattle.fat_release.proofs.clear_marked.Reads as reads

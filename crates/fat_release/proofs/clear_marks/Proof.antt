@@ -5,7 +5,6 @@ use lib.ListN.{length, getD, length-set}
 use Rattle.model.proofs.Lists.{copied-more}
 use Rattle.fat_release.proofs.Laws.{all-clear}
 use borrow.Author.Needs.{needs}
-use borrow.Author.Needs.{needs}
 use Rattle.fat_release.proofs.clear_marks.Statement.{statement}
 use Rattle.fat_release.proofs.clear_marks.Tie as tie
 use Rattle.fat_release.proofs.clear_marks.Reads as reads

@@ -8,7 +8,6 @@ use borrow.Author.Tests.{eqb-true, not-false}
 use Rattle.model.proofs.Tests.{or-false}
 use Rattle.fat_release.proofs.Laws.{bit-zero, mark-past}
 use borrow.Author.Needs.{needs}
-use borrow.Author.Needs.{needs}
 use Rattle.fat_release.proofs.has_mark.Statement.{statement}
 use Rattle.fat_release.proofs.has_mark.Tie as tie
 use Rattle.fat_release.proofs.has_mark.Reads as reads

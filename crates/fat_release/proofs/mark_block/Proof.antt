@@ -10,7 +10,6 @@ use Rattle.fat_copy.proofs.Laws.{own-entry}
 use Rattle.fat_release.specs.Release.{Inside}
 use Rattle.fat_release.proofs.Laws.{Marking, marked-none, marking-none, marking-more, marking-done, inside-first, inside-rest}
 use borrow.Author.Needs.{needs}
-use borrow.Author.Needs.{needs}
 use Rattle.fat_release.proofs.mark_block.Statement.{statement}
 use Rattle.fat_release.proofs.mark_block.Tie as tie
 use Rattle.fat_release.proofs.mark_block.Reads as reads

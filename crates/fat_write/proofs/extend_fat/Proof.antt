@@ -5,7 +5,6 @@ use Rattle.model.specs.Fat.{fat1-of}
 use Rattle.model.specs.Chain.{chain}
 use Rattle.fat_write.proofs.Laws.{renewed-append}
 use borrow.Author.Needs.{needs}
-use borrow.Author.Needs.{needs}
 use Rattle.fat_write.proofs.extend_fat.Statement.{statement}
 use Rattle.fat_write.proofs.extend_fat.Tie as tie
 use Rattle.fat_write.proofs.extend_fat.Reads as reads

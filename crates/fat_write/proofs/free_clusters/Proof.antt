@@ -10,7 +10,6 @@ use Rattle.fat_release.proofs.Laws.{own-chain}
 use Rattle.fat_write.specs.Renew.{passed}
 use Rattle.fat_write.proofs.Laws.{passed-none, passed-cut}
 use borrow.Author.Needs.{needs}
-use borrow.Author.Needs.{needs}
 use Rattle.fat_write.proofs.free_clusters.Statement.{statement}
 use Rattle.fat_write.proofs.free_clusters.Tie as tie
 use Rattle.fat_write.proofs.free_clusters.Reads as reads

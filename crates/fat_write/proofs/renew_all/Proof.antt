@@ -18,7 +18,6 @@ use Rattle.fat_release.proofs.Laws.{next-marks}
 use Rattle.fat_write.specs.Renew.{passed}
 use Rattle.fat_write.proofs.Laws.{fat-same, turn-same}
 use borrow.Author.Needs.{needs}
-use borrow.Author.Needs.{needs}
 use Rattle.fat_write.proofs.renew_all.Statement.{statement}
 use Rattle.fat_write.proofs.renew_all.Tie as tie
 use Rattle.fat_write.proofs.renew_all.Reads as reads

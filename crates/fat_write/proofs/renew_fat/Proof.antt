@@ -11,7 +11,6 @@ use Rattle.fat_release.proofs.Laws.{own-chain}
 use Rattle.fat_write.specs.Renew.{renewed, passed}
 use Rattle.fat_write.proofs.Laws.{renewed-cut, passed-some}
 use borrow.Author.Needs.{needs}
-use borrow.Author.Needs.{needs}
 use Rattle.fat_write.proofs.renew_fat.Statement.{statement}
 use Rattle.fat_write.proofs.renew_fat.Tie as tie
 use Rattle.fat_write.proofs.renew_fat.Reads as reads

@@ -4,7 +4,6 @@ use Rattle.model.specs.Sector.{card-of}
 use Rattle.model.specs.Fat.{fat1-of, free-clusters}
 use Rattle.fat_write.proofs.Laws.{renewed-cut}
 use borrow.Author.Needs.{needs}
-use borrow.Author.Needs.{needs}
 use Rattle.fat_write.proofs.shorten_fat.Statement.{statement}
 use Rattle.fat_write.proofs.shorten_fat.Tie as tie
 use Rattle.fat_write.proofs.shorten_fat.Reads as reads

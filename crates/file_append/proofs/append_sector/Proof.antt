@@ -9,7 +9,6 @@ use Rattle.operations.specs.Plan.{append-sector}
 use Rattle.file_append.proofs.Bytes.{filled}
 use Rattle.file_append.proofs.Turns.{append-is, ran-same}
 use borrow.Author.Needs.{needs}
-use borrow.Author.Needs.{needs}
 use Rattle.file_append.proofs.append_sector.Statement.{statement}
 use Rattle.file_append.proofs.append_sector.Tie as tie
 use Rattle.file_append.proofs.append_sector.Reads as reads

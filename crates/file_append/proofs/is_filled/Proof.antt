@@ -4,7 +4,6 @@ use mathlib.Core.Path.{refl}
 use borrow.Author.Tests.{leb-true}
 use Rattle.model.proofs.Tests.{clash}
 use borrow.Author.Needs.{needs}
-use borrow.Author.Needs.{needs}
 use Rattle.file_append.proofs.is_filled.Statement.{statement}
 use Rattle.file_append.proofs.is_filled.Tie as tie
 use Rattle.file_append.proofs.is_filled.Reads as reads

@@ -11,7 +11,6 @@ use Rattle.model.proofs.Needed.{div-mono}
 use Rattle.file_read.specs.Files.{links}
 use Rattle.file_read.proofs.Laws.{links-none, links-on, link-inside, in-needed, along, read-more, read-all}
 use borrow.Author.Needs.{needs}
-use borrow.Author.Needs.{needs}
 use Rattle.file_read.proofs.read_within.Statement.{statement}
 use Rattle.file_read.proofs.read_within.Tie as tie
 use Rattle.file_read.proofs.read_within.Reads as reads

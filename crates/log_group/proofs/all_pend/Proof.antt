@@ -7,7 +7,6 @@ use Rattle.model.specs.Sector.{card-of}
 use Rattle.model.specs.Record.{pends}
 use Rattle.model.proofs.Scan.{Sofar, sofar-none, sofar-more, all-of0, all-not}
 use borrow.Author.Needs.{needs}
-use borrow.Author.Needs.{needs}
 use Rattle.log_group.proofs.all_pend.Statement.{statement}
 use Rattle.log_group.proofs.all_pend.Tie as tie
 use Rattle.log_group.proofs.all_pend.Reads as reads

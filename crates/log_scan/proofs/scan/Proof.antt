@@ -7,7 +7,6 @@ use Rattle.model.specs.Pending.{pending-at}
 use Rattle.model.proofs.Scan.{Sofar, sofar-none, sofar-more}
 use Rattle.log_scan.proofs.Laws.{at-place, place-none, place-found}
 use borrow.Author.Needs.{needs}
-use borrow.Author.Needs.{needs}
 use Rattle.log_scan.proofs.scan.Statement.{statement}
 use Rattle.log_scan.proofs.scan.Tie as tie
 use Rattle.log_scan.proofs.scan.Reads as reads

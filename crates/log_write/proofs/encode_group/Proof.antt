@@ -9,7 +9,6 @@ use Rattle.model.specs.Record.{record-bytes, records, lay, encode}
 use Rattle.model.specs.declared.Record.{Record}
 use Rattle.log_write.proofs.Laws.{lay-zeros, lay-next}
 use borrow.Author.Needs.{needs}
-use borrow.Author.Needs.{needs}
 use Rattle.log_write.proofs.encode_group.Statement.{statement}
 use Rattle.log_write.proofs.encode_group.Tie as tie
 use Rattle.log_write.proofs.encode_group.Reads as reads

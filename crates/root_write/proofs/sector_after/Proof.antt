@@ -8,7 +8,6 @@ use Rattle.model.specs.Root.{slot-at}
 use Rattle.operations.specs.Finish.{effect}
 use Rattle.root_write.proofs.Laws.{Laid, laid-more}
 use borrow.Author.Needs.{needs}
-use borrow.Author.Needs.{needs}
 use Rattle.root_write.proofs.sector_after.Statement.{statement}
 use Rattle.root_write.proofs.sector_after.Tie as tie
 use Rattle.root_write.proofs.sector_after.Reads as reads

@@ -10,7 +10,6 @@ use Rattle.model.proofs.Runs.{turns-none, turns-more, turns-cut}
 use Rattle.root_write.specs.Slots.{root-turn}
 use Rattle.root_write.proofs.Laws.{root-turns, turn-same}
 use borrow.Author.Needs.{needs}
-use borrow.Author.Needs.{needs}
 use Rattle.root_write.proofs.store_root.Statement.{statement}
 use Rattle.root_write.proofs.store_root.Tie as tie
 use Rattle.root_write.proofs.store_root.Reads as reads

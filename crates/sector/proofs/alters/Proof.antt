@@ -7,7 +7,6 @@ use Rattle.model.specs.Scan.{all-from}
 use Rattle.model.specs.Sector.{card-of}
 use Rattle.sector.proofs.Stored.{in-sector, all-none, all-more, equal, compared}
 use borrow.Author.Needs.{needs}
-use borrow.Author.Needs.{needs}
 use Rattle.sector.proofs.alters.Statement.{statement}
 use Rattle.sector.proofs.alters.Tie as tie
 use Rattle.sector.proofs.alters.Reads as reads

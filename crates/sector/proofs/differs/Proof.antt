@@ -6,7 +6,6 @@ use Rattle.model.specs.Scan.{all-from}
 use Rattle.model.specs.Sector.{card-of}
 use Rattle.sector.proofs.Stored.{in-sector, all-none, all-more, equal, compared}
 use borrow.Author.Needs.{needs}
-use borrow.Author.Needs.{needs}
 use Rattle.sector.proofs.differs.Statement.{statement}
 use Rattle.sector.proofs.differs.Tie as tie
 use Rattle.sector.proofs.differs.Reads as reads

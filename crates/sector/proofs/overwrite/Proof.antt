@@ -10,7 +10,6 @@ use Rattle.model.proofs.Lists.{copied-more}
 use Rattle.model.proofs.Runs.{ran-one, ran-zero}
 use Rattle.sector.proofs.Stored.{lent-put}
 use borrow.Author.Needs.{needs}
-use borrow.Author.Needs.{needs}
 use Rattle.sector.proofs.overwrite.Statement.{statement}
 use Rattle.sector.proofs.overwrite.Tie as tie
 use Rattle.sector.proofs.overwrite.Reads as reads
