@@ -21,10 +21,10 @@ help:
 	@echo 'make test    the gate, .ci/run: proves everything from nothing (15 to 21 minutes)'
 	@echo 'make clean   remove what cargo, gcc and make run have made; proofs and library stay'
 
-# rt proves only what has changed; from nothing it takes a while.
+# rt proves only what has changed; from nothing it takes a while. A line for each crate.
 $(LIBRARY): $(PROVED)
-	rt staticlib lfat
-	touch $@
+	@.ci/prove-progress lfat
+	@touch $@
 
 lfat: $(LIBRARY)
 	cargo build --release --offline --manifest-path host/Cargo.toml --package lfat --target-dir target/host

@@ -18,7 +18,8 @@
 enum { WRONG_USAGE = 64, PATH_TOO_LONG = 65, NO_INPUT = 66, MOST_ENTRIES = 512, MOST_PATH_BYTES = 1 << 20 };
 
 static uint8_t entries[MOST_ENTRIES * LFAT_ENTRY_BYTES];
-static uint8_t path[MOST_PATH_BYTES];
+/* One byte more than the longest path: a count below that is a whole path. */
+static uint8_t path[MOST_PATH_BYTES + 1];
 
 /* Reads a whole file into memory. */
 static uint8_t *load(const char *file_name, size_t *length)
@@ -97,13 +98,13 @@ static int list_entries(const uint8_t *card, size_t card_len)
 
 static int read_path(const uint8_t *card, size_t card_len, const char *wanted)
 {
-    uint8_t name[LFAT_NAME_BYTES], next;
+    uint8_t name[LFAT_NAME_BYTES];
     uint64_t answer;
     short_name(wanted, name);
     answer = lfat_read(card, card_len, name, sizeof name, 0, path, sizeof path);
     if (LFAT_CODE(answer) != LFAT_DONE)
         return refuse("read", answer);
-    if (LFAT_COUNT(lfat_read(card, card_len, name, sizeof name, sizeof path, &next, 1)) > 0) {
+    if (LFAT_COUNT(answer) == sizeof path) {
         fprintf(stderr, "%s is longer than the buffer\n", wanted);
         return PATH_TOO_LONG;
     }

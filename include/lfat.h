@@ -17,10 +17,45 @@
  *
  * What is asked of the caller:
  *  - each pointer is good for the length beside it (a part of length 0 may have any pointer);
- *  - the parts lent to one call do not overlap;
+ *  - what a call writes overlaps nothing else that it is lent: that is the card, or the buffer of lfat_read and
+ *    lfat_list. Parts that are only read may overlap: a name may lie in the card that is read, or in the data;
  *  - the window is the whole card, from its boot sector on; bytes after its last sector are not touched;
  *  - nobody else writes to the card during a call, nor between a cut and the end of recovery.
  * Anything else may be wrong: a damaged card, a bad name or a length out of range is refused.
+ *
+ * What the window has to be, for a power cut to leave the old file or the new one:
+ *  - hardware on which the store of a sector happens wholly or not at all, and the stores in the order in which
+ *    they are made; or
+ *  - memory that holds the card, whose stores are then put on the card in that order: lfat_disk.h does so for
+ *    images and block devices. A file that is mapped into memory is not enough: the system writes it in any order.
+ *
+ * Reading. A read copies what fits. It does not say whether there is more, so a count equal to the buffer's length
+ * is not the end of the file. Lend one byte more than the longest file that is taken; a count below that is a whole file:
+ *
+ *     static uint8_t path[LONGEST + 1];
+ *     uint64_t answer = lfat_read(card, card_len, name, LFAT_NAME_BYTES, 0, path, sizeof path);
+ *     if (LFAT_CODE(answer) == LFAT_DONE && LFAT_COUNT(answer) < sizeof path)
+ *         use(path, LFAT_COUNT(answer));
+ *
+ * Or read on until a count is below the piece's length. Every call asks all grounds of the card anew and follows the
+ * file's clusters from the first, so take large pieces (docs/BENCH.md has what small ones cost):
+ *
+ *     static uint8_t piece[65536];
+ *     uint64_t answer, offset = 0;
+ *     do {
+ *         answer = lfat_read(card, card_len, name, LFAT_NAME_BYTES, offset, piece, sizeof piece);
+ *         use(piece, LFAT_COUNT(answer));
+ *         offset += LFAT_COUNT(answer);
+ *     } while (LFAT_CODE(answer) == LFAT_DONE && LFAT_COUNT(answer) == sizeof piece);
+ *
+ * The machine. The library, liblfat.a, is for x86-64 in ELF files, under the System V calling convention:
+ *  - it needs these functions of C, and nothing else: memcpy, memmove, memset;
+ *  - it uses the SSE registers and the red zone, the 128 bytes below the stack pointer: what interrupts a call on
+ *    its own stack must leave both alone;
+ *  - it has no variables of its own, so calls on different cards may run in parallel, and calls that read on one card;
+ *  - it needs at most so many bytes of stack, return address and red zone included:
+ *    lfat_list 512, lfat_read 512, lfat_recover 3072, lfat_create 3072, lfat_rename 3072,
+ *    lfat_truncate 4096, lfat_delete 4096, lfat_append 4096.
  *
  * examples/loader.c is a whole program.
  */

@@ -11,9 +11,7 @@ mod speed;
 mod timing;
 
 // A call on either implementation, as the tests have it.
-#[allow(dead_code)]
-#[path = "../../lfat-card/tests/library/support/call.rs"]
-mod call;
+use testkit::call;
 
 fn main() {
     if std::env::args().any(|word| word == "--floor") {

@@ -86,6 +86,7 @@ impl Answer {
         }
     }
 
+    /// The number that the answer has in the C interface.
     pub fn encode(self) -> u64 {
         match self {
             Answer::Done(count) => u64::from(count),
@@ -97,6 +98,7 @@ impl Answer {
 
 // In each call below the slices are valid for their lengths, and a mutable one overlaps no other.
 
+/// Makes an empty file, with at most so many stores.
 pub fn create(card: &mut [u8], name: &[u8], limit: u32) -> Answer {
     Answer::decode(unsafe {
         library::lfat_create(
@@ -109,6 +111,7 @@ pub fn create(card: &mut [u8], name: &[u8], limit: u32) -> Answer {
     })
 }
 
+/// Adds bytes at the end of a file, with at most so many stores.
 pub fn append(card: &mut [u8], name: &[u8], data: &[u8], limit: u32) -> Answer {
     Answer::decode(unsafe {
         library::lfat_append(
@@ -123,6 +126,7 @@ pub fn append(card: &mut [u8], name: &[u8], data: &[u8], limit: u32) -> Answer {
     })
 }
 
+/// Shortens a file, with at most so many stores.
 pub fn truncate(card: &mut [u8], name: &[u8], size: u64, limit: u32) -> Answer {
     Answer::decode(unsafe {
         library::lfat_truncate(
@@ -136,6 +140,7 @@ pub fn truncate(card: &mut [u8], name: &[u8], size: u64, limit: u32) -> Answer {
     })
 }
 
+/// Removes a file and frees its clusters, with at most so many stores.
 pub fn delete(card: &mut [u8], name: &[u8], limit: u32) -> Answer {
     Answer::decode(unsafe {
         library::lfat_delete(
@@ -148,6 +153,7 @@ pub fn delete(card: &mut [u8], name: &[u8], limit: u32) -> Answer {
     })
 }
 
+/// Gives a file another name, with at most so many stores.
 pub fn rename(card: &mut [u8], old: &[u8], new: &[u8], limit: u32) -> Answer {
     Answer::decode(unsafe {
         library::lfat_rename(
@@ -162,10 +168,12 @@ pub fn rename(card: &mut [u8], old: &[u8], new: &[u8], limit: u32) -> Answer {
     })
 }
 
+/// Finishes what a power cut left behind, or takes it back, with at most so many stores.
 pub fn recover(card: &mut [u8], limit: u32) -> Answer {
     Answer::decode(unsafe { library::lfat_recover(card.as_mut_ptr(), card.len(), limit) })
 }
 
+/// Copies a file's bytes from an offset on, as many as there are and fit.
 pub fn read(card: &[u8], name: &[u8], offset: u64, buffer: &mut [u8]) -> Answer {
     Answer::decode(unsafe {
         library::lfat_read(
@@ -180,6 +188,7 @@ pub fn read(card: &[u8], name: &[u8], offset: u64, buffer: &mut [u8]) -> Answer 
     })
 }
 
+/// Copies the entries of the root directory, as many as fit whole.
 pub fn list(card: &[u8], buffer: &mut [u8]) -> Answer {
     Answer::decode(unsafe {
         library::lfat_list(card.as_ptr(), card.len(), buffer.as_mut_ptr(), buffer.len())

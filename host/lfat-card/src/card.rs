@@ -1,17 +1,19 @@
-//! A card in memory.
+//! A card in memory that is changed.
 
-use crate::entry::ENTRY_BYTES;
-use crate::{calls, count, Answer, Entry, Name, Operation, Refusal, NO_LIMIT};
+use crate::{count, Answer, CardView, Entry, File, Name, Operation, Refusal, NO_LIMIT};
 
 /// A card over the bytes of its window. Methods that change it give the number of stores made.
 ///
 /// ```
 /// use lfat_card::{Card, Name, Refusal};
 ///
-/// let mut window = vec![0; 512];
+/// # let image = reference::card_k();
+/// let mut window: Vec<u8> = image;
 /// let mut card = Card::new(&mut window);
+/// card.recover()?;
 /// let name = Name::parse("ROUTE.CUT")?;
-/// assert_eq!(card.create(name), Err(Refusal::Boot));
+/// assert_eq!(card.create(name), Ok(3));
+/// assert_eq!(card.create(name), Err(Refusal::Exists));
 /// # Ok::<(), Refusal>(())
 /// ```
 pub struct Card<'a> {
@@ -27,6 +29,11 @@ impl<'a> Card<'a> {
     /// The card's bytes.
     pub fn bytes(&self) -> &[u8] {
         self.window
+    }
+
+    /// The card, to be read only.
+    pub fn view(&self) -> CardView<'_> {
+        CardView::new(self.window)
     }
 
     /// Makes a call with at most so many stores.
@@ -64,31 +71,23 @@ impl<'a> Card<'a> {
         count(self.run(&Operation::Rename { old, new }, NO_LIMIT))
     }
 
-    /// The files and directories in the root directory, in slot order.
+    /// As [`CardView::list`].
     pub fn list(&self) -> Result<Vec<Entry>, Refusal> {
-        let there = count(calls::list(self.window, &mut []))? as usize;
-        let mut bytes = vec![0; there * ENTRY_BYTES];
-        count(calls::list(self.window, &mut bytes))?;
-        let entries = bytes.chunks_exact(ENTRY_BYTES);
-        Ok(entries
-            .map(|entry| Entry(entry.try_into().expect("32 bytes")))
-            .collect())
+        self.view().list()
     }
 
-    /// Copies a file's bytes from an offset on into the buffer; gives how many.
+    /// As [`CardView::read`].
     pub fn read(&self, name: Name, offset: u64, buffer: &mut [u8]) -> Result<usize, Refusal> {
-        count(calls::read(self.window, name.bytes(), offset, buffer)).map(|n| n as usize)
+        self.view().read(name, offset, buffer)
     }
 
-    /// A file's bytes.
+    /// As [`CardView::read_whole`].
     pub fn read_whole(&self, name: Name) -> Result<Vec<u8>, Refusal> {
-        // The file keeps the chain rule if this is granted, so its size is no more than the card's.
-        self.read(name, 0, &mut [])?;
-        let entries = self.list()?;
-        let entry = entries.iter().find(|e| e.name_bytes() == name.bytes());
-        let mut bytes = vec![0; entry.map_or(0, Entry::size) as usize];
-        let read = self.read(name, 0, &mut bytes)?;
-        bytes.truncate(read);
-        Ok(bytes)
+        self.view().read_whole(name)
+    }
+
+    /// As [`CardView::open`].
+    pub fn open(&self, name: Name) -> Result<File<'_>, Refusal> {
+        self.view().open(name)
     }
 }

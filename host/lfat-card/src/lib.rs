@@ -1,18 +1,53 @@
-//! Safe functions over the proved library: a card over a slice of bytes, and what the library answers, as Rust values.
+//! FAT16 cards with a TI-LFAT journal: safe functions over the proved library.
+//!
+//! A card is a window of bytes, the whole card from its boot sector on. [`Card`] changes it, [`CardView`] only reads it, and a
+//! [`File`] is a file being read. [`calls`] has the library's eight calls as they are, with names of any bytes.
+//!
+//! ```
+//! use lfat_card::{Card, Name};
+//! use std::io::Read;
+//!
+//! # let image = reference::card_k();
+//! let mut window: Vec<u8> = image;
+//! let mut card = Card::new(&mut window);
+//! card.recover()?;
+//!
+//! let name = Name::parse("ROUTE.CUT")?;
+//! card.create(name)?;
+//! card.append(name, b"G1 X0 Y7\n")?;
+//!
+//! let mut path = String::new();
+//! card.open(name)?.read_to_string(&mut path)?;
+//! assert_eq!(path, "G1 X0 Y7\n");
+//! assert_eq!(card.list()?[0].to_name()?, name);
+//! # Ok::<(), Box<dyn std::error::Error>>(())
+//! ```
+//!
+//! What is stored in the window must reach the card by whole sectors and in order, or a power cut may leave something else than the
+//! old file or the new one: see `include/lfat.h`.
+//!
+//! The library is linked from `target/staticlib` of the repository, where `rt staticlib lfat` writes it, or from the folder that
+//! the environment variable `LFAT_LIB_DIR` names when this crate is built. It is for x86-64 and ELF.
+
+#![deny(missing_docs)]
 
 pub mod calls;
 mod card;
 mod entry;
+mod file;
 mod name;
 mod operation;
 mod refusal;
+mod view;
 
 pub use calls::Answer;
 pub use card::Card;
 pub use entry::{Entry, ENTRY_BYTES};
+pub use file::File;
 pub use name::{printed, Name};
 pub use operation::{Operation, NO_LIMIT};
 pub use refusal::Refusal;
+pub use view::CardView;
 
 /// The count of a call that gives one, or its refusal.
 fn count(answer: Answer) -> Result<u32, Refusal> {

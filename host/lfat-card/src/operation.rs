@@ -8,11 +8,38 @@ pub const NO_LIMIT: u32 = u32::MAX;
 /// A call that stores, with what it is given.
 #[derive(Clone, Copy, Debug, PartialEq, Eq)]
 pub enum Operation<'a> {
-    Create { name: Name },
-    Append { name: Name, data: &'a [u8] },
-    Truncate { name: Name, size: u64 },
-    Delete { name: Name },
-    Rename { old: Name, new: Name },
+    /// Makes an empty file.
+    Create {
+        /// The new file's name.
+        name: Name,
+    },
+    /// Adds bytes at the end of a file.
+    Append {
+        /// The file's name.
+        name: Name,
+        /// The bytes to add.
+        data: &'a [u8],
+    },
+    /// Shortens a file.
+    Truncate {
+        /// The file's name.
+        name: Name,
+        /// Its new size, no more than the present one.
+        size: u64,
+    },
+    /// Removes a file and frees its clusters.
+    Delete {
+        /// The file's name.
+        name: Name,
+    },
+    /// Gives a file another name.
+    Rename {
+        /// The present name.
+        old: Name,
+        /// The new one.
+        new: Name,
+    },
+    /// Finishes what a power cut left behind, or takes it back.
     Recover,
 }
 

@@ -1,117 +1,124 @@
+//! Why a call was refused.
+
 use std::error::Error;
 use std::fmt;
+use std::io::{self, ErrorKind};
 
 /// The grounds on which a call refuses, in checking order.
 #[derive(Clone, Copy, Debug, PartialEq, Eq)]
 pub enum Refusal {
+    /// The window has fewer than 512 bytes, less than a boot sector.
     Short,
+    /// The boot sector is not that of a FAT16 card that is covered.
     Boot,
+    /// The window has fewer bytes than the card.
     Window,
+    /// FAT1 has no log, more than one, or one of over 128 sectors.
     Logarea,
+    /// A root slot after the first unused one is in use.
     Root,
+    /// The pending log records are not one group.
     Record,
+    /// A log record is pending or the FATs differ: recover first.
     Unclean,
+    /// The name breaks the rule for names of 8 and 3 characters.
     Name,
+    /// No file has the name.
     Absent,
+    /// The name is that of a directory.
     Directory,
+    /// The name is taken.
     Exists,
+    /// The root directory has no free slot.
     Rootfull,
+    /// The file's clusters do not fit its size.
     Chain,
+    /// The file is shorter than the size asked for.
     Length,
+    /// The card has too few free clusters.
     Nospace,
 }
 
-/// The refusals with their names and meanings, by number.
-const GROUNDS: [(Refusal, &str, &str); 15] = [
-    (
-        Refusal::Short,
-        "SHORT",
-        "there are fewer than 512 bytes, less than a boot sector",
-    ),
-    (
-        Refusal::Boot,
-        "BOOT",
-        "the boot sector is not that of a FAT16 card that is covered",
-    ),
-    (
-        Refusal::Window,
-        "WINDOW",
-        "there are fewer bytes than the card has",
-    ),
-    (
-        Refusal::Logarea,
-        "LOGAREA",
-        "FAT1 has no log, more than one, or one of over 128 sectors",
-    ),
-    (
-        Refusal::Root,
-        "ROOT",
-        "a root slot after the first unused one is in use",
-    ),
-    (
-        Refusal::Record,
-        "RECORD",
-        "the pending log records are not one group",
-    ),
-    (
-        Refusal::Unclean,
-        "UNCLEAN",
-        "a log record is pending or the FATs differ",
-    ),
-    (
-        Refusal::Name,
-        "NAME",
-        "the name breaks the rule for names of 8 and 3 characters",
-    ),
-    (Refusal::Absent, "ABSENT", "no file has the name"),
-    (
-        Refusal::Directory,
-        "DIRECTORY",
-        "the name is that of a directory",
-    ),
-    (Refusal::Exists, "EXISTS", "the name is taken"),
-    (
-        Refusal::Rootfull,
-        "ROOTFULL",
-        "the root directory has no free slot",
-    ),
-    (
-        Refusal::Chain,
-        "CHAIN",
-        "the file's clusters do not fit its size",
-    ),
-    (
-        Refusal::Length,
-        "LENGTH",
-        "the file is shorter than the size asked for",
-    ),
-    (
-        Refusal::Nospace,
-        "NOSPACE",
-        "the card has too few free clusters",
-    ),
+/// The refusals by number, from 1 on.
+const BY_NUMBER: [Refusal; 15] = [
+    Refusal::Short,
+    Refusal::Boot,
+    Refusal::Window,
+    Refusal::Logarea,
+    Refusal::Root,
+    Refusal::Record,
+    Refusal::Unclean,
+    Refusal::Name,
+    Refusal::Absent,
+    Refusal::Directory,
+    Refusal::Exists,
+    Refusal::Rootfull,
+    Refusal::Chain,
+    Refusal::Length,
+    Refusal::Nospace,
 ];
 
 impl Refusal {
     /// The refusal with a ground's number, from 1 on.
     pub fn with_number(number: u32) -> Option<Refusal> {
         let index = (number as usize).checked_sub(1)?;
-        GROUNDS.get(index).map(|ground| ground.0)
+        BY_NUMBER.get(index).copied()
     }
 
     /// The ground's number.
     pub fn number(self) -> u32 {
-        self as u32 + 1
+        self.ground().0
     }
 
     /// The ground's name, as the requirements have it.
     pub fn name(self) -> &'static str {
-        GROUNDS[self as usize].1
+        self.ground().1
     }
 
     /// What is wrong, in a few words.
     pub fn meaning(self) -> &'static str {
-        GROUNDS[self as usize].2
+        self.ground().2
+    }
+
+    /// Number, name and meaning.
+    fn ground(self) -> (u32, &'static str, &'static str) {
+        match self {
+            Refusal::Short => (
+                1,
+                "SHORT",
+                "there are fewer than 512 bytes, less than a boot sector",
+            ),
+            Refusal::Boot => (
+                2,
+                "BOOT",
+                "the boot sector is not that of a FAT16 card that is covered",
+            ),
+            Refusal::Window => (3, "WINDOW", "there are fewer bytes than the card has"),
+            Refusal::Logarea => (
+                4,
+                "LOGAREA",
+                "FAT1 has no log, more than one, or one of over 128 sectors",
+            ),
+            Refusal::Root => (
+                5,
+                "ROOT",
+                "a root slot after the first unused one is in use",
+            ),
+            Refusal::Record => (6, "RECORD", "the pending log records are not one group"),
+            Refusal::Unclean => (7, "UNCLEAN", "a log record is pending or the FATs differ"),
+            Refusal::Name => (
+                8,
+                "NAME",
+                "the name breaks the rule for names of 8 and 3 characters",
+            ),
+            Refusal::Absent => (9, "ABSENT", "no file has the name"),
+            Refusal::Directory => (10, "DIRECTORY", "the name is that of a directory"),
+            Refusal::Exists => (11, "EXISTS", "the name is taken"),
+            Refusal::Rootfull => (12, "ROOTFULL", "the root directory has no free slot"),
+            Refusal::Chain => (13, "CHAIN", "the file's clusters do not fit its size"),
+            Refusal::Length => (14, "LENGTH", "the file is shorter than the size asked for"),
+            Refusal::Nospace => (15, "NOSPACE", "the card has too few free clusters"),
+        }
     }
 }
 
@@ -122,3 +129,18 @@ impl fmt::Display for Refusal {
 }
 
 impl Error for Refusal {}
+
+/// For a file being read, and for callers whose own errors are those of input and output.
+impl From<Refusal> for io::Error {
+    fn from(refusal: Refusal) -> io::Error {
+        let kind = match refusal {
+            Refusal::Name | Refusal::Length => ErrorKind::InvalidInput,
+            Refusal::Absent => ErrorKind::NotFound,
+            Refusal::Directory => ErrorKind::IsADirectory,
+            Refusal::Exists => ErrorKind::AlreadyExists,
+            Refusal::Rootfull | Refusal::Nospace => ErrorKind::StorageFull,
+            _ => ErrorKind::InvalidData,
+        };
+        io::Error::new(kind, refusal)
+    }
+}

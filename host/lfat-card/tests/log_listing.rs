@@ -2,6 +2,8 @@
 
 use std::io::Write;
 use std::process::{Command, Stdio};
+use testkit::random::Random;
+use testkit::ROUTE;
 
 /// What the program prints for a log table on its standard input.
 fn printed(table: &[u8]) -> Vec<u8> {
@@ -46,32 +48,26 @@ fn lengths() {
 
 #[test]
 fn random_tables() {
-    let mut state: u64 = 0x8A5C_D789_635D_2DFF;
-    let mut next = || {
-        state ^= state << 13;
-        state ^= state >> 7;
-        state ^= state << 17;
-        state
-    };
+    let mut random = Random::new(0x8A5C_D789_635D_2DFF);
     for round in 0..60 {
-        let sectors = 1 + (next() % 9) as usize;
+        let sectors = 1 + random.below(9);
         let mut table = vec![0u8; 512 * sectors];
         for record in table.chunks_mut(32) {
-            if next() % 3 == 0 {
+            if random.one_in(3) {
                 continue;
             }
             for byte in record.iter_mut() {
-                *byte = match next() % 4 {
+                *byte = match random.below(4) {
                     0 => 0x20,
                     1 => 0,
-                    _ => next() as u8,
+                    _ => random.byte(),
                 };
             }
-            if next() % 2 == 0 {
-                record[..11].copy_from_slice(b"ROUTE   CUT");
+            if random.one_in(2) {
+                record[..11].copy_from_slice(ROUTE);
             }
             record[0] = if round % 5 == 0 { 0xE5 } else { record[0] };
-            record[13] = (next() % 8) as u8;
+            record[13] = random.below(8) as u8;
         }
         same(&table);
     }

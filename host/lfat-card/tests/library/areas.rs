@@ -1,10 +1,10 @@
 //! Chains, the log's place and the end of the root directory, with the answers written down.
 
-use crate::support::call::Call;
-use crate::support::cards::Card;
 use crate::support::twin::Twin;
-use crate::support::{ALL, PANEL, ROUTE};
 use reference::{Answer, CardSpec, Ground};
+use testkit::call::Call;
+use testkit::cards::Card;
+use testkit::{ALL, PANEL, ROUTE};
 
 /// All calls that ask CHAIN agree on a file with the given FAT entries. The card has clusters 2 to 4,086.
 fn chain(first: u16, size: u32, entries: &[(u16, u16)], proper: bool) {

@@ -1,11 +1,11 @@
 //! Boot sectors: the edges, with the answers written down, and random ones. `LFAT_CASES=N` tries N times as many.
 
-use crate::support::call::Call;
-use crate::support::cards::Card;
-use crate::support::random::Random;
 use crate::support::twin::Twin;
-use crate::support::{cases, ALL, ROUTE};
 use reference::{Answer, CardSpec, Ground};
+use testkit::call::Call;
+use testkit::cards::Card;
+use testkit::random::Random;
+use testkit::{cases, ALL, ROUTE};
 
 /// What list answers where the window is the boot sector alone: WINDOW if it is accepted.
 fn boot_alone(bytes: Vec<u8>) -> Answer {

@@ -2,14 +2,14 @@
 //! that it can give.
 //! `LFAT_CASES=N` tries N times as many cards.
 
-use crate::support::call::Call;
-use crate::support::cards::Card;
 use crate::support::coverage::{assert_seen, Seen};
-use crate::support::fixtures::furnished_card;
-use crate::support::random::Random;
-use crate::support::steps::random_call;
 use crate::support::twin::Twin;
-use crate::support::{cases, ALL};
+use testkit::call::Call;
+use testkit::cards::Card;
+use testkit::fixtures::furnished_card;
+use testkit::random::Random;
+use testkit::steps::random_call;
+use testkit::{cases, ALL};
 
 /// Changes a few bytes where it matters.
 fn damage(card: &mut Card, random: &mut Random) {

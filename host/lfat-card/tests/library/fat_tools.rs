@@ -3,11 +3,11 @@
 //! `LFAT_CASES=N` makes N times as many steps.
 
 use crate::support::image::Image;
-use crate::support::random::Random;
-use crate::support::{cases, ALL};
 use lfat_card::calls::{self, Answer};
 use lfat_card::Refusal;
 use std::collections::BTreeMap;
+use testkit::random::Random;
+use testkit::{cases, ALL};
 
 /// Names and bytes that the card should hold.
 type Files = BTreeMap<[u8; 11], Vec<u8>>;

@@ -1,12 +1,12 @@
 //! The checking order, with the grounds written down: a card with every fault at once is mended fault by fault; at each step
 //! every call refuses on the first ground still standing. These rows do not rely on the reference.
 
-use crate::support::call::Call;
-use crate::support::cards::Card;
-use crate::support::fixtures::{BROKEN, FOLDER};
 use crate::support::twin::Twin;
-use crate::support::{ALL, OTHER, PANEL, ROUTE};
 use reference::{Answer, Ground};
+use testkit::call::Call;
+use testkit::cards::Card;
+use testkit::fixtures::{BROKEN, FOLDER};
+use testkit::{ALL, OTHER, PANEL, ROUTE};
 
 const BAD_NAME: &[u8] = b"lower case ";
 

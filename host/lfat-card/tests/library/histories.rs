@@ -1,15 +1,15 @@
 //! Random histories on small fragmented cards, with cuts and recoveries in between.
 //! `LFAT_CASES=N` runs N times as many.
 
-use crate::support::call::Call;
-use crate::support::cards::Card;
 use crate::support::coverage::{assert_seen, Seen};
-use crate::support::fixtures::furnished_card;
-use crate::support::random::Random;
-use crate::support::steps::{random_call, random_name, random_offset};
 use crate::support::twin::Twin;
-use crate::support::{cases, ALL, PANEL, ROUTE};
 use reference::{Answer, CardSpec, Ground};
+use testkit::call::Call;
+use testkit::cards::Card;
+use testkit::fixtures::furnished_card;
+use testkit::random::Random;
+use testkit::steps::{random_call, random_name, random_offset};
+use testkit::{cases, ALL, PANEL, ROUTE};
 
 /// Things that a history can come across besides its answers.
 #[derive(Default)]

@@ -12,6 +12,7 @@ mod fat_tools;
 mod grounds;
 mod histories;
 mod names;
+mod parallel;
 mod power_cuts;
 mod raw;
 mod records;

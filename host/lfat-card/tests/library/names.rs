@@ -1,10 +1,10 @@
 //! Which names are taken: every byte at every place, and other lengths.
 
-use crate::support::call::Call;
-use crate::support::cards::Card;
 use crate::support::twin::Twin;
-use crate::support::{OTHER, PANEL, ROUTE};
 use reference::{Answer, Ground};
+use testkit::call::Call;
+use testkit::cards::Card;
+use testkit::{OTHER, PANEL, ROUTE};
 
 /// The rule, written down once more.
 fn is_name(name: &[u8]) -> bool {

@@ -2,14 +2,14 @@
 //! in turn until one ends. The library does everything; the judge is its own. `LFAT_CASES=N` runs N times as many
 //! histories.
 
-use crate::support::call::Call;
-use crate::support::fixtures::{furnished_card, largest_fragmented_card, share_cluster};
-use crate::support::judge::{has_pending, judge, Judged};
-use crate::support::random::Random;
-use crate::support::steps::random_call;
-use crate::support::{cases, ALL};
 use lfat_card::calls::{recover, Answer};
 use std::collections::BTreeMap;
+use testkit::call::Call;
+use testkit::fixtures::{furnished_card, largest_fragmented_card, share_cluster};
+use testkit::judge::{has_pending, judge, Judged};
+use testkit::random::Random;
+use testkit::steps::random_call;
+use testkit::{cases, ALL};
 
 fn run(call: &Call, card: &mut [u8], limit: u32) -> Answer {
     call.on_library(card, limit, &mut [])

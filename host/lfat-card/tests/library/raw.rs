@@ -1,8 +1,8 @@
 //! The numbers that cross the C interface: code * 2^32 + count, where a refusal has the count 0. The safe functions do not show
 //! that count.
 
-use crate::support::{ALL, PANEL, ROUTE};
 use reference::card_k;
+use testkit::{ALL, PANEL, ROUTE};
 
 /// A pointer and a length make a slice.
 type Bytes = *const u8;
@@ -135,4 +135,97 @@ fn counts_of_finished_and_stopped_calls() {
         0,
     ];
     assert_eq!(answers(&mut card, ROUTE, 0), stopped);
+}
+
+/// Two parts that overlap but are only read give what copies of them give.
+#[test]
+fn parts_that_are_only_read_may_overlap() {
+    let text = b"PATHS_1CUTNEW_PART1CUT";
+    let (old, new) = (&text[..11], &text[6..17]);
+    let start = card_with(old);
+    let (mut one, mut other) = (start.clone(), start.clone());
+    let answers = unsafe {
+        [
+            lfat_rename(
+                one.as_mut_ptr(),
+                one.len(),
+                old.as_ptr(),
+                11,
+                new.as_ptr(),
+                11,
+                ALL,
+            ),
+            lfat_rename(
+                other.as_mut_ptr(),
+                other.len(),
+                old.to_vec().as_ptr(),
+                11,
+                new.to_vec().as_ptr(),
+                11,
+                ALL,
+            ),
+        ]
+    };
+    assert_eq!(answers, [3, 3]);
+    assert!(one == other && one != start);
+
+    // The name is the data's beginning.
+    let (mut one, mut other) = (start.clone(), start.clone());
+    let answers = unsafe {
+        [
+            lfat_append(
+                one.as_mut_ptr(),
+                one.len(),
+                text.as_ptr(),
+                11,
+                text.as_ptr(),
+                text.len(),
+                ALL,
+            ),
+            lfat_append(
+                other.as_mut_ptr(),
+                other.len(),
+                old.to_vec().as_ptr(),
+                11,
+                text.as_ptr(),
+                text.len(),
+                ALL,
+            ),
+        ]
+    };
+    assert_eq!(answers, [6, 6]);
+    assert!(one == other && one != start);
+
+    // The name lies in the root directory of the card that is read.
+    let mut buffer = [0; 30];
+    let slot = one[33 * 512..].as_ptr();
+    let read = unsafe {
+        lfat_read(
+            one.as_ptr(),
+            one.len(),
+            slot,
+            11,
+            0,
+            buffer.as_mut_ptr(),
+            30,
+        )
+    };
+    assert_eq!(read, text.len() as u64);
+    assert_eq!(buffer[..text.len()], text[..]);
+}
+
+/// Card K with an empty file.
+fn card_with(name: &[u8]) -> Vec<u8> {
+    let mut card = card_k();
+    let created = unsafe {
+        lfat_create(
+            card.as_mut_ptr(),
+            card.len(),
+            name.as_ptr(),
+            name.len(),
+            ALL,
+        )
+    };
+    assert_eq!(created, 3);
+    card
 }

@@ -1,12 +1,12 @@
 //! Pending groups made by hand: what RECORD accepts, and the recovery of it with every limit.
 //! `LFAT_CASES=N` makes N times as many random groups.
 
-use crate::support::call::Call;
-use crate::support::cards::Card;
-use crate::support::random::Random;
 use crate::support::twin::Twin;
-use crate::support::{cases, ALL, OTHER, PANEL, ROUTE};
 use reference::{Answer, Ground};
+use testkit::call::Call;
+use testkit::cards::Card;
+use testkit::random::Random;
+use testkit::{cases, ALL, OTHER, PANEL, ROUTE};
 
 const RENAME: u8 = 5;
 /// Live slots of the card; the next one is the lowest beginning 0.

@@ -1,10 +1,10 @@
 //! Clusters of 1 to 64 sectors: paths saved, read back, shortened and removed at every edge of sector and cluster.
 
-use crate::support::call::Call;
-use crate::support::cards::Card;
 use crate::support::twin::Twin;
-use crate::support::{ALL, OTHER, PANEL, ROUTE};
 use reference::{Answer, CardSpec};
+use testkit::call::Call;
+use testkit::cards::Card;
+use testkit::{ALL, OTHER, PANEL, ROUTE};
 
 fn card(sectors_per_cluster: u8, log_clusters: u16) -> Card {
     let total_sectors = 65 + 4_085 * u32::from(sectors_per_cluster);

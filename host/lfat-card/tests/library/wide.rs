@@ -1,10 +1,10 @@
 //! Numbers past 31 and 32 bits: the largest card, and buffers and windows longer than 4 GiB. Memory is taken only for the few
 //! pages that are written.
 
-use crate::support::call::Call;
-use crate::support::{ALL, PANEL, ROUTE};
 use lfat_card::calls;
 use reference::{Answer, CardSpec};
+use testkit::call::Call;
+use testkit::{ALL, PANEL, ROUTE};
 
 const LARGEST: CardSpec = CardSpec {
     reserved: 1,

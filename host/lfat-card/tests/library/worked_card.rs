@@ -1,7 +1,7 @@
 //! Card K worked through: the rows M3 to M10 and the sectors that each stores, as the requirements have them.
 
-use crate::support::{ALL, ROUTE};
 use lfat_card::calls::{self, Answer};
+use testkit::{ALL, ROUTE};
 
 const NAME: &[u8] = ROUTE;
 

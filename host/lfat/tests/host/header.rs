@@ -1,9 +1,9 @@
-//! The header, as C99 and as C++: its constants are the library's, and its example runs.
+//! The header, as C99 and as C++: its constants are the library's, and its examples run.
 
 use crate::support::c::{build, top};
 use crate::support::cli::Folder;
+use crate::support::{card_with_route, points};
 use lfat_card::Refusal;
-use std::process::Stdio;
 
 fn refusals() -> impl Iterator<Item = Refusal> {
     (1..).map_while(Refusal::with_number)
@@ -34,16 +34,20 @@ fn constants_expected() -> String {
     text
 }
 
-/// The example in the header's comment, run on an empty card; prints what it left.
-fn example_source() -> String {
+/// The lines of code in the header's comment that follow these words.
+fn example(words: &str) -> String {
     let header = std::fs::read_to_string(top().join("include/lfat.h")).expect("the header");
-    let example: String = header
-        .lines()
-        .skip_while(|line| !line.starts_with(" * Example:"))
-        .skip(1)
-        .take_while(|line| !line.starts_with(" * What is asked"))
-        .map(|line| format!("{}\n", line.trim_start_matches(" *")))
-        .collect();
+    let (_, rest) = header.split_once(words).expect("the header has the words");
+    let is_code = |line: &&str| line.starts_with(" *     ");
+    let code = rest.lines().skip_while(|line| !is_code(line));
+    code.take_while(is_code)
+        .map(|line| format!("{}\n", &line[2..]))
+        .collect()
+}
+
+/// The example that saves, run on an empty card; prints what it left.
+fn saving_source() -> String {
+    let example = example("Example: save");
     assert!(example.contains("lfat_append"));
     format!(
         "#include \"lfat.h\"\n#include <stdio.h>\nstatic uint8_t card[4150 * 512];\n\
@@ -54,35 +58,86 @@ fn example_source() -> String {
     )
 }
 
-fn check(compiler: &str, standard: &str, suffix: &str) -> Option<()> {
-    let folder = Folder::new(&format!("header-{standard}"));
-    let source = folder.path().join(format!("constants.{suffix}"));
-    let program = folder.path().join("constants");
-    std::fs::write(&source, constants_source()).expect("a source");
-    build(compiler, standard, &source, &program)?;
-    let run = folder.run(&program, "", Stdio::null()).done();
-    assert_eq!(run.text(), constants_expected());
+/// An example that reads ROUTE.CUT; prints what it used.
+fn reading_source(words: &str) -> String {
+    let example = example(words);
+    assert!(example.contains("lfat_read"));
+    format!(
+        "#include \"lfat.h\"\n#include <stdio.h>\nstatic uint8_t card[4150 * 512];\n\
+         static const uint8_t name[] = \"ROUTE   CUT\";\nenum {{ LONGEST = 1300 }};\n\
+         static void use(const uint8_t *bytes, size_t length) {{ fwrite(bytes, 1, length, stdout); }}\n\
+         int main(void) {{\nsize_t card_len = sizeof card;\n\
+         if (fread(card, 1, card_len, stdin) != card_len) return 1;\n{example}\nreturn 0;\n}}\n"
+    )
+}
 
-    let source = folder.path().join(format!("example.{suffix}"));
-    let program = folder.path().join("example");
-    std::fs::write(&source, example_source()).expect("a source");
-    build(compiler, standard, &source, &program)?;
-    folder.write("card", &reference::card_k());
-    let card = std::fs::File::open(folder.path().join("card")).expect("the card");
-    let run = folder.run(&program, "", card.into()).done();
-    assert_eq!(run.text(), "3 G0\n");
+/// A program in a folder of its own, built from a source.
+struct Program(Folder);
+
+impl Program {
+    fn build(compiler: &str, standard: &str, what: &str, source: &str) -> Option<Program> {
+        let folder = Folder::new(&format!("header-{standard}-{what}"));
+        let suffix = if standard.starts_with("c++") {
+            "cpp"
+        } else {
+            "c"
+        };
+        let file = folder.path().join(format!("source.{suffix}"));
+        std::fs::write(&file, source).expect("a source");
+        build(compiler, standard, &file, &folder.path().join("program"))?;
+        Some(Program(folder))
+    }
+
+    /// What it prints with a card as standard input.
+    fn printed(&self, card: &[u8]) -> Vec<u8> {
+        self.0.write("card", card);
+        let card = std::fs::File::open(self.0.path().join("card")).expect("the card");
+        let program = self.0.path().join("program");
+        self.0.run(program, "", card.into()).done().bytes().to_vec()
+    }
+}
+
+/// `None` if there is no such compiler.
+fn check(compiler: &str, standard: &str) -> Option<()> {
+    let program = |what, source: String| Program::build(compiler, standard, what, &source);
+    let constants = program("constants", constants_source())?;
+    assert_eq!(constants.printed(&[]), constants_expected().into_bytes());
+    let saving = program("saving", saving_source())?;
+    assert_eq!(saving.printed(&reference::card_k()), b"3 G0\n");
+
+    let whole = program(
+        "whole",
+        reading_source("a count below that is a whole file"),
+    )?;
+    for (size, used) in [
+        (0, 0),
+        (1_299, 1_299),
+        (1_300, 1_300),
+        (1_301, 0),
+        (5_000, 0),
+    ] {
+        assert_eq!(
+            whole.printed(&card_with_route(size)),
+            points(used),
+            "{size}"
+        );
+    }
+    let pieces = program("pieces", reading_source("so take large pieces"))?;
+    for size in [0, 1, 65_535, 65_536, 65_537, 131_072, 140_000] {
+        assert!(
+            pieces.printed(&card_with_route(size)) == points(size),
+            "{size}"
+        );
+    }
     Some(())
 }
 
 #[test]
 fn as_c99() {
-    check("gcc", "c99", "c").expect("gcc is there");
+    check("gcc", "c99").expect("gcc is there");
 }
 
-/// Where there is a C++ compiler.
 #[test]
 fn as_cpp() {
-    if check("g++", "c++11", "cpp").is_none() {
-        println!("there is no g++");
-    }
+    check("g++", "c++11").expect("g++ is there");
 }

@@ -1,8 +1,9 @@
 //! Chains that grow and shrink, and the chain rule.
 
-use crate::support::cards::Card;
-use crate::support::{pattern, planned_sectors, run_done, run_storing, ALL, ROUTE};
+use crate::support::{pattern, planned_sectors, run_done, run_storing};
 use reference::*;
+use testkit::cards::Card;
+use testkit::{ALL, ROUTE};
 
 fn append(data: &[u8]) -> Operation<'_> {
     Operation::Append { name: ROUTE, data }

@@ -1,9 +1,10 @@
 //! SHORT, BOOT and WINDOW. A window of one sector suffices to tell an accepted
 //! boot sector, which then answers WINDOW, from a refused one.
 
-use crate::support::cards::Card;
-use crate::support::{run_done, PANEL, ROUTE};
+use crate::support::run_done;
 use reference::*;
+use testkit::cards::Card;
+use testkit::{PANEL, ROUTE};
 
 fn ground_of(window: &[u8]) -> Option<Ground> {
     match list(window, &mut []) {

@@ -1,8 +1,9 @@
 //! Read and list, with guard bytes around what they may fill.
 
-use crate::support::cards::Card;
-use crate::support::{pattern, run_done, OTHER, PANEL, ROUTE};
+use crate::support::{pattern, run_done};
 use reference::*;
+use testkit::cards::Card;
+use testkit::{OTHER, PANEL, ROUTE};
 
 const GUARD: u8 = 0x5A;
 

@@ -1,12 +1,12 @@
 //! Random damage: whatever the card holds, a call ends, refuses on a ground
 //! without altering anything, or makes its stores and no others.
 
-use crate::support::cards::{random_card, Card};
 use crate::support::history::random_step;
-use crate::support::random::Random;
-use crate::support::ALL;
 use reference::*;
 use std::collections::BTreeSet;
+use testkit::cards::{random_card, Card};
+use testkit::random::Random;
+use testkit::ALL;
 
 const GUARD: [u8; 64] = [0xA5; 64];
 

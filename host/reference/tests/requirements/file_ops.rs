@@ -1,8 +1,9 @@
 //! Create, delete and rename.
 
-use crate::support::cards::Card;
-use crate::support::{pattern, run_done, run_storing, Name, ALL, OTHER, PANEL, ROUTE};
+use crate::support::{pattern, run_done, run_storing};
 use reference::*;
+use testkit::cards::Card;
+use testkit::{Name, ALL, OTHER, PANEL, ROUTE};
 
 const RENAME: Operation = Operation::Rename {
     old: ROUTE,

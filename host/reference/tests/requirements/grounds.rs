@@ -2,9 +2,10 @@
 //! ground of that call at once and mends them one by one; at each step the call
 //! must refuse on the first ground still standing and alter nothing.
 
-use crate::support::cards::Card;
-use crate::support::{pattern, Name, OTHER, PANEL, ROUTE};
+use crate::support::pattern;
 use reference::*;
+use testkit::cards::Card;
+use testkit::{Name, OTHER, PANEL, ROUTE};
 
 const FOLDER: &Name = b"FOLDER     ";
 const BROKEN: &Name = b"BROKEN     ";

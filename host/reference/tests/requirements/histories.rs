@@ -1,11 +1,11 @@
 //! Random histories next to a model that knows only names and bytes.
 
-use crate::support::cards::{random_card, Card};
 use crate::support::history::{random_step, Step};
-use crate::support::random::Random;
-use crate::support::ALL;
 use reference::*;
 use std::collections::BTreeMap;
+use testkit::cards::{random_card, Card};
+use testkit::random::Random;
+use testkit::ALL;
 
 /// The files by name, and how much room there is.
 struct Model {

@@ -1,8 +1,9 @@
 //! Soundness, file bytes and free clusters.
 
-use crate::support::cards::Card;
-use crate::support::{pattern, OTHER, PANEL, ROUTE};
+use crate::support::pattern;
 use reference::*;
+use testkit::cards::Card;
+use testkit::{OTHER, PANEL, ROUTE};
 
 /// Card K with three files, one of them empty.
 fn card() -> Card {

@@ -1,8 +1,9 @@
 //! The limit: a call makes the first stores of its list and no others.
 
-use crate::support::cards::Card;
-use crate::support::{pattern, planned_sectors, ALL, OTHER, PANEL, ROUTE};
+use crate::support::{pattern, planned_sectors};
 use reference::*;
+use testkit::cards::Card;
+use testkit::{ALL, OTHER, PANEL, ROUTE};
 
 /// Card K with a file and a full log.
 fn busy_card() -> Card {

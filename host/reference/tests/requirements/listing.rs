@@ -1,7 +1,8 @@
 //! The text of the log listing program.
 
-use crate::support::{sector, PANEL, ROUTE};
+use crate::support::sector;
 use reference::*;
+use testkit::{PANEL, ROUTE};
 
 const NOT_A_LOG: &str = "not a log\n";
 

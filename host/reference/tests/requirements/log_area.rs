@@ -1,8 +1,9 @@
 //! LOGAREA, and where groups go in the log.
 
-use crate::support::cards::Card;
-use crate::support::{planned_sectors, ROUTE};
+use crate::support::planned_sectors;
 use reference::*;
+use testkit::cards::Card;
+use testkit::ROUTE;
 
 fn ground_of(card: &Card) -> Option<Ground> {
     match list(&card.bytes, &mut []) {

@@ -1,8 +1,9 @@
 //! The name rule and what a name means.
 
-use crate::support::cards::Card;
-use crate::support::{run_done, ALL, OTHER, PANEL, ROUTE};
+use crate::support::run_done;
 use reference::*;
+use testkit::cards::Card;
+use testkit::{ALL, OTHER, PANEL, ROUTE};
 
 /// Whether create takes the name; the card has room and no files.
 fn is_accepted(card: &mut [u8], name: &[u8]) -> bool {

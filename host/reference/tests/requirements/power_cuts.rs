@@ -1,11 +1,12 @@
 //! Power cuts: every cut of every operation, then recoveries which are cut in
 //! turn, on small random cards.
 
-use crate::support::cards::{random_card, Card};
 use crate::support::history::{random_step, NAMES};
-use crate::support::random::Random;
-use crate::support::{pattern, ALL, OTHER, PANEL, ROUTE};
+use crate::support::pattern;
 use reference::*;
+use testkit::cards::{random_card, Card};
+use testkit::random::Random;
+use testkit::{ALL, OTHER, PANEL, ROUTE};
 
 /// Both FATs, the root directory and, on a sound card, the files' bytes.
 #[derive(PartialEq)]

@@ -1,8 +1,8 @@
 //! RECORD: each clause on its own. Groups are written into the log by hand.
 
-use crate::support::cards::Card;
-use crate::support::{OTHER, PANEL, ROUTE};
 use reference::*;
+use testkit::cards::Card;
+use testkit::{OTHER, PANEL, ROUTE};
 
 /// A card with three slots in use; slot 3 is the lowest beginning 0.
 fn card() -> Card {

@@ -1,8 +1,9 @@
 //! What recovery makes of a pending group, also on damaged cards.
 
-use crate::support::cards::Card;
-use crate::support::{pattern, run_storing, ALL, OTHER, PANEL};
+use crate::support::{pattern, run_storing};
 use reference::*;
+use testkit::cards::Card;
+use testkit::{ALL, OTHER, PANEL};
 
 const RECOVER: Operation = Operation::Recover;
 

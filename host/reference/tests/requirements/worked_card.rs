@@ -1,8 +1,9 @@
 //! Card K worked through: M1 to M10.
 
-use crate::support::cards::Card;
-use crate::support::{pattern, run_done, run_storing, sector, ALL, PANEL, ROUTE};
+use crate::support::{pattern, run_done, run_storing, sector};
 use reference::*;
+use testkit::cards::Card;
+use testkit::{ALL, PANEL, ROUTE};
 
 const CREATE: Operation = Operation::Create { name: ROUTE };
 const DELETE: Operation = Operation::Delete { name: ROUTE };

@@ -1,11 +1,11 @@
 //! One card under both implementations: after every call the answers, all bytes of the window and of the buffer, and the bytes
 //! around them must be as the reference has them.
 
-use super::call::Call;
-use super::cards::Card;
 use super::coverage::{code, Seen};
-use super::ALL;
 use reference::{plan, Answer, Store};
+use testkit::call::Call;
+use testkit::cards::Card;
+use testkit::ALL;
 
 /// Bytes before and after what is lent. Odd, so that nothing is aligned.
 const MARGIN: usize = 61;

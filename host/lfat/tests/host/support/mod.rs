@@ -2,10 +2,8 @@
 
 pub mod c;
 pub mod cli;
-// The random numbers of the reference's own tests; not all of their functions are of use here.
-#[allow(dead_code)]
-#[path = "../../../../reference/tests/requirements/support/random.rs"]
-pub mod random;
+
+pub use testkit::random;
 
 use reference::{card_k, CardSpec};
 

@@ -1,8 +1,8 @@
 //! Random operations on few names, so that refusals come up often too.
 
-use super::random::Random;
-use super::{Name, OTHER, PANEL, ROUTE};
 use reference::Operation;
+use testkit::random::Random;
+use testkit::{Name, OTHER, PANEL, ROUTE};
 
 pub const NAMES: [&Name; 6] = [
     ROUTE,

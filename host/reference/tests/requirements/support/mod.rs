@@ -1,19 +1,9 @@
-//! What the tests share.
+//! What these tests share among themselves; `testkit` has what others use too.
 
-pub mod cards;
 pub mod history;
-pub mod random;
 
 use reference::{plan, run, Answer, Operation};
-
-/// The largest limit, which the router passes.
-pub const ALL: u32 = u32::MAX;
-
-pub type Name = [u8; 11];
-
-pub const ROUTE: &Name = b"ROUTE   CUT";
-pub const PANEL: &Name = b"PANEL   CUT";
-pub const OTHER: &Name = b"OTHER      ";
+use testkit::ALL;
 
 /// The sectors that a call would store, in order.
 pub fn planned_sectors(card: &[u8], operation: &Operation) -> Vec<usize> {

@@ -1,10 +1,10 @@
 //! Random calls on few names, so that refusals come up often too.
 
-use super::call::Call;
-use super::cards::Card;
-use super::fixtures::{BROKEN, FOLDER};
-use super::random::Random;
-use super::{Name, OTHER, PANEL, ROUTE};
+use crate::call::Call;
+use crate::cards::Card;
+use crate::fixtures::{BROKEN, FOLDER};
+use crate::random::Random;
+use crate::{Name, OTHER, PANEL, ROUTE};
 
 const NAMES: [&Name; 8] = [
     ROUTE,

@@ -1,6 +1,6 @@
 //! Test cards: where their areas are, and changing their bytes by hand.
 
-use super::{random::Random, Name};
+use crate::{random::Random, Name};
 use reference::{card_k, CardSpec};
 use std::ops::Range;
 

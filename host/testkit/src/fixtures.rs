@@ -1,8 +1,8 @@
 //! Cards with more on them than files of the library's own making.
 
-use super::cards::{random_card, Card};
-use super::random::Random;
-use super::{Name, OTHER, ROUTE};
+use crate::cards::{random_card, Card};
+use crate::random::Random;
+use crate::{Name, OTHER, ROUTE};
 use reference::CardSpec;
 
 pub const FOLDER: &Name = b"FOLDER     ";

@@ -1,0 +1,71 @@
+//! A card in memory that is only read.
+
+use crate::{calls, count, Entry, File, Name, Refusal, ENTRY_BYTES};
+
+/// A card over the bytes of its window, to be read only.
+///
+/// ```
+/// use lfat_card::{CardView, Name};
+///
+/// # let image = reference::card_k();
+/// let window: &[u8] = &image;
+/// let card = CardView::new(window);
+/// for entry in card.list()? {
+///     println!("{:>10} {}", entry.size(), entry.name());
+/// }
+/// # Ok::<(), lfat_card::Refusal>(())
+/// ```
+#[derive(Clone, Copy)]
+pub struct CardView<'a> {
+    window: &'a [u8],
+}
+
+impl<'a> CardView<'a> {
+    /// The window is the whole card. Nothing is looked at yet.
+    pub fn new(window: &'a [u8]) -> CardView<'a> {
+        CardView { window }
+    }
+
+    /// The card's bytes.
+    pub fn bytes(&self) -> &'a [u8] {
+        self.window
+    }
+
+    /// The files and directories in the root directory, in slot order.
+    pub fn list(&self) -> Result<Vec<Entry>, Refusal> {
+        let there = count(calls::list(self.window, &mut []))? as usize;
+        let mut bytes = vec![0; there * ENTRY_BYTES];
+        count(calls::list(self.window, &mut bytes))?;
+        let (entries, _) = bytes.as_chunks();
+        Ok(entries.iter().copied().map(Entry).collect())
+    }
+
+    /// Copies a file's bytes from an offset on into the buffer, as many as there are and fit; gives how many.
+    ///
+    /// Every call asks all grounds of the card anew, so read in large pieces.
+    pub fn read(&self, name: Name, offset: u64, buffer: &mut [u8]) -> Result<usize, Refusal> {
+        count(calls::read(self.window, name.bytes(), offset, buffer)).map(|read| read as usize)
+    }
+
+    /// A file's bytes.
+    pub fn read_whole(&self, name: Name) -> Result<Vec<u8>, Refusal> {
+        let mut bytes = vec![0; self.size(name)? as usize];
+        let read = self.read(name, 0, &mut bytes)?;
+        bytes.truncate(read);
+        Ok(bytes)
+    }
+
+    /// A file, to be read by `std::io::Read` and `Seek`.
+    pub fn open(&self, name: Name) -> Result<File<'a>, Refusal> {
+        Ok(File::new(*self, name, self.size(name)?))
+    }
+
+    /// The size of a file that can be read.
+    fn size(&self, name: Name) -> Result<u32, Refusal> {
+        // The file keeps the chain rule if this is granted, so its size is no more than the card's.
+        self.read(name, 0, &mut [])?;
+        let entries = self.list()?;
+        let entry = entries.iter().find(|e| e.name_bytes() == name.bytes());
+        Ok(entry.map_or(0, Entry::size))
+    }
+}

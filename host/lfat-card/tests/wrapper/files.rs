@@ -1,0 +1,122 @@
+//! Cards that are only read, and files being read.
+
+use crate::{card_with_route, name, points};
+use lfat_card::{Card, CardView, Refusal};
+use std::io::{BufRead, BufReader, Error, ErrorKind, Read, Seek, SeekFrom};
+
+const SIZE: usize = 3_000;
+
+#[test]
+fn a_card_that_is_only_read() {
+    let mut window = card_with_route(SIZE);
+    let copy = window.clone();
+    let view = CardView::new(&copy);
+    assert_eq!(view.bytes(), copy);
+    assert_eq!(view.read_whole(name("ROUTE.CUT")), Ok(points(SIZE)));
+    assert_eq!(view.open(name("PANEL.CUT")).err(), Some(Refusal::Absent));
+    let mut part = [0; 10];
+    assert_eq!(view.read(name("ROUTE.CUT"), 2_995, &mut part), Ok(5));
+    assert_eq!(part[..5], points(SIZE)[2_995..]);
+    let card = Card::new(&mut window);
+    assert_eq!(view.list(), card.list());
+    assert_eq!(card.view().bytes(), card.bytes());
+}
+
+#[test]
+fn in_pieces_of_any_length() {
+    let window = card_with_route(SIZE);
+    for length in [1, 7, 512, 513, 2_999, 3_000, 5_000] {
+        let mut file = CardView::new(&window)
+            .open(name("ROUTE.CUT"))
+            .expect("a file");
+        let (mut bytes, mut piece) = (Vec::<u8>::new(), vec![0; length]);
+        loop {
+            match file.read(&mut piece).expect("granted") {
+                0 => break,
+                read => bytes.extend(&piece[..read]),
+            }
+        }
+        assert_eq!(bytes, points(SIZE), "{length}");
+    }
+}
+
+#[test]
+fn to_the_end() {
+    let window = card_with_route(SIZE);
+    let mut file = CardView::new(&window)
+        .open(name("ROUTE.CUT"))
+        .expect("a file");
+    assert_eq!(file.size() as usize, SIZE);
+    let mut bytes = b"kept".to_vec();
+    file.seek(SeekFrom::Start(1_000)).expect("a place");
+    assert_eq!(file.read_to_end(&mut bytes).expect("granted"), 2_000);
+    assert_eq!(bytes, [b"kept", &points(SIZE)[1_000..]].concat());
+    assert_eq!(file.read_to_end(&mut bytes).expect("granted"), 0);
+    assert_eq!(bytes.len(), 2_004);
+    file.rewind().expect("a place");
+    let lines: Result<Vec<String>, Error> = BufReader::new(file).lines().collect();
+    let text = String::from_utf8(points(SIZE)).expect("text");
+    assert!(lines
+        .expect("granted")
+        .iter()
+        .map(String::as_str)
+        .eq(text.lines()));
+}
+
+#[test]
+fn seeking() {
+    let window = card_with_route(SIZE);
+    let mut file = CardView::new(&window)
+        .open(name("ROUTE.CUT"))
+        .expect("a file");
+    let places = [
+        (SeekFrom::Start(2_990), Some(2_990)),
+        (SeekFrom::Current(-90), Some(2_900)),
+        (SeekFrom::End(-1), Some(2_999)),
+        (SeekFrom::Current(-3_000), None),
+        (SeekFrom::End(-3_001), None),
+        (SeekFrom::End(0), Some(3_000)),
+        (SeekFrom::Current(5), Some(3_005)),
+        (SeekFrom::Start(u64::MAX), Some(u64::MAX)),
+        (SeekFrom::Current(1), None),
+        (SeekFrom::Start(0), Some(0)),
+    ];
+    let mut at = 0;
+    for (place, expected) in places {
+        match expected {
+            Some(position) => {
+                assert_eq!(file.seek(place).ok(), Some(position));
+                at = position;
+            }
+            None => assert_eq!(
+                file.seek(place).unwrap_err().kind(),
+                ErrorKind::InvalidInput
+            ),
+        }
+        assert_eq!(file.stream_position().ok(), Some(at), "{place:?}");
+        let mut byte = [0];
+        let wanted = points(SIZE).get(at as usize).copied();
+        let read = file.clone().read(&mut byte).expect("granted");
+        assert_eq!((read == 1).then_some(byte[0]), wanted, "{place:?}");
+    }
+}
+
+/// A refusal as an error of input and output keeps its words, and has a kind that callers know.
+#[test]
+fn refusals_as_errors_of_input_and_output() {
+    let refusals: Vec<Refusal> = (1..).map_while(Refusal::with_number).collect();
+    assert_eq!(refusals.len(), 15);
+    for refusal in refusals {
+        let error = Error::from(refusal);
+        assert_eq!(error.to_string(), refusal.to_string());
+        let kind = match refusal.name() {
+            "NAME" | "LENGTH" => ErrorKind::InvalidInput,
+            "ABSENT" => ErrorKind::NotFound,
+            "DIRECTORY" => ErrorKind::IsADirectory,
+            "EXISTS" => ErrorKind::AlreadyExists,
+            "ROOTFULL" | "NOSPACE" => ErrorKind::StorageFull,
+            _ => ErrorKind::InvalidData,
+        };
+        assert_eq!(error.kind(), kind, "{refusal}");
+    }
+}

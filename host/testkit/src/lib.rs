@@ -1,0 +1,28 @@
+//! What the tests and the benchmark share. With the feature `library` also calls on the proved library.
+
+#[cfg(feature = "library")]
+pub mod call;
+pub mod cards;
+pub mod fixtures;
+pub mod judge;
+pub mod random;
+#[cfg(feature = "library")]
+pub mod steps;
+
+/// The largest limit, which the router passes.
+pub const ALL: u32 = u32::MAX;
+
+/// A name's bytes on a card.
+pub type Name = [u8; 11];
+
+pub const ROUTE: &Name = b"ROUTE   CUT";
+pub const PANEL: &Name = b"PANEL   CUT";
+pub const OTHER: &Name = b"OTHER      ";
+
+/// So many cases, times `LFAT_CASES` where that is set: a whole number, for longer runs by hand.
+pub fn cases(usual: u64) -> u64 {
+    match std::env::var("LFAT_CASES") {
+        Ok(factor) => usual * factor.parse::<u64>().expect("LFAT_CASES is a number"),
+        Err(_) => usual,
+    }
+}
