@@ -2,6 +2,7 @@
 use model::Layout;
 use model::Progress;
 ghost use mathlib.Core.Path.{_≡_};
+ghost use mathlib.Core.List.{[], _∷_};
 ghost use Prim.Native.Nat.{ℕ, _+_, _*_, _%_, _≤_, _<_, _-_};
 ghost use lib.ListN.{length, getD};
 ghost use Rattle.model.specs.Bytes.{bytes-of, patch};
