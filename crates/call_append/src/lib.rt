@@ -40,18 +40,11 @@ fn store_chain(
         Ran limit (chain-stores l (card-of (now (w .entry))) f (view (now (bytes .entry))) last n) (now (w .entry)) (now (w .exit)) (r .made) (r .whole) ⌝ }
 {
     let p = file_append::append_data(w, l, f, last, bytes, limit);
-    let m = p.made;
     if !p.whole {
-        return Progress {
-            made: m,
-            whole: false,
-        };
+        return p;
     }
-    let q = fat_write::extend_fat(w, l, last, n, limit - m);
-    Progress {
-        made: m + q.made,
-        whole: q.whole,
-    }
+    let q = fat_write::extend_fat(w, l, last, n, limit - p.made);
+    sector::joined(p, q)
 }
 
 // The first of n new clusters, 0 if there is none.
@@ -83,12 +76,8 @@ fn store_append(
     let l = v.layout;
     let from = first_new(w, l, n);
     let p = store_chain(w, l, f, last, n, bytes, limit);
-    let m = p.made;
     if !p.whole {
-        return Progress {
-            made: m,
-            whole: false,
-        };
+        return p;
     }
     let entry = f.entry;
     let size = f.size + bytes.len() as u32;
@@ -98,11 +87,8 @@ fn store_append(
         from,
         size,
     };
-    let q = log_steps::log_steps(w, v, log_steps::plain(o), limit - m);
-    Progress {
-        made: m + q.made,
-        whole: q.whole,
-    }
+    let q = log_steps::log_steps(w, v, log_steps::plain(o), limit - p.made);
+    sector::joined(p, q)
 }
 
 // NOSPACE; then the stores, none where there are no bytes to append.

@@ -45,18 +45,11 @@ fn shorten(w: &mut [u8], v: Volume, c: Cut, x: Change, limit: u32) -> Progress
 {
     let l = v.layout;
     let p = fat_write::shorten_fat(w, l, c.kept, c.from, c.freed, limit);
-    let m = p.made;
     if !p.whole {
-        return Progress {
-            made: m,
-            whole: false,
-        };
+        return p;
     }
-    let q = log_steps::log_steps(w, v, x, limit - m);
-    Progress {
-        made: m + q.made,
-        whole: q.whole,
-    }
+    let q = log_steps::log_steps(w, v, x, limit - p.made);
+    sector::joined(p, q)
 }
 
 // Delete of a file that keeps the chain rule.

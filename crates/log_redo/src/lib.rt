@@ -46,18 +46,11 @@ pub fn finish(w: &mut [u8], l: Layout, x: Change, limit: u32) -> Progress
     ensures { λ r. ⌜ Ran limit (finish l x (card-of (now (w .entry)))) (now (w .entry)) (now (w .exit)) (r .made) (r .whole) ⌝ }
 {
     let fats = fat_copy::to_fat1(w, l, limit);
-    let m = fats.made;
     if !fats.whole {
-        return Progress {
-            made: m,
-            whole: false,
-        };
+        return fats;
     }
-    let root = root_write::store_root(w, l, x, limit - m);
-    Progress {
-        made: m + root.made,
-        whole: root.whole,
-    }
+    let root = root_write::store_root(w, l, x, limit - fats.made);
+    sector::joined(fats, root)
 }
 
 // A group in the data region: its change finished, then its records committed.
@@ -69,16 +62,9 @@ pub fn redo(w: &mut [u8], l: Layout, g: Group, limit: u32) -> Progress
 {
     let x = g.change;
     let p = finish(w, l, x, limit);
-    let m = p.made;
     if !p.whole {
-        return Progress {
-            made: m,
-            whole: false,
-        };
+        return p;
     }
-    let q = commit(w, g, limit - m);
-    Progress {
-        made: m + q.made,
-        whole: q.whole,
-    }
+    let q = commit(w, g, limit - p.made);
+    sector::joined(p, q)
 }

@@ -22,18 +22,11 @@ fn store_and_redo(w: &mut [u8], l: Layout, g: Group, limit: u32) -> Progress
     ensures { λ r. ⌜ Ran limit (group-steps l g (card-of (now (w .entry)))) (now (w .entry)) (now (w .exit)) (r .made) (r .whole) ⌝ }
 {
     let p = log_write::store_group(w, g, limit);
-    let m = p.made;
     if !p.whole {
-        return Progress {
-            made: m,
-            whole: false,
-        };
+        return p;
     }
-    let q = log_redo::redo(w, l, g, limit - m);
-    Progress {
-        made: m + q.made,
-        whole: q.whole,
-    }
+    let q = log_redo::redo(w, l, g, limit - p.made);
+    sector::joined(p, q)
 }
 
 // A change that is told by its operation alone.
@@ -53,23 +46,16 @@ pub fn log_steps(w: &mut [u8], v: Volume, x: Change, limit: u32) -> Progress
     let a = v.log;
     let s = log_write::group_sector(w, a);
     let p = log_write::clear_log(w, a, limit);
-    let m = p.made;
     if !p.whole {
-        return Progress {
-            made: m,
-            whole: false,
-        };
+        return p;
     }
     let g = Group {
         sector: s,
         records: log_write::records_of(x),
         change: x,
     };
-    let q = store_and_redo(w, l, g, limit - m);
-    Progress {
-        made: m + q.made,
-        whole: q.whole,
-    }
+    let q = store_and_redo(w, l, g, limit - p.made);
+    sector::joined(p, q)
 }
 
 // How a call ends whose stores went so far.

@@ -154,3 +154,14 @@ pub fn store_sector(w: &mut [u8], s: u32, buf: &[u8; 512], limit: u32) -> Progre
 {
     store_from(w, s, buf, limit)
 }
+
+// What two parts have made, the second with what the first left of the limit.
+pub fn joined(p: Progress, q: Progress) -> Progress
+    requires { ⌜ p .made + q .made < 4294967296 ⌝ }
+    ensures { λ r. ⌜ (r .made ≡ p .made + q .made) × (r .whole ≡ q .whole) ⌝ }
+{
+    Progress {
+        made: p.made + q.made,
+        whole: q.whole,
+    }
+}

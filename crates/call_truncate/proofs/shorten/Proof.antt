@@ -10,29 +10,32 @@ use Rattle.call_truncate.proofs.shorten.Reads as reads
 use Rattle.call_truncate.proofs.shorten.Lts as lts
 use Rattle.log_steps.proofs.log_steps.Reads as log-steps-reads
 use Rattle.fat_write.proofs.shorten_fat.Reads as shorten-fat-reads
+use Rattle.sector.proofs.joined.Reads as joined-reads
 
 returns : tie.Need-returns
 returns c =
     let pre = c .before .before .before .before .before .before .before .before .pre in
     let shorten-fat = c .before .before .before .before .shorten-fat in
     let a = c .before .before .before .before .before .before .before .before .args in
-    steps-cut (a .v) (cut (old-fat (a .v) (card-of (a .w .now))) (a .c .kept) (a .c .from) (a .c .freed)) (a .x) (pre .0 .0 .fits .shape) (pre .0 .1)
-    (a .limit) (a .w .now) _ _
-    (rw (not-true (shorten-fat .result .whole) (c .if1 .taken)) at (shorten-fat .ensures))
+    let end = not-true (shorten-fat .result .whole) (c .if1 .taken) in
+    rw end
+    (steps-cut (a .v) (cut (old-fat (a .v) (card-of (a .w .now))) (a .c .kept) (a .c .from) (a .c .freed)) (a .x) (pre .0 .0 .fits .shape)
+    (pre .0 .1) (a .limit) (a .w .now) _ _ (rw end at (shorten-fat .ensures)))
 
 returns-2 : tie.Need-returns-2
 returns-2 c =
-    let pre = c .before .before .before .before .before .before .before .before .before .before .before .before .before .pre in
-    let shorten-fat = c .before .before .before .before .before .before .before .before .before .shorten-fat in
-    let if1 = c .before .before .before .before .before .if1 in
+    let pre = c .before .before .before .before .before .before .before .before .before .before .before .before .before .before .pre in
+    let shorten-fat = c .before .before .before .before .before .before .before .before .before .before .shorten-fat in
+    let if1 = c .before .before .before .before .before .before .if1 in
     let log-steps = c .before .before .before .log-steps in
-    let a = c .before .before .before .before .before .before .before .before .before .before .before .before .before .args in
-    steps-ran (a .v) (cut (old-fat (a .v) (card-of (a .w .now))) (a .c .kept) (a .c .from) (a .c .freed)) (a .x) (pre .0 .0 .fits .shape) (pre .0 .1)
-    (a .limit) (a .w .now) _ _
-    (rw (not-false (shorten-fat .result .whole) (if1 .left)) at (shorten-fat .ensures)) _ _ _ (log-steps .ensures)
+    let a = c .before .before .before .before .before .before .before .before .before .before .before .before .before .before .args in
+    rw (c .joined .ensures .0, c .joined .ensures .1)
+    (steps-ran (a .v) (cut (old-fat (a .v) (card-of (a .w .now))) (a .c .kept) (a .c .from) (a .c .freed)) (a .x) (pre .0 .0 .fits .shape)
+    (pre .0 .1) (a .limit) (a .w .now) _ _ (rw (not-false (shorten-fat .result .whole) (if1 .left)) at (shorten-fat .ensures)) _ _ _
+    (log-steps .ensures))
 
 pub shorten-spec : {M : Type 1} → statement M
 shorten-spec =
     tie.close
-    (tie.spec (λ c κs. search needs) (λ c. search needs) returns (λ c. search needs) (λ c κs. search needs) (λ c. search needs)
+    (tie.spec (λ c κs. search needs) (λ c. search needs) returns (λ c. search needs) (λ c κs. search needs) (λ c κs. search needs)
     (λ c. search needs) returns-2)

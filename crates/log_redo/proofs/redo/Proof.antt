@@ -12,34 +12,38 @@ use Rattle.log_redo.proofs.redo.Reads as reads
 use Rattle.log_redo.proofs.redo.Lts as lts
 use Rattle.log_redo.proofs.commit.Reads as commit-reads
 use Rattle.log_redo.proofs.finish.Reads as finish-reads
+use Rattle.sector.proofs.joined.Reads as joined-reads
 
 returns : tie.Need-returns
 unfolding redo
 returns c =
-    let f = c .before .before .before .before in
-    let a = f .before .before .before .before .args in
+    let done = c .before .before .before .before .finish in
+    let a = c .before .before .before .before .before .before .before .before .args in
     let e = card-of (a .w .now) in
-    ran-stop (a .limit) (finish (a .l) (a .g .change) e) (a .w .now) (f .finish .last .0) (f .finish .result .made)
-    (rw (not-true (f .finish .result .whole) (c .if1 .taken)) at (f .finish .ensures)) (commit e (a .g) ∷ [])
+    let cut = not-true (done .result .whole) (c .if1 .taken) in
+    rw cut
+    (ran-stop (a .limit) (finish (a .l) (a .g .change) e) (a .w .now) (done .last .0) (done .result .made) (rw cut at (done .ensures))
+    (commit e (a .g) ∷ []))
 
 returns-2 : tie.Need-returns-2
 unfolding redo
 returns-2 c =
-    let q = c .before .before .before in
-    let t = q .before .before in
-    let f = t .before .before .before .before in
-    let b = f .before .before .before .before in
-    let a = b .args in
+    let mark = c .before .before .before .commit in
+    let if1 = c .before .before .before .before .before .before .if1 in
+    let done = c .before .before .before .before .before .before .before .before .before .before .finish in
+    let a = c .before .before .before .before .before .before .before .before .before .before .before .before .before .before .args in
+    let pre = c .before .before .before .before .before .before .before .before .before .before .before .before .before .before .pre in
     let e = card-of (a .w .now) in
-    let x = f .finish .last .0 in
-    let m = f .finish .result .made in
-    let one = rw (not-false (f .finish .result .whole) (t .if1 .left)) at (f .finish .ensures) in
-    ran-then (a .limit) (finish (a .l) (a .g .change) e) (a .w .now) x m one
-    (commit e (a .g) ∷ []) (q .commit .last .0) (q .commit .result .made) (q .commit .result .whole)
-    (rw (group-kept (a .l) (b .pre .0 .fits .shape) (a .limit) (a .w .now) x m _ (a .g .change) (a .g) (b .pre .1 .1 .0) one) at (q .commit .ensures))
+    let x = done .last .0 in
+    let m = done .result .made in
+    let one = rw (not-false (done .result .whole) (if1 .left)) at (done .ensures) in
+    rw (c .joined .ensures .0, c .joined .ensures .1)
+    (ran-then (a .limit) (finish (a .l) (a .g .change) e) (a .w .now) x m one
+    (commit e (a .g) ∷ []) (mark .last .0) (mark .result .made) (mark .result .whole)
+    (rw (group-kept (a .l) (pre .0 .fits .shape) (a .limit) (a .w .now) x m _ (a .g .change) (a .g) (pre .1 .1 .0) one) at (mark .ensures)))
 
 pub redo-spec : {M : Type 1} → statement M
 redo-spec =
     tie.close
-    (tie.spec (λ c κs. search needs) (λ c. search needs) returns (λ c. search needs) (λ c κs. search needs) (λ c. search needs)
+    (tie.spec (λ c κs. search needs) (λ c. search needs) returns (λ c. search needs) (λ c κs. search needs) (λ c κs. search needs)
     (λ c. search needs) returns-2)

@@ -13,34 +13,37 @@ use Rattle.log_write.proofs.records_of.Reads as records-of-reads
 use Rattle.log_steps.proofs.store_and_redo.Reads as store-and-redo-reads
 use Rattle.log_write.proofs.clear_log.Reads as clear-log-reads
 use Rattle.log_write.proofs.group_sector.Reads as group-sector-reads
+use Rattle.sector.proofs.joined.Reads as joined-reads
 
 returns : tie.Need-returns
 returns c =
     let a = c .before .before .before .before .before .before .before .before .before .before .before .args in
     let clear-log = c .before .before .before .before .clear-log in
-    log-steps-cut (a .limit) (a .v) (a .x) (a .w .now) _ _ (rw (not-true (clear-log .result .whole) (c .if1 .taken)) at (clear-log .ensures))
+    let cut = not-true (clear-log .result .whole) (c .if1 .taken) in
+    rw cut (log-steps-cut (a .limit) (a .v) (a .x) (a .w .now) _ _ (rw cut at (clear-log .ensures)))
 
 store-and-redo-requires : tie.Need-store-and-redo-requires
 store-and-redo-requires c κs =
-    let a = c .before .before .before .before .before .before .before .before .before .before .before .before .before .args in
-    let group-sector = c .before .before .before .before .before .before .before .before .group-sector in
+    let a = c .before .before .before .before .before .before .before .before .before .before .before .before .before .before .args in
+    let group-sector = c .before .before .before .before .before .before .before .before .before .group-sector in
     let b = group-sector-in (a .v .log) (log-of (a .v .log) (card-of (a .w .now))) (omega arith) in
     (search needs, (search needs, (omega (arith, b, group-sector .ensures), omega (arith, b, group-sector .ensures), omega arith)))
 
 returns-2 : tie.Need-returns-2
 unfolding new-group
 returns-2 c =
-    let a = c .before .before .before .before .before .before .before .before .before .before .before .before .before .before .before .before .before .args in
-    let group-sector = c .before .before .before .before .before .before .before .before .before .before .before .before .group-sector in
-    let clear-log = c .before .before .before .before .before .before .before .before .before .before .clear-log in
-    let if1 = c .before .before .before .before .before .before .if1 in
-    let records-of = c .before .before .before .before .before .records-of in
+    let a = c .before .before .before .before .before .before .before .before .before .before .before .before .before .before .before .before .before .before .args in
+    let group-sector = c .before .before .before .before .before .before .before .before .before .before .before .before .before .group-sector in
+    let clear-log = c .before .before .before .before .before .before .before .before .before .before .before .clear-log in
+    let if1 = c .before .before .before .before .before .before .before .if1 in
+    let records-of = c .before .before .before .before .before .before .records-of in
     let store-and-redo = c .before .before .before .store-and-redo in
-    log-steps-ran (a .limit) (a .v) (a .x) (a .w .now) _ _ (rw (not-false (clear-log .result .whole) (if1 .left)) at (clear-log .ensures)) _ _ _
-    (rw (group-sector .ensures, records-of .ensures .0) at (store-and-redo .ensures))
+    rw (c .joined .ensures .0, c .joined .ensures .1)
+    (log-steps-ran (a .limit) (a .v) (a .x) (a .w .now) _ _ (rw (not-false (clear-log .result .whole) (if1 .left)) at (clear-log .ensures)) _ _ _
+    (rw (group-sector .ensures, records-of .ensures .0) at (store-and-redo .ensures)))
 
 pub log-steps-spec : {M : Type 1} → statement M
 log-steps-spec =
     tie.close
     (tie.spec (λ c κs. search needs) (λ c κs. search needs) (λ c. search needs) returns (λ c κs. search needs) (λ c. search needs)
-    store-and-redo-requires (λ c. search needs) (λ c. search needs) returns-2)
+    store-and-redo-requires (λ c κs. search needs) (λ c. search needs) returns-2)
