@@ -4,13 +4,12 @@ use native.Mathlib.Omega.{arith}
 use mathlib.Core.Path.{_≡_, sym, ap, _∙_, subst}
 use mathlib.Core.Bool.{true}
 use mathlib.Core.List.{List}
-use lib.Dec.{eqb}
 use lib.ListN.{length}
 use Rattle.model.specs.Bytes.{Bytes}
 use Rattle.model.specs.Sector.{Window, card-of}
 use Rattle.model.specs.Root.{first-bytes, end-slot}
 use Rattle.model.specs.Log.{Log, log-of}
-use Rattle.model.specs.Record.{record-at, change-of, group-size, group-in}
+use Rattle.model.specs.Record.{record-at, change-of, group-in}
 use Rattle.model.specs.Pending.{pending, accepted, group-ok, records-ok}
 use Rattle.model.specs.Ground.{refused, granted, _>>=_}
 use Rattle.model.specs.Volume.{examine}
@@ -18,7 +17,7 @@ use Rattle.model.specs.declared.Group.{Group}
 use Rattle.model.specs.declared.Ground.{Ground}
 use Rattle.model.specs.declared.Volume.{Volume}
 use Rattle.model.specs.declared.Pending.the-variants as Pending
-use Rattle.model.proofs.Tests.{every-at, by-pick}
+use Rattle.model.proofs.Tests.{every-at}
 use Rattle.model.proofs.Pendings.{group-place}
 use Rattle.model.proofs.Volumes.{examined}
 use Rattle.operations.specs.Finish.{Slots}
@@ -34,14 +33,10 @@ held-ok : (entries z n : ℕ) (g : Log) (i : ℕ) → accepted entries z n g (16
 unfolding accepted
 held-ok entries z n g i h = let back : 16 * i / 16 ≡ i = omega arith in ap (λ (s : ℕ). group-ok entries z (g s)) (sym back) ∙ every-at _ h 1
 
--- Its records are those that RECORD takes, one or two.
+-- Its records are those that RECORD takes.
 records-of : (n z : ℕ) (b : Bytes) → group-ok n z b ≡ true → records-ok n z (record-at b) ≡ true
 unfolding group-ok
 records-of n z b h = every-at _ h 0
-
-group-few : (b : Bytes) → group-size (record-at b) ≤ 16
-unfolding group-size
-group-few b = by-pick (λ (m : ℕ). m ≤ 16) (eqb (record-at b 0 .number) 5) 2 1 (λ _. omega arith) (λ _. omega arith)
 
 -- ---- recovery
 
@@ -50,7 +45,6 @@ pub record Redoable (v : Volume) (g : Group) : Type 0 where
   pub slots : Slots (v .layout .entries) (g .change)
   pub low : v .layout .start ≤ g .sector
   pub high : g .sector < v .layout .total
-  pub few : g .records ≤ 16
 
 -- The group in sector s, which is pending.
 module _ (v : Volume) (xs : List ℕ) (h : Legible v xs) (s : ℕ) (held : v .pending ≡ Pending.Held s) where
@@ -79,11 +73,10 @@ module _ (v : Volume) (xs : List ℕ) (h : Legible v xs) (s : ℕ) (held : v .pe
       let at : b ≡ card-of xs s = ap (card-of xs) (sym (place .2)) in
       let ok = held-ok (v .layout .entries) z (v .log .sectors) (log-of (v .log) (card-of xs)) (place .0) (place .3) in
       record {
-        slots = subst (λ (x : Bytes). Slots (v .layout .entries) (change-of (record-at x))) at (told-slots (v .layout .entries) z (record-at b)
-            (records-of (v .layout .entries) z b ok));
+        slots = subst (λ (x : Bytes). Slots (v .layout .entries) (change-of (record-at x))) at
+            (told-slots (v .layout .entries) z (record-at b) (records-of (v .layout .entries) z b ok));
         low = sector-low;
         high = sector-high;
-        few = group-few (card-of xs s);
       }
 
 module _ (w : Window) where

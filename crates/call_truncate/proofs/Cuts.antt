@@ -104,8 +104,8 @@ module _ (l : Layout) (fits : Fits l) (t : Fat) (f : File) (h : keeps-chain l (e
         less
 
 -- A delete frees them all.
-pub delete-is : (v : Volume) (c : Card) (f : File) → delete-stores v c f ≡ operate v c []
-    (cut (old-fat v c) 0 (f .first) (needed (v .layout) (f .size))) (plain (Delete (f .entry) (f .first) (f .size)))
+pub delete-is : (v : Volume) (c : Card) (f : File)
+    → delete-stores v c f ≡ operate v c [] (cut (old-fat v c) 0 (f .first) (needed (v .layout) (f .size))) (plain (Delete (f .entry) (f .first) (f .size)))
 unfolding delete-stores clusters-of
 delete-is v c f = rw (release-cut (old-fat v c) (f .first) (needed (v .layout) (f .size)))
 

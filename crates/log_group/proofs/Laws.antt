@@ -1,10 +1,9 @@
--- The operation that records tell of, by its number, and how many records its group has.
+-- The operation that records tell of, by its number.
 use Prim.Native.Nat.{ℕ}
 use mathlib.Core.Path.{_≡_}
-use mathlib.Core.Bool.{true, false}
 use lib.Dec.{eqb}
 use borrow.Author.Tests.{ne-eqb}
-use Rattle.model.specs.Record.{entry-in, operation-of, group-size}
+use Rattle.model.specs.Record.{entry-in, operation-of}
 use Rattle.model.specs.declared.Record.{Record}
 use Rattle.model.specs.declared.Operation.the-variants.{Create, Update, Delete, Truncate, Rename}
 
@@ -32,11 +31,3 @@ module _ (rs : ℕ → Record) where
       → operation-of rs ≡ Rename (entry-in (rs 0)) (rs 0 .cluster) (rs 0 .size) (rs 1 .slot) (rs 1 .name)
   unfolding operation-of
   told-rename n1 n2 n3 n4 = rw (ne-eqb (rs 0 .number) 1 n1, ne-eqb (rs 0 .number) 2 n2, ne-eqb (rs 0 .number) 3 n3, ne-eqb (rs 0 .number) 4 n4)
-
-  pub size-one : eqb (rs 0 .number) 5 ≡ false → group-size rs ≡ 1
-  unfolding group-size
-  size-one h = rw h
-
-  pub size-two : eqb (rs 0 .number) 5 ≡ true → group-size rs ≡ 2
-  unfolding group-size
-  size-two h = rw h

@@ -8,64 +8,41 @@ ghost use Prim.Native.Nat.{_+_, _*_, _≤_, _<_};
 ghost use lib.ListN.{length};
 ghost use Rattle.model.specs.Sector.{card-of};
 ghost use Rattle.model.specs.Scan.{all};
-ghost use Rattle.model.specs.Record.{record-at, operation-of, group-size, group-in, pends};
+ghost use Rattle.model.specs.Record.{record-at, records, operation-of, change-of, group-size, group-in, pends};
 ghost use Rattle.model.specs.Pending.{empty-from, group-ok};
 
-// How many records the group has: 2 for a rename, else 1.
-pub fn group_size(log: &[u8], s: u32) -> u32
-    requires { ⌜ 512 * s + 512 ≤ length (now log) ⌝ }
-    ensures { λ r. ⌜ (r ≡ group-size (record-at (card-of (now (log .entry)) s))) × (1 ≤ r) × (r ≤ 16) ⌝ }
+// How many records the group of a change has.
+pub fn records_of(x: Change) -> u32
+    ensures { λ r. ⌜ (r ≡ length (records x)) × (1 ≤ r) × (r ≤ 16) ⌝ }
 {
-    let r = log_record::load(log, s, 0);
-    if r.number == 5 {
-        return 2;
+    let o = x.operation;
+    match o {
+        Operation::Create { entry: _ } => 1,
+        Operation::Update {
+            entry: _,
+            last: _,
+            from: _,
+            size: _,
+        } => 1,
+        Operation::Delete {
+            entry: _,
+            first: _,
+            size: _,
+        } => 1,
+        Operation::Truncate {
+            entry: _,
+            first: _,
+            from: _,
+            size: _,
+        } => 1,
+        Operation::Rename {
+            entry: _,
+            first: _,
+            size: _,
+            to: _,
+            renamed: _,
+        } => 2,
     }
-    1
-}
-
-// Whether the first m records of the sector are pending.
-fn all_pend(log: &[u8], s: u32, m: u32) -> bool
-    requires { ⌜ (512 * s + 512 ≤ length (now log)) × (m ≤ 16) ⌝ }
-    ensures { λ r. ⌜ r ≡ all (pends (card-of (now (log .entry)) s)) m ⌝ }
-{
-    let mut k = 0;
-    while k < m {
-        if !log_record::pends(log, s, k) {
-            return false;
-        }
-        k += 1;
-    }
-    true
-}
-
-// Whether the sector has no byte but zero from an offset on.
-fn is_empty(log: &[u8], s: u32, from: u32) -> bool
-    requires { ⌜ (512 * s + 512 ≤ length (now log)) × (from ≤ 512) ⌝ }
-    ensures { λ r. ⌜ r ≡ empty-from from (card-of (now (log .entry)) s) ⌝ }
-{
-    let mut j = from;
-    while j < 512 {
-        if sector::byte(log, s, j) != 0 {
-            return false;
-        }
-        j += 1;
-    }
-    true
-}
-
-// Whether the records of sector s are a group; z is the lowest root slot beginning 0.
-pub fn group_ok(log: &[u8], s: u32, entries: u32, z: u32) -> bool
-    requires { ⌜ 512 * s + 512 ≤ length (now log) ⌝ }
-    ensures { λ r. ⌜ r ≡ group-ok entries z (card-of (now (log .entry)) s) ⌝ }
-{
-    if !log_record::records_ok(log, s, entries, z) {
-        return false;
-    }
-    let m = group_size(log, s);
-    if !all_pend(log, s, m) {
-        return false;
-    }
-    is_empty(log, s, 32 * m)
 }
 
 // The operation that the records tell of.
@@ -114,18 +91,78 @@ fn decode(log: &[u8], s: u32) -> Operation
     }
 }
 
+// The change that the records tell.
+fn change_at(log: &[u8], s: u32) -> Change
+    requires { ⌜ 512 * s + 512 ≤ length (now log) ⌝ }
+    ensures { λ r. ⌜ r ≡ change-of (record-at (card-of (now (log .entry)) s)) ⌝ }
+{
+    Change {
+        operation: decode(log, s),
+    }
+}
+
+// How many records the group has.
+pub fn group_size(log: &[u8], s: u32) -> u32
+    requires { ⌜ 512 * s + 512 ≤ length (now log) ⌝ }
+    ensures { λ r. ⌜ (r ≡ group-size (record-at (card-of (now (log .entry)) s))) × (1 ≤ r) × (r ≤ 16) ⌝ }
+{
+    records_of(change_at(log, s))
+}
+
+// Whether the first m records of the sector are pending.
+fn all_pend(log: &[u8], s: u32, m: u32) -> bool
+    requires { ⌜ (512 * s + 512 ≤ length (now log)) × (m ≤ 16) ⌝ }
+    ensures { λ r. ⌜ r ≡ all (pends (card-of (now (log .entry)) s)) m ⌝ }
+{
+    let mut k = 0;
+    while k < m {
+        if !log_record::pends(log, s, k) {
+            return false;
+        }
+        k += 1;
+    }
+    true
+}
+
+// Whether the sector has no byte but zero from an offset on.
+fn is_empty(log: &[u8], s: u32, from: u32) -> bool
+    requires { ⌜ (512 * s + 512 ≤ length (now log)) × (from ≤ 512) ⌝ }
+    ensures { λ r. ⌜ r ≡ empty-from from (card-of (now (log .entry)) s) ⌝ }
+{
+    let mut j = from;
+    while j < 512 {
+        if sector::byte(log, s, j) != 0 {
+            return false;
+        }
+        j += 1;
+    }
+    true
+}
+
+// Whether the records of sector s are a group; z is the lowest root slot beginning 0.
+pub fn group_ok(log: &[u8], s: u32, entries: u32, z: u32) -> bool
+    requires { ⌜ 512 * s + 512 ≤ length (now log) ⌝ }
+    ensures { λ r. ⌜ r ≡ group-ok entries z (card-of (now (log .entry)) s) ⌝ }
+{
+    let m = group_size(log, s);
+    if !log_record::records_ok(log, s, m, entries, z) {
+        return false;
+    }
+    if !all_pend(log, s, m) {
+        return false;
+    }
+    is_empty(log, s, 32 * m)
+}
+
 // The group in sector s of a card.
 pub fn group_at(w: &[u8], s: u32) -> Group
     requires { ⌜ 512 * s + 512 ≤ length (now w) ⌝ }
-    ensures { λ r. ⌜ r ≡ group-in s (card-of (now (w .entry)) s) ⌝ }
+    ensures { λ r. ⌜ (r ≡ group-in s (card-of (now (w .entry)) s)) × (r .records ≤ 16) ⌝ }
 {
-    let records = group_size(w, s);
-    let change = Change {
-        operation: decode(w, s),
-    };
+    let change = change_at(w, s);
     Group {
         sector: s,
-        records,
+        records: records_of(change),
         change,
     }
 }

@@ -1,14 +1,9 @@
 -- A record from the numbers in its bytes.
 use Prim.Native.Nat.{ℕ, _+_}
 use mathlib.Core.Path.{_≡_, sym, _∙_}
-use mathlib.Core.Bool.{true, false, and-true}
-use lib.Dec.{eqb}
 use Rattle.model.specs.Bytes.{Bytes, part, le}
 use Rattle.model.specs.Root.{name-in}
-use Rattle.model.specs.Scan.{every}
-use Rattle.model.specs.Record.{record-in, group-size}
-use Rattle.model.specs.Pending.{record-ok, pair-ok, records-ok}
-use Rattle.model.specs.declared.Record.{Record}
+use Rattle.model.specs.Record.{record-in}
 use Rattle.model.specs.declared.Name.{Name}
 use Rattle.model.proofs.Sectors.{le-part}
 
@@ -40,21 +35,3 @@ loaded b at name attributes count number directory slot high from cluster size e
   cluster = (e8 ∙ sym (le-part 2 b at 26)) i;
   size = (e9 ∙ sym (le-part 4 b at 28)) i;
 }
-
--- The records of a group: one, or two for a rename.
-module _ (n z : ℕ) (rs : ℕ → Record) where
-  size-one : eqb (rs 0 .number) 5 ≡ false → group-size rs ≡ 1
-  unfolding group-size
-  size-one h = rw h
-
-  size-two : eqb (rs 0 .number) 5 ≡ true → group-size rs ≡ 2
-  unfolding group-size
-  size-two h = rw h
-
-  pub single : record-ok n z (rs 0) ≡ true → eqb (rs 0 .number) 5 ≡ false → records-ok n z rs ≡ true
-  unfolding records-ok every
-  single ok h = rw (ok, size-one h)
-
-  pub double : record-ok n z (rs 0) ≡ true → eqb (rs 0 .number) 5 ≡ true → records-ok n z rs ≡ pair-ok n z (rs 0) (rs 1)
-  unfolding records-ok every
-  double ok h = rw (ok, size-two h, and-true)

@@ -4,8 +4,9 @@ ghost use mathlib.Core.Path.{_≡_};
 ghost use Prim.Native.Nat.{_+_, _*_, _≤_, _<_};
 ghost use lib.ListN.{length};
 ghost use Rattle.model.specs.Sector.{card-of};
-ghost use Rattle.model.specs.Record.{record-at, pends};
-ghost use Rattle.model.specs.Pending.{slot-ok, record-ok, alike, pair-ok, records-ok};
+ghost use Rattle.model.specs.Scan.{all};
+ghost use Rattle.model.specs.Record.{record-at, group-size, pends};
+ghost use Rattle.model.specs.Pending.{slot-ok, record-ok, alike, apart, part-ok, records-ok};
 
 // Whether record r of sector s is pending.
 pub fn pends(log: &[u8], s: u32, r: u32) -> bool
@@ -108,31 +109,54 @@ fn is_alike(r: Record, d: Record) -> bool
     r.size == d.size
 }
 
-// The two records of a rename.
-fn pair_ok(r: Record, d: Record, entries: u32, z: u32) -> bool
-    ensures { λ t. ⌜ t ≡ pair-ok entries z r d ⌝ }
+// Whether each of the first n records of sector s names another slot than k.
+fn is_apart(log: &[u8], s: u32, n: u32, k: u32) -> bool
+    requires { ⌜ (512 * s + 512 ≤ length (now log)) × (n ≤ 16) ⌝ }
+    ensures { λ t. ⌜ t ≡ all (apart (record-at (card-of (now (log .entry)) s)) k) n ⌝ }
 {
+    let mut i = 0;
+    while i < n {
+        let r = load(log, s, i);
+        if r.slot == k {
+            return false;
+        }
+        i += 1;
+    }
+    true
+}
+
+// Record k of sector s, which is part of the record before.
+fn part_ok(log: &[u8], s: u32, k: u32, entries: u32, z: u32) -> bool
+    requires { ⌜ (512 * s + 512 ≤ length (now log)) × (1 ≤ k) × (k < 16) ⌝ }
+    ensures { λ t. ⌜ t ≡ part-ok entries z (record-at (card-of (now (log .entry)) s)) k ⌝ }
+{
+    let r = load(log, s, k - 1);
+    let d = load(log, s, k);
     if !is_alike(r, d) {
         return false;
     }
     if !slot_ok(entries, z, d.slot) {
         return false;
     }
-    r.slot != d.slot
+    is_apart(log, s, k, d.slot)
 }
 
-// The records of the group in sector s.
-pub fn records_ok(log: &[u8], s: u32, entries: u32, z: u32) -> bool
-    requires { ⌜ 512 * s + 512 ≤ length (now log) ⌝ }
+// The m records of the group in sector s.
+pub fn records_ok(log: &[u8], s: u32, m: u32, entries: u32, z: u32) -> bool
+    requires { ⌜ (512 * s + 512 ≤ length (now log)) × (m ≤ 16) ⌝ }
+    requires { ⌜ m ≡ group-size (record-at (card-of (now log) s)) ⌝ }
     ensures { λ t. ⌜ t ≡ records-ok entries z (record-at (card-of (now (log .entry)) s)) ⌝ }
 {
     let r = load(log, s, 0);
     if !record_ok(r, entries, z) {
         return false;
     }
-    if r.number != 5 {
-        return true;
+    let mut k = 1;
+    while k < m {
+        if !part_ok(log, s, k, entries, z) {
+            return false;
+        }
+        k += 1;
     }
-    let d = load(log, s, 1);
-    pair_ok(r, d, entries, z)
+    true
 }

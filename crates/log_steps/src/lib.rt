@@ -51,7 +51,7 @@ pub fn log_steps(w: &mut [u8], v: Volume, x: Change, limit: u32) -> Progress
     }
     let g = Group {
         sector: s,
-        records: log_write::records_of(x),
+        records: log_group::records_of(x),
         change: x,
     };
     let q = store_and_redo(w, l, g, limit - p.made);

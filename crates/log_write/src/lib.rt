@@ -122,40 +122,6 @@ fn record_about(e: Entry, number: u32, cluster: u32, from: u32, size: u32) -> Re
     }
 }
 
-// How many records the group of a change has.
-pub fn records_of(x: Change) -> u32
-    ensures { λ r. ⌜ (r ≡ length (records x)) × (r ≤ 16) ⌝ }
-{
-    let o = x.operation;
-    match o {
-        Operation::Create { entry: _ } => 1,
-        Operation::Update {
-            entry: _,
-            last: _,
-            from: _,
-            size: _,
-        } => 1,
-        Operation::Delete {
-            entry: _,
-            first: _,
-            size: _,
-        } => 1,
-        Operation::Truncate {
-            entry: _,
-            first: _,
-            from: _,
-            size: _,
-        } => 1,
-        Operation::Rename {
-            entry: _,
-            first: _,
-            size: _,
-            to: _,
-            renamed: _,
-        } => 2,
-    }
-}
-
 // Record k of the group of a change.
 fn record_of(x: Change, k: u32) -> Record
     requires { ⌜ k < length (records x) ⌝ }
@@ -201,7 +167,7 @@ fn record_of(x: Change, k: u32) -> Record
 pub fn encode_group(x: Change) -> [u8; 512]
     ensures { λ r. ⌜ bytes-of r ≡ encode x ⌝ }
 {
-    let n = records_of(x);
+    let n = log_group::records_of(x);
     let mut buf = [0u8; 512];
     let mut k = 0;
     while k < n {

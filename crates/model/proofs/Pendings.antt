@@ -1,35 +1,32 @@
 -- Laws of what is pending in a log: nothing, or the one group that stands there.
 use Prim.Native.Nat.{ℕ, zero, suc, _+_, _-_, _*_, _/_, _%_, _≤_, _<_}
 use native.Mathlib.Omega.{arith}
-use mathlib.Core.Path.{_≡_, refl, sym, ap, _∙_}
+use mathlib.Core.Path.{_≡_, refl, sym, ap, _∙_, subst}
 use mathlib.Core.Logic.{_⊎_, inl, inr}
 use mathlib.Core.List.{List, [], _∷_, map}
 use mathlib.Core.Bool.{Bool, true, false, _&&_, _||_, not}
 use lib.Dec.{eqb, ltb, leb}
-use lib.ListN.{length, getD, drop}
+use lib.ListN.{length, getD}
 use borrow.Author.Tests.{eq-eqb, eqb-true, lt-ltb, le-ltb, ltb-false, ltb-true, le-leb, leb-true, ne-eqb}
 use Rattle.model.specs.Bytes.{Bytes, zeros, pick, byte-of, overlay}
-use Rattle.model.specs.Scan.{every, first, between}
+use Rattle.model.specs.Scan.{first, between, all-from, walk}
 use Rattle.model.specs.Sector.{clip}
 use Rattle.model.specs.Log.{Log}
-use Rattle.model.specs.Record.{pends, tells, committed, record-bytes, record-of, encode, lay, operation-records, records, plain, group-size, record-at}
-use Rattle.model.specs.Record.{change-of, group-in}
-use Rattle.model.specs.Pending.{pending-in, first-pending, pending-at, accepted, slot-ok, record-ok, pair-ok, alike, records-ok, empty-from, group-ok}
+use Rattle.model.specs.Record.{pends, tells, committed, record-bytes, record-of, encode, lay, records, group-size, record-at}
+use Rattle.model.specs.Record.{change-of, group-of, group-in}
+use Rattle.model.specs.Pending.{pending-in, first-pending, pending-at, accepted, slot-ok, record-ok, part-ok, alike, records-ok, empty-from, group-ok}
 use Rattle.model.specs.Pending.{alone}
 use Rattle.model.specs.declared.Area.{Area}
-use Rattle.model.specs.declared.Name.{Name}
 use Rattle.model.specs.declared.Entry.{Entry}
 use Rattle.model.specs.declared.Record.{Record}
-use Rattle.model.specs.declared.Group.{Group}
 use Rattle.model.specs.declared.Change.{Change}
-use Rattle.model.specs.declared.Operation.{Operation}
 use Rattle.model.specs.declared.Pending.{Pending}
-use Rattle.model.specs.declared.Operation.the-variants.{Create, Update, Delete, Truncate, Rename}
 use Rattle.model.proofs.Tests.{clash, less?, told, each-every, every-at, _also_, same?, or-right, or-left, and-both, and-left, and-right}
-use Rattle.model.proofs.Scan.{first-before0, first-above0, all-same, all-of, first-is0, all-of0}
+use Rattle.model.proofs.Tests.{between-true, between-is}
+use Rattle.model.proofs.Scan.{first-before0, first-above0, all-same, all-of, all-at, first-is0, all-of0}
 use Rattle.model.proofs.All.{All}
 use Rattle.model.proofs.Cards.{clip-at}
-use Rattle.model.proofs.Records.{Fits, listed, few-records, encode-back, change-back, size-back, encode-after}
+use Rattle.model.proofs.Records.{Fits, listed, encode-back, size-back, encode-after}
 use Rattle.model.specs.declared.Pending.the-variants as Pending
 
 -- A record that begins so is pending, a slot that begins so is live.
@@ -126,15 +123,19 @@ module _ (entries z : ℕ) (a : Area) (g : Log) where
 
 -- ---- a group
 
--- What RECORD asks of a change's records, for n root entries and z the lowest slot beginning 0, and that those after the first are pending.
+-- A record that is pending once it is written.
+abbrev pub Starts : Record → Type 0
+Starts r = starts (byte-of (r .name .stem) 0) ≡ true
+
+-- What RECORD asks of a change's records, for n root entries and z the lowest slot beginning 0, and that all are pending.
 abbrev pub Recorded : ℕ → ℕ → Change → Type 0
-Recorded n z o = (records-ok n z (listed (records o)) ≡ true) × All (λ r. starts (byte-of (r .name .stem) 0) ≡ true) (drop 1 (records o))
+Recorded n z x = (records-ok n z (listed (records x)) ≡ true) × All Starts (records x)
 
 -- A slot of n that is not above z.
 abbrev pub Seat : ℕ → ℕ → ℕ → Type 0
 Seat n z s = (s < n) × (s ≤ z)
 
-slot-read : (n z s : ℕ) → Seat n z s → slot-ok n z s ≡ true
+pub slot-read : (n z s : ℕ) → Seat n z s → slot-ok n z s ≡ true
 unfolding slot-ok
 slot-read n z s h = rw (lt-ltb s n (h .0), le-leb s z (h .1))
 
@@ -146,76 +147,73 @@ slot-seat n z s h = (ltb-true s n (and-left (ltb s n) (leb s z) h), leb-true s z
 slot-up : (n z y s : ℕ) → z ≤ y → slot-ok n z s ≡ true → slot-ok n y s ≡ true
 slot-up n z y s le h = let k = slot-seat n z s h in slot-read n y s (k .0, omega (arith, k .1))
 
+record-up : (n z y : ℕ) (r : Record) → z ≤ y → record-ok n z r ≡ true → record-ok n y r ≡ true
+unfolding record-ok
+record-up n z y r le h =
+    each-every _ (every-at _ h 0 also every-at _ h 1 also every-at _ h 2 also every-at _ h 3 also every-at _ h 4
+    also slot-up n z y (r .slot) le (every-at _ h 5) also tt)
+
+part-up : (n z y : ℕ) (rs : ℕ → Record) (k : ℕ) → z ≤ y → part-ok n z rs k ≡ true → part-ok n y rs k ≡ true
+unfolding part-ok
+part-up n z y rs k le h = each-every _ (every-at _ h 0 also slot-up n z y (rs k .slot) le (every-at _ h 1) also every-at _ h 2 also tt)
+
 module _ (n z : ℕ) (rs : ℕ → Record) (h : records-ok n z rs ≡ true) where
-  -- The first slot, the number, and for a rename the second slot.
-  pub first-seat : Seat n z (rs 0 .slot)
-  unfolding records-ok record-ok
-  first-seat = slot-seat n z (rs 0 .slot) (every-at _ (every-at _ h 0) 5)
-
-  pub first-number : between 1 5 (rs 0 .number) ≡ true
-  unfolding records-ok record-ok
-  first-number = every-at _ (every-at _ h 0) 0
-
-  pair-is : eqb (group-size rs) 1 ≡ false → pair-ok n z (rs 0) (rs 1) ≡ true
+  first-ok : record-ok n z (rs 0) ≡ true
   unfolding records-ok
-  pair-is e = rw e at (every-at _ h 1)
+  first-ok = every-at _ h 0
 
-  pub second-seat : eqb (rs 0 .number) 5 ≡ true → Seat n z (rs 1 .slot)
-  unfolding group-size pair-ok
-  second-seat e = slot-seat n z (rs 1 .slot) (every-at _ (pair-is (rw e)) 1)
+  later-ok : (k : ℕ) → 1 ≤ k → k < group-size rs → part-ok n z rs k ≡ true
+  unfolding records-ok
+  later-ok k low less = all-at (part-ok n z rs) 1 (group-size rs - 1) (every-at _ h 1) k low (omega arith)
+
+  -- Record 0's number, and the slot of each record.
+  pub first-number : between 1 5 (rs 0 .number) ≡ true
+  unfolding record-ok
+  first-number = every-at _ first-ok 0
+
+  pub seat-at : (k : ℕ) → k < group-size rs → Seat n z (rs k .slot)
+  unfolding record-ok part-ok
+  seat-at k less = go (same? k 0)
+    where
+      go : (k ≡ 0) ⊎ (k ≡ 0 → ⊥) → Seat n z (rs k .slot)
+      go (inl e) = subst (λ (i : ℕ). Seat n z (rs i .slot)) (sym e) (slot-seat n z (rs 0 .slot) (every-at _ first-ok 5))
+      go (inr ne) = slot-seat n z (rs k .slot) (every-at _ (later-ok k (omega arith) less) 1)
 
   records-up : (y : ℕ) → z ≤ y → records-ok n y rs ≡ true
-  unfolding records-ok record-ok pair-ok
+  unfolding records-ok
   records-up y le =
-      each-every _ (each-every _ (every-at _ (every-at _ h 0) 0 also every-at _ (every-at _ h 0) 1 also every-at _ (every-at _ h 0) 2 also every-at _
-      (every-at _ h 0) 3
-      also every-at _ (every-at _ h 0) 4 also slot-up n z y (rs 0 .slot) le (every-at _ (every-at _ h 0) 5) also tt)
-      also go (told (eqb (group-size rs) 1)) also tt)
-    where
-      go : (eqb (group-size rs) 1 ≡ true) ⊎ (eqb (group-size rs) 1 ≡ false)
-          → (eqb (group-size rs) 1 || every (alike (rs 0) (rs 1) ∷ slot-ok n y (rs 1 .slot) ∷ not (eqb (rs 0 .slot) (rs 1 .slot)) ∷ [])) ≡ true
-      go (inl e) = rw e
-      go (inr e) =
-          let k = pair-is e in
-          or-right (eqb (group-size rs) 1) _ (each-every _ (every-at _ k 0 also slot-up n z y (rs 1 .slot) le (every-at _ k 1) also every-at _ k 2 also tt))
+      each-every _ (record-up n z y (rs 0) le first-ok
+      also all-of (part-ok n y rs) 1 (group-size rs - 1) (λ k low less. part-up n z y rs k le (later-ok k low (omega arith))) also tt)
 
-pub recorded-up : (n z y : ℕ) (o : Change) → z ≤ y → Recorded n z o → Recorded n y o
-recorded-up n z y o le w = (records-up n z (listed (records o)) (w .0) y le, w .1)
+pub recorded-up : (n z y : ℕ) (x : Change) → z ≤ y → Recorded n z x → Recorded n y x
+recorded-up n z y x le w = (records-up n z (listed (records x)) (w .0) y le, w .1)
 
--- What each operation supplies.
-record-fine : (n z : ℕ) (e : Entry) (number k from size : ℕ) → between 1 5 number ≡ true → from < 65536 → Seat n z (e .slot)
+-- What a change supplies: record 0, and each after it.
+pub recorded : (n z : ℕ) (x : Change) → Fits x → record-ok n z (listed (records x) 0) ≡ true
+    → ((k : ℕ) → 1 ≤ k → k < length (records x) → part-ok n z (listed (records x)) k ≡ true) → All Starts (records x) → Recorded n z x
+unfolding records-ok
+recorded n z x fits one more live =
+    let size : group-size (listed (records x)) ≡ length (records x) = size-back x fits in (
+      each-every _ (one also all-of (part-ok n z (listed (records x))) 1 (group-size (listed (records x)) - 1) (λ k low less. more k low (omega arith))
+          also tt),
+      live,
+    )
+
+pub record-fine : (n z : ℕ) (e : Entry) (number k from size : ℕ) → 1 ≤ number → number ≤ 5 → from < 65536 → Seat n z (e .slot)
     → record-ok n z (record-of e number k from size) ≡ true
 unfolding record-ok record-of
-record-fine n z e number k from size op small seat =
-    each-every _ (op also refl also refl also refl also lt-ltb from 65536 small also slot-read n z (e .slot) seat also tt)
+record-fine n z e number k from size low high small seat =
+    each-every _ (between-is 1 5 number low high also refl also refl also refl also lt-ltb from 65536 small also slot-read n z (e .slot) seat also tt)
 
-pub recorded-create : (n z : ℕ) (e : Entry) → Seat n z (e .slot) → Recorded n z (plain (Create e))
-unfolding records-ok records operation-records record-of group-size between
-recorded-create n z e w = (each-every _ (record-fine n z e 1 0 0 0 refl (omega arith) w also refl also tt), tt)
-
-pub recorded-update : (n z : ℕ) (e : Entry) (last from size : ℕ) → Seat n z (e .slot) → from < 65536 → Recorded n z (plain (Update e last from size))
-unfolding records-ok records operation-records record-of group-size between
-recorded-update n z e last from size w f = (each-every _ (record-fine n z e 2 last from size refl f w also refl also tt), tt)
-
-pub recorded-delete : (n z : ℕ) (e : Entry) (k size : ℕ) → Seat n z (e .slot) → Recorded n z (plain (Delete e k size))
-unfolding records-ok records operation-records record-of group-size between
-recorded-delete n z e k size w = (each-every _ (record-fine n z e 3 k 0 size refl (omega arith) w also refl also tt), tt)
-
-pub recorded-truncate : (n z : ℕ) (e : Entry) (k from size : ℕ) → Seat n z (e .slot) → from < 65536 → Recorded n z (plain (Truncate e k from size))
-unfolding records-ok records operation-records record-of group-size between
-recorded-truncate n z e k from size w f = (each-every _ (record-fine n z e 4 k from size refl f w also refl also tt), tt)
-
-pub recorded-rename : (n z : ℕ) (e : Entry) (k size to : ℕ) (renamed : Name) → Seat n z (e .slot) → Seat n z to → (e .slot ≡ to → ⊥)
-    → starts (byte-of (renamed .stem) 0) ≡ true
-    → Recorded n z (plain (Rename e k size to renamed))
-unfolding records-ok records operation-records record-of group-size between pair-ok alike
-recorded-rename n z e k size to renamed w v ne live =
-    let same = each-every _ (eq-eqb (e .attributes) (e .attributes) refl also refl also refl also refl also refl also eq-eqb k k refl also eq-eqb size
-    size refl also tt) in (
-      each-every _ (record-fine n z e 5 k 0 size refl (omega arith) w
-          also each-every _ (same also slot-read n z to v also ap not (ne-eqb (e .slot) to ne) also tt) also tt),
-      (live, tt),
-    )
+-- The second of two records, with another name, number and slot.
+pub part-fine : (n z : ℕ) (e f : Entry) (number k from size : ℕ) → f .attributes ≡ e .attributes → Seat n z (f .slot) → (e .slot ≡ f .slot → ⊥) → (i : ℕ)
+    → 1 ≤ i → i < 2 → part-ok n z (listed (record-of e number k from size ∷ record-of f 0 k from size ∷ [])) i ≡ true
+unfolding part-ok alike record-of all-from walk
+part-fine n z e f number k from size same seat ne zero low less = absurd (omega arith)
+part-fine n z e f number k from size same seat ne (suc zero) low less =
+    each-every _ (each-every _ (eq-eqb (e .attributes) (f .attributes) (sym same) also refl also refl also refl also eq-eqb from from refl also eq-eqb k k refl
+    also eq-eqb size size refl also tt) also slot-read n z (f .slot) seat also (rw (ne-eqb (e .slot) (f .slot) ne)) also tt)
+part-fine n z e f number k from size same seat ne (suc (suc i)) low less = absurd (omega arith)
 
 record-first : (r : Record) → record-bytes r 0 ≡ byte-of (r .name .stem) 0
 unfolding record-bytes overlay
@@ -227,82 +225,49 @@ unfolding empty-from
 empty-clip i b = all-same (λ j. eqb (clip b j) 0) (λ j. eqb (b j) 0) i (512 - i) (λ j lo hi. ap (λ v. eqb v 0) (clip-at b j (omega arith)))
 
 -- The first byte of a record is its name's.
-pends-record : (o : Change) (k : ℕ) → k < length (records o) → pends (encode o) k ≡ starts (byte-of (listed (records o) k .name .stem) 0)
-unfolding encode lay
-pends-record o k less =
-    let row : 32 * k / 32 ≡ k = omega arith in
-    let col : 32 * k % 32 ≡ 0 = omega arith in
-    pends-starts (encode o) k ∙ ap starts ((λ i. getD (map record-bytes (records o)) (row i) zeros (col i)) ∙ first-byte (records o) k less)
-  where
-    first-byte : (rs : List Record) (k : ℕ) → k < length rs → getD (map record-bytes rs) k zeros 0 ≡ byte-of (listed rs k .name .stem) 0
-    first-byte [] k less = absurd (omega arith)
-    first-byte (r ∷ rs) zero less = record-first r
-    first-byte (r ∷ rs) (suc k) less = first-byte rs k (omega arith)
-
-abbrev pub Named : Change → Type 0
-Named o = starts (byte-of (listed (records o) 0 .name .stem) 0) ≡ true
-
-some-of : (o : Operation) → 0 < length (operation-records o)
-unfolding operation-records
-some-of (Create e) = omega arith
-some-of (Update e last from size) = omega arith
-some-of (Delete e k size) = omega arith
-some-of (Truncate e k from size) = omega arith
-some-of (Rename e k size to renamed) = omega arith
-
-some-record : (o : Change) → 0 < length (records o)
-unfolding records
-some-record o = some-of (o .operation)
+first-byte : (rs : List Record) (k : ℕ) → k < length rs → All Starts rs → starts (getD (map record-bytes rs) k zeros 0) ≡ true
+first-byte [] k less a = absurd (omega arith)
+first-byte (r ∷ rs) zero less a = ap starts (record-first r) ∙ a .0
+first-byte (r ∷ rs) (suc k) less a = first-byte rs k (omega arith) (a .1)
 
 -- All records of a group are pending.
-later-starts : (rs : List Record) (k : ℕ) → 1 ≤ k → k < length rs → All (λ r. starts (byte-of (r .name .stem) 0) ≡ true) (drop 1 rs)
-    → starts (byte-of (listed rs k .name .stem) 0) ≡ true
-later-starts [] k lo less a = absurd (omega arith)
-later-starts (r ∷ rs) zero lo less a = absurd (omega arith)
-later-starts (r ∷ rs) (suc k) lo less a = go rs k (omega arith) a
-  where
-    go : (rs : List Record) (k : ℕ) → k < length rs → All (λ r. starts (byte-of (r .name .stem) 0) ≡ true) rs
-        → starts (byte-of (listed rs k .name .stem) 0) ≡ true
-    go [] k less a = absurd (omega arith)
-    go (r ∷ rs) zero less a = a .0
-    go (r ∷ rs) (suc k) less a = go rs k (omega arith) (a .1)
+record-pends : (x : Change) → Fits x → All Starts (records x) → (k : ℕ) → k < length (records x) → pends (clip (encode x)) k ≡ true
+unfolding encode lay
+record-pends x fits live k less =
+    let row : 32 * k / 32 ≡ k = omega arith in
+    let col : 32 * k % 32 ≡ 0 = omega arith in
+    pends-starts (clip (encode x)) k
+    ∙ ap starts (clip-at (encode x) (32 * k) (omega (arith, fits .few)) ∙ (λ i. getD (map record-bytes (records x)) (row i) zeros (col i)))
+    ∙ first-byte (records x) k less live
 
-record-pends : (n z : ℕ) (o : Change) → Named o → Recorded n z o → (k : ℕ) → k < length (records o) → pends (clip (encode o)) k ≡ true
-record-pends n z o named w k less =
-    pends-starts (clip (encode o)) k ∙ ap starts (clip-at (encode o) (32 * k) (omega (arith, few-records o))) ∙ sym (pends-starts (encode o) k)
-    ∙ pends-record o k less ∙ go (same? k 0)
+-- RECORD takes no group without a record.
+some-record : (n z : ℕ) (x : Change) → Recorded n z x → 0 < length (records x)
+some-record n z x w = go (records x) (first-number n z (listed (records x)) (w .0))
   where
-    go : (k ≡ 0) ⊎ (k ≡ 0 → ⊥) → starts (byte-of (listed (records o) k .name .stem) 0) ≡ true
-    go (inl e) = ap (λ (i : ℕ). starts (byte-of (listed (records o) i .name .stem) 0)) e ∙ named
-    go (inr ne) = later-starts (records o) k (omega arith) less (w .1)
+    go : (rs : List Record) → between 1 5 (listed rs 0 .number) ≡ true → 0 < length rs
+    go [] b = absurd (omega (arith, between-true 1 5 0 b .0))
+    go (r ∷ rs) b = omega arith
 
 -- The records of a sector that was stored.
 clip-size : (o : Change) → Fits o → group-size (record-at (clip (encode o))) ≡ length (records o)
-clip-size o h = ap group-size (encode-back o h) ∙ size-back o
+clip-size o h = ap group-size (encode-back o h) ∙ size-back o h
 
 clip-ok : (n z : ℕ) (o : Change) → Fits o → records-ok n z (record-at (clip (encode o))) ≡ records-ok n z (listed (records o))
 clip-ok n z o h = ap (records-ok n z) (encode-back o h)
 
-group-fine : (n z : ℕ) (o : Change) → Fits o → Named o → Recorded n z o → group-ok n z (clip (encode o)) ≡ true
+group-fine : (n z : ℕ) (o : Change) → Fits o → Recorded n z o → group-ok n z (clip (encode o)) ≡ true
 unfolding group-ok empty-from
-group-fine n z o h named w =
+group-fine n z o h w =
+    let m : ℕ = length (records o) in
     rw (clip-size o h)
     (each-every _ (clip-ok n z o h ∙ w .0
-    also all-of0 (pends (clip (encode o))) (length (records o)) (record-pends n z o named w)
-    also empty-clip (32 * length (records o)) (encode o)
-    ∙ all-of (λ j. eqb (encode o j) 0) (32 * length (records o)) (512 - 32 * length (records o)) (λ j lo hi. eq-eqb (encode o j) 0 (encode-after o j lo))
+    also all-of0 (pends (clip (encode o))) m (record-pends o h (w .1))
+    also empty-clip (32 * m) (encode o) ∙ all-of (λ j. eqb (encode o j) 0) (32 * m) (512 - 32 * m) (λ j lo hi. eq-eqb (encode o j) 0 (encode-after o j lo))
     also tt))
-
-named-pends : (o : Change) → Named o → pends (clip (encode o)) 0 ≡ true
-named-pends o h = pends-starts (clip (encode o)) 0 ∙ sym (pends-starts (encode o) 0) ∙ pends-record o 0 (some-record o) ∙ h
-
--- The group of a change, in a sector.
-abbrev pub group-of : ℕ → Change → Group
-group-of s o = record { sector = s; records = length (records o); change = o }
 
 pub group-read : (s : ℕ) (o : Change) → Fits o → group-in s (clip (encode o)) ≡ group-of s o
 unfolding group-in
-group-read s o h = λ i. record { sector = s; records = clip-size o h i; change = (ap change-of (encode-back o h) ∙ change-back o) i }
+group-read s o h = ap (group-of s) (ap change-of (encode-back o h) ∙ h .told)
 
 -- The group of change o stands in log sector u, and no record of the others is pending.
 pub record Stored (n : ℕ) (g : Log) (u : ℕ) (o : Change) : Type 0 where
@@ -316,7 +281,7 @@ rest-quiet o r le less = pends-starts (clip (encode o)) r
     ∙ ap (λ v. starts v) (clip-at (encode o) (32 * r) (omega arith) ∙ encode-after o (32 * r) (omega arith))
 
 module _ (entries z : ℕ) (a : Area) (g : Log) (u : ℕ) (o : Change) (h : Stored (a .sectors) g u o)
-    (named : Named o) (fits : Fits o) (fine : Recorded entries z o) where
+    (fits : Fits o) (fine : Recorded entries z o) where
   at-sector : (k : ℕ) → k / 16 ≡ u → pending-at g k ≡ pends (clip (encode o)) (k % 16)
   at-sector k e = ap (λ (b : Bytes). pends b (k % 16)) (ap g e ∙ h .bytes)
 
@@ -326,7 +291,7 @@ module _ (entries z : ℕ) (a : Area) (g : Log) (u : ℕ) (o : Change) (h : Stor
       let less : u < a .sectors = h .in-log in
       let zero : 16 * u % 16 ≡ 0 = omega arith in
       first-is0 (pending-at g) (16 * a .sectors) (16 * u) (omega arith) (λ j lt. h .others (j / 16) (omega arith) (λ e. omega arith) (j % 16) (omega arith))
-      (at-sector (16 * u) (omega arith) ∙ ap (pends (clip (encode o))) zero ∙ named-pends o named)
+      (at-sector (16 * u) (omega arith) ∙ ap (pends (clip (encode o))) zero ∙ record-pends o fits (fine .1) 0 (some-record entries z o fine))
 
   alone-at : alone (a .sectors) g (16 * u) (length (records o)) ≡ true
   unfolding alone
@@ -349,7 +314,7 @@ module _ (entries z : ℕ) (a : Area) (g : Log) (u : ℕ) (o : Change) (h : Stor
   accepted-at =
       let back : 16 * u / 16 ≡ u = omega arith in
       let here : g (16 * u / 16) ≡ clip (encode o) = ap g back ∙ h .bytes in
-      rw here (each-every _ (eq-eqb (16 * u % 16) 0 (omega arith) also group-fine entries z o fits named fine also sizes also tt))
+      rw here (each-every _ (eq-eqb (16 * u % 16) 0 (omega arith) also group-fine entries z o fits fine also sizes also tt))
 
   -- What is pending is the group in that sector.
   pub pending-is : pending-in entries z a g ≡ Pending.Held (a .sector + u)

@@ -8,16 +8,17 @@ use mathlib.Core.List.{List, [], _∷_, map}
 use lib.ListN.{length, getD, length-map, List·getD-eq-default}
 use Rattle.model.specs.Bytes.{Bytes, le, overlay, byte-of, part, patch, zeros}
 use Rattle.model.specs.Sector.{clip}
-use Rattle.model.specs.Record.{record-bytes, record-in, record-of, operation-records, records, plain, lay, encode, record-at, operation-of, change-of}
-use Rattle.model.specs.Record.{group-size}
+use Rattle.model.specs.Record.{record-bytes, record-in, record-of, operation-records, records, lay, encode, record-at, operation-of}
+use Rattle.model.specs.Record.{plain, change-of, group-size}
 use Rattle.model.specs.declared.Name.{Name}
 use Rattle.model.specs.declared.Entry.{Entry}
 use Rattle.model.specs.declared.Record.{Record}
 use Rattle.model.specs.declared.Change.{Change}
 use Rattle.model.specs.declared.Operation.{Operation}
 use Rattle.model.specs.declared.Operation.the-variants.{Create, Update, Delete, Truncate, Rename}
+use lib.Dec.{eqb}
 use borrow.Author.Tests.{lt-ltb, le-ltb}
-use Rattle.model.proofs.Tests.{less?}
+use Rattle.model.proofs.Tests.{less?, by-pick}
 use Rattle.model.proofs.All.{All}
 use Rattle.model.proofs.Numbers.{read-back, le-local}
 
@@ -43,9 +44,6 @@ pub record RecordFits (r : Record) : Type 0 where
   pub cluster : r .cluster < 256 ^ 2
   pub size : r .size < 256 ^ 4
 
-abbrev pub Fits : Change → Type 0
-Fits o = All RecordFits (records o)
-
 -- A record about an entry.
 pub entry-record : (e : Entry) (number cluster from size : ℕ) → number < 256 → EntryFits e → cluster < 256 ^ 2 → from < 256 ^ 4 → size < 256 ^ 4
     → RecordFits (record-of e number cluster from size)
@@ -62,36 +60,6 @@ entry-record e number cluster from size n h c f s = record {
   cluster = c;
   size = s;
 }
-
--- What each operation supplies.
-pub fits-create : (e : Entry) → EntryFits e → Fits (plain (Create e))
-unfolding records operation-records
-fits-create e h = (entry-record e 1 0 0 0 (omega arith) h (omega arith) (omega arith) (omega arith), tt)
-
-pub fits-update : (e : Entry) (last from size : ℕ) → EntryFits e → last < 256 ^ 2 → from < 256 ^ 4 → size < 256 ^ 4 → Fits (plain (Update e last from size))
-unfolding records operation-records
-fits-update e last from size h c f s = (entry-record e 2 last from size (omega arith) h c f s, tt)
-
-pub fits-delete : (e : Entry) (first size : ℕ) → EntryFits e → first < 256 ^ 2 → size < 256 ^ 4 → Fits (plain (Delete e first size))
-unfolding records operation-records
-fits-delete e first size h c s = (entry-record e 3 first 0 size (omega arith) h c (omega arith) s, tt)
-
-pub fits-truncate : (e : Entry) (first from size : ℕ) → EntryFits e → first < 256 ^ 2 → from < 256 ^ 4 → size < 256 ^ 4
-    → Fits (plain (Truncate e first from size))
-unfolding records operation-records
-fits-truncate e first from size h c f s = (entry-record e 4 first from size (omega arith) h c f s, tt)
-
-pub fits-rename : (e : Entry) (first size to : ℕ) (renamed : Name) → EntryFits e → first < 256 ^ 2 → size < 256 ^ 4 → to < 256 ^ 2 → NameFits renamed
-    → Fits (plain (Rename e first size to renamed))
-unfolding records operation-records
-fits-rename e first size to renamed h c s t n = (
-  entry-record e 5 first 0 size (omega arith) h c (omega arith) s,
-  (
-    entry-record (record { slot = to; name = renamed; attributes = e .attributes }) 0 first 0 size (omega arith)
-        (record { slot = t; name = n; attributes = h .attributes }) c (omega arith) s,
-    tt,
-  ),
-)
 
 -- ---- one record
 
@@ -170,46 +138,55 @@ records-back rs few h k = go (less? k 16)
         λ i. getD (map record-bytes rs) (row i) zeros (col i))
         ∙ one-back rs h k)
 
-few-of : (o : Operation) → length (operation-records o) ≤ 16
-unfolding operation-records
-few-of (Create e) = omega arith
-few-of (Update e last from size) = omega arith
-few-of (Delete e k size) = omega arith
-few-of (Truncate e k from size) = omega arith
-few-of (Rename e k size to renamed) = omega arith
+-- A change that a group can hold: its records fit a sector and their fields, and they tell of it.
+pub record Fits (x : Change) : Type 0 where
+  pub few : length (records x) ≤ 16
+  pub fields : All RecordFits (records x)
+  pub told : change-of (listed (records x)) ≡ x
 
-pub few-records : (o : Change) → length (records o) ≤ 16
-unfolding records
-few-records o = few-of (o .operation)
-
-pub encode-back : (o : Change) → Fits o → record-at (clip (encode o)) ≡ listed (records o)
-unfolding encode
-encode-back o h = fun-ext (λ k. records-back (records o) (few-records o) h k)
-
--- The records of a change tell of it, and are as many as a group of it has.
-operation-back : (o : Operation) → operation-of (listed (operation-records o)) ≡ o
+-- An operation's records tell of it, and so of a change that is told by its operation alone.
+operation-told : (o : Operation) → operation-of (listed (operation-records o)) ≡ o
 unfolding operation-of operation-records record-of
-operation-back (Create e) = refl
-operation-back (Update e last from size) = refl
-operation-back (Delete e first size) = refl
-operation-back (Truncate e first from size) = refl
-operation-back (Rename e first size to renamed) = refl
+operation-told (Create e) = refl
+operation-told (Update e last from size) = refl
+operation-told (Delete e first size) = refl
+operation-told (Truncate e first from size) = refl
+operation-told (Rename e first size to renamed) = refl
 
-pub change-back : (o : Change) → change-of (listed (records o)) ≡ o
+pub plain-told : (o : Operation) → change-of (listed (records (plain o))) ≡ plain o
 unfolding change-of records
-change-back o = λ i. plain (operation-back (o .operation) i)
+plain-told o = ap plain (operation-told o)
 
-size-of : (o : Operation) → group-size (listed (operation-records o)) ≡ length (operation-records o)
-unfolding group-size operation-records record-of
-size-of (Create e) = refl
-size-of (Update e last from size) = refl
-size-of (Delete e first size) = refl
-size-of (Truncate e first from size) = refl
-size-of (Rename e first size to renamed) = refl
+pub encode-back : (x : Change) → Fits x → record-at (clip (encode x)) ≡ listed (records x)
+unfolding encode
+encode-back x h = fun-ext (λ k. records-back (records x) (h .few) (h .fields) k)
 
-pub size-back : (o : Change) → group-size (listed (records o)) ≡ length (records o)
-unfolding records
-size-back o = size-of (o .operation)
+pub size-back : (x : Change) → Fits x → group-size (listed (records x)) ≡ length (records x)
+unfolding group-size
+size-back x h = ap (λ (y : Change). length (records y)) (h .told)
+
+-- The slots of the change that records tell are theirs.
+abbrev Reads : (ℕ → Record) → Operation → Type 0
+Reads rs o = (k : ℕ) → k < length (operation-records o) → listed (operation-records o) k .slot ≡ rs k .slot
+
+one-read : (rs : ℕ → Record) (r : Record) → r .slot ≡ rs 0 .slot → (k : ℕ) → k < 1 → listed (r ∷ []) k .slot ≡ rs k .slot
+one-read rs r e zero less = e
+one-read rs r e (suc k) less = absurd (omega arith)
+
+two-read : (rs : ℕ → Record) (r d : Record) → r .slot ≡ rs 0 .slot → d .slot ≡ rs 1 .slot → (k : ℕ) → k < 2
+    → listed (r ∷ d ∷ []) k .slot ≡ rs k .slot
+two-read rs r d e f zero less = e
+two-read rs r d e f (suc zero) less = f
+two-read rs r d e f (suc (suc k)) less = absurd (omega arith)
+
+pub told-slot : (rs : ℕ → Record) (k : ℕ) → k < group-size rs → listed (records (change-of rs)) k .slot ≡ rs k .slot
+unfolding group-size change-of records operation-of operation-records record-of
+told-slot rs =
+    let n = rs 0 .number in
+    by-pick (Reads rs) (eqb n 1) _ _ (λ _. one-read rs _ refl) (λ _.
+    by-pick (Reads rs) (eqb n 2) _ _ (λ _. one-read rs _ refl) (λ _.
+    by-pick (Reads rs) (eqb n 3) _ _ (λ _. one-read rs _ refl) (λ _.
+    by-pick (Reads rs) (eqb n 4) _ _ (λ _. one-read rs _ refl) (λ _. two-read rs _ _ refl refl))))
 
 -- After the records their sector is zero.
 pub zero-after : (rs : List Bytes) (j : ℕ) → 32 * length rs ≤ j → lay rs j ≡ 0

@@ -40,13 +40,18 @@ alike r d =
     eqb (r .attributes) (d .attributes) ∷ eqb (r .count) (d .count) ∷ eqb (r .directory) (d .directory)
     ∷ eqb (r .high) (d .high) ∷ eqb (r .from) (d .from) ∷ eqb (r .cluster) (d .cluster) ∷ eqb (r .size) (d .size) ∷ [])
 
--- "for rename two different slots, both records alike"
-unfoldable pub pair-ok : ℕ → ℕ → Record → Record → Bool
-pair-ok n z r d = every (alike r d ∷ slot-ok n z (d .slot) ∷ not (eqb (r .slot) (d .slot)) ∷ [])
+-- Record i names another slot than s.
+abbrev pub apart : (ℕ → Record) → ℕ → ℕ → Bool
+apart rs s i = not (eqb (rs i .slot) s)
 
--- What is asked of the records of a group.
+-- Record k of a group, a "part of the record before": "for rename two different slots, both records .. alike".
+unfoldable pub part-ok : ℕ → ℕ → (ℕ → Record) → ℕ → Bool
+part-ok n z rs k =
+    every (alike (rs (k - 1)) (rs k) ∷ slot-ok n z (rs k .slot) ∷ all (apart rs (rs k .slot)) k ∷ [])
+
+-- What is asked of the records of a group: of record 0, and of each after it.
 unfoldable pub records-ok : ℕ → ℕ → (ℕ → Record) → Bool
-records-ok n z rs = every (record-ok n z (rs 0) ∷ (eqb (group-size rs) 1 || pair-ok n z (rs 0) (rs 1)) ∷ [])
+records-ok n z rs = every (record-ok n z (rs 0) ∷ all-from (part-ok n z rs) 1 (group-size rs - 1) ∷ [])
 
 -- No byte but zero from i on.
 unfoldable pub empty-from : ℕ → Bytes → Bool

@@ -3,7 +3,7 @@ use Prim.Native.Nat.{ℕ, _*_, _/_, _%_}
 use mathlib.Core.List.{List, [], _∷_, map}
 use mathlib.Core.Bool.{Bool, _&&_, not}
 use lib.Dec.{ltb, eqb}
-use lib.ListN.{getD}
+use lib.ListN.{getD, length}
 use Rattle.model.specs.Bytes.{Bytes, pick, le, part, patch, zeros}
 use Rattle.model.specs.Sector.{Card, Store, store}
 use Rattle.model.specs.Root.{name-in, attributes}
@@ -132,13 +132,17 @@ operation-of rs =
 unfoldable pub change-of : (ℕ → Record) → Change
 change-of rs = plain (operation-of rs)
 
--- How many records the group in a sector has: "record 0 of a sector, with record 1 for a rename".
+-- How many records the group in a sector has: as many as the change that they tell, so "record 0 of a sector, with record 1 for a
+-- rename".
 unfoldable pub group-size : (ℕ → Record) → ℕ
-group-size rs = pick (eqb (rs 0 .number) 5) 2 1
+group-size rs = length (records (change-of rs))
 
--- The group in a log sector.
+-- The group of a change in a log sector, and the group that stands in one.
+abbrev pub group-of : ℕ → Change → Group
+group-of s x = record { sector = s; records = length (records x); change = x }
+
 unfoldable pub group-in : ℕ → Bytes → Group
-group-in s b = record { sector = s; records = group-size (record-at b); change = change-of (record-at b) }
+group-in s b = group-of s (change-of (record-at b))
 
 -- "First byte 0 is an unused record, 0xE5 a committed one, anything else pending." Record r of a sector tells something; it is
 -- pending.

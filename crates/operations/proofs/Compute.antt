@@ -25,7 +25,7 @@ unfolding ones onesIn
     Rattle.model.specs.Record.group-size Rattle.model.specs.Record.tells Rattle.model.specs.Record.pends Rattle.model.specs.Record.committed
     Rattle.model.specs.Record.commit
     Rattle.model.specs.Pending.first-pending Rattle.model.specs.Pending.slot-ok Rattle.model.specs.Pending.record-ok Rattle.model.specs.Pending.alike
-    Rattle.model.specs.Pending.pair-ok Rattle.model.specs.Pending.records-ok Rattle.model.specs.Pending.empty-from Rattle.model.specs.Pending.group-ok
+    Rattle.model.specs.Pending.part-ok Rattle.model.specs.Pending.records-ok Rattle.model.specs.Pending.empty-from Rattle.model.specs.Pending.group-ok
     Rattle.model.specs.Pending.alone Rattle.model.specs.Pending.accepted Rattle.model.specs.Record.group-in Rattle.model.specs.Pending.pending-in
     Rattle.model.specs.Pending.pending
     Rattle.model.specs.Ground._>>=_ Rattle.model.specs.Ground._when_ Rattle.model.specs.Ground._>>_

@@ -1,14 +1,15 @@
 -- Edits of the root directory may be begun, cut and begun again: made of a mixture of the old directory and the new one they make the
 -- new one. So the code may store root sectors one by one, and read slots that it has stored already.
-use Prim.Native.Nat.{ℕ, _+_, _-_, _*_, _/_, _%_, _≤_, _<_}
+use Prim.Native.Nat.{ℕ, _+_, _-_, _*_, _/_, _%_, _^_, _≤_, _<_}
 use native.Mathlib.Omega.{arith}
-use mathlib.Core.Path.{_≡_, refl, sym, ap, _∙_}
+use native.Mathlib.Nat.{mod-lt}
+use mathlib.Core.Path.{_≡_, refl, sym, ap, _∙_, subst}
 use mathlib.Core.Logic.{_⊎_, inl, inr, ⊎-elim}
 use mathlib.Core.List.{List, [], _∷_, map}
 use mathlib.Core.Bool.{Bool, true, false, _&&_}
 use lib.Dec.{leb, ltb, eqb}
 use borrow.Author.Tests.{eq-eqb, ne-eqb, eqb-false}
-use Rattle.model.specs.Bytes.{Bytes, overlay, pick, byte-of, patch}
+use Rattle.model.specs.Bytes.{Bytes, overlay, pick, byte-of, patch, zeros}
 use Rattle.model.specs.Scan.{any}
 use Rattle.model.specs.Sector.{Card, clip}
 use Rattle.model.specs.Root.{Directory, root-place, slot-at}
@@ -26,21 +27,32 @@ use Rattle.model.proofs.Overlays.{overlay-in, overlay-above}
 
 -- ---- changes of bytes, one by one
 
--- A change gives byte j a value of its own, or leaves it.
+-- A change of bytes gives byte j a value of its own, which is a byte, or leaves it.
 abbrev pub Laid : (Bytes → Bytes) → ℕ → Type 0
-Laid h j = ((v : ℕ) × ((b : Bytes) → h b j ≡ v)) ⊎ ((b : Bytes) → h b j ≡ b j)
+Laid h j = ((v : ℕ) × (v < 256) × ((b : Bytes) → h b j ≡ v)) ⊎ ((b : Bytes) → h b j ≡ b j)
 
-laid-over : (n : ℕ) (p : Bytes) (at j : ℕ) → Laid (λ b. overlay n p at b) j
-unfolding overlay
-laid-over n p at j = go (told (leb at j && ltb j (at + n)))
+-- So it makes bytes of bytes.
+pub laid-small : (h : Bytes → Bytes) (j : ℕ) → Laid h j → (b : Bytes) → b j < 256 → h b j < 256
+laid-small h j (inl k) b small = subst (λ (v : ℕ). v < 256) (sym (k .2 b)) (k .1)
+laid-small h j (inr k) b small = subst (λ (v : ℕ). v < 256) (sym (k b)) small
+
+laid-patch : (n v at j : ℕ) → Laid (λ b. patch n v at b) j
+unfolding overlay byte-of
+laid-patch n v at j = go (told (leb at j && ltb j (at + n)))
   where
+    p : Bytes
+    p = byte-of v
+
     go : ((leb at j && ltb j (at + n)) ≡ true) ⊎ ((leb at j && ltb j (at + n)) ≡ false) → Laid (λ b i. pick (leb at i && ltb i (at + n)) (p (i - at)) (b i)) j
-    go (inl e) = inl (p (j - at), λ b. rw e)
+    go (inl e) = inl (p (j - at), mod-lt (v / 256 ^ (j - at)) (omega arith), λ b. rw e)
     go (inr e) = inr (λ b. rw e)
 
+laid-zeros : (j : ℕ) → Laid (λ b. zeros) j
+laid-zeros j = inl (0, omega arith, λ b. refl)
+
 laid-then : (g h : Bytes → Bytes) (j : ℕ) → Laid g j → Laid h j → Laid (λ b. g (h b)) j
-laid-then g h j (inl k) m = inl (k .0, λ b. k .1 (h b))
-laid-then g h j (inr k) (inl m) = inl (m .0, λ b. k (h b) ∙ m .1 b)
+laid-then g h j (inl k) m = inl (k .0, k .1, λ b. k .2 (h b))
+laid-then g h j (inr k) (inl m) = inl (m .0, m .1, λ b. k (h b) ∙ m .2 b)
 laid-then g h j (inr k) (inr m) = inr (λ b. k (h b) ∙ m b)
 
 laid-if : (t : Bool) (h : Bytes → Bytes) (j : ℕ) → Laid h j → Laid (λ b. pick t (h b) b) j
@@ -53,25 +65,34 @@ Over f g j = (b x : Bytes) → x j ≡ g b j → f x j ≡ f b j
 
 -- So does a change after itself, and any after none.
 laid-again : (f : Bytes → Bytes) (j : ℕ) → Laid f j → Over f f j
-laid-again f j (inl k) b x e = k .1 x ∙ sym (k .1 b)
+laid-again f j (inl k) b x e = k .2 x ∙ sym (k .2 b)
 laid-again f j (inr k) b x e = k x ∙ e
 
 laid-local : (f : Bytes → Bytes) (j : ℕ) → Laid f j → Over f (λ b. b) j
-laid-local f j (inl k) b x e = k .1 x ∙ sym (k .1 b)
+laid-local f j (inl k) b x e = k .2 x ∙ sym (k .2 b)
 laid-local f j (inr k) b x e = k x ∙ e ∙ sym (k b)
 
 -- The entry that is updated or cut: the size, and the first cluster if a test holds.
 pub laid-resized : (t : Bool) (k size j : ℕ) → Laid (λ b. set-size size (pick t (set-first k b) b)) j
 laid-resized t k size j =
-    laid-then (λ b. set-size size b) (λ b. pick t (set-first k b) b) j (laid-over 4 (byte-of size) 28 j)
-    (laid-if t (λ b. set-first k b) j (laid-over 2 (byte-of k) 26 j))
+    laid-then (λ b. set-size size b) (λ b. pick t (set-first k b) b) j (laid-patch 4 size 28 j)
+    (laid-if t (λ b. set-first k b) j (laid-patch 2 k 26 j))
 
 pub laid-name : (n : Name) (j : ℕ) → Laid (λ b. set-name n b) j
-laid-name n j = laid-then (λ b. patch 8 (n .stem) 0 b) (λ b. patch 3 (n .extension) 8 b) j (laid-over 8 (byte-of (n .stem)) 0 j)
-    (laid-over 3 (byte-of (n .extension)) 8 j)
+laid-name n j = laid-then (λ b. patch 8 (n .stem) 0 b) (λ b. patch 3 (n .extension) 8 b) j (laid-patch 8 (n .stem) 0 j) (laid-patch 3 (n .extension) 8 j)
 
 pub laid-mark : (j : ℕ) → Laid (λ b. mark-deleted b) j
-laid-mark j = laid-over 1 (byte-of 0xE5) 0 j
+laid-mark j = laid-patch 1 0xE5 0 j
+
+-- A new entry, whatever stood there.
+pub laid-new : (n : Name) (j : ℕ) → Laid (λ b. new-entry n) j
+unfolding new-entry
+laid-new n j =
+    laid-then (λ b. set-name n b) _ j (laid-name n j)
+    (laid-then (λ b. patch 1 0x20 11 b) _ j (laid-patch 1 0x20 11 j)
+    (laid-then (λ b. patch 2 0x21 16 b) _ j (laid-patch 2 0x21 16 j)
+    (laid-then (λ b. patch 2 0x21 18 b) _ j (laid-patch 2 0x21 18 j)
+    (laid-then (λ b. patch 2 0x21 24 b) (λ b. zeros) j (laid-patch 2 0x21 24 j) (laid-zeros j)))))
 
 -- A name covers the mark of a deleted slot.
 name-over : (n : Name) (j : ℕ) → Over (λ b. set-name n b) (λ b. mark-deleted b) j
@@ -166,17 +187,17 @@ all-same n whole (e ∷ es) d x j near w a =
 -- ---- operations
 
 -- What each operation supplies: an edit of a slot's own bytes may be made again, and a rename's new name covers the old slot's mark.
-own-again : (s : ℕ) (f : Bytes → Bytes) (j : ℕ) → Laid f j → Laid f j × ((s ≡ s → (s ≡ s) × Over f f j) × ((s ≡ s → ⊥) → Unit {0}))
-own-again s f j k = (k, ((λ _. (refl, laid-again f j k)), λ _. tt))
+own-again : (s : ℕ) (f : Bytes → Bytes) (j : ℕ) → Laid f j → Again (edit s f ∷ []) j
+own-again s f j k = ((k, ((λ _. (refl, laid-again f j k)), λ _. tt)), tt)
 
 operation-again : (o : Operation) (j : ℕ) → Again (operation-edits o) j
 unfolding operation-edits
-operation-again (Create e) j = (own-again (e .slot) (λ b. new-entry (e .name)) j (inl (new-entry (e .name) j, λ b. refl)), tt)
+operation-again (Create e) j = own-again (e .slot) (λ b. new-entry (e .name)) j (laid-new (e .name) j)
 operation-again (Update e last from size) j =
-    (own-again (e .slot) (λ b. set-size size (pick (eqb last 0) (set-first from b) b)) j (laid-resized (eqb last 0) from size j), tt)
-operation-again (Delete e first size) j = (own-again (e .slot) (λ b. mark-deleted b) j (laid-mark j), tt)
+    own-again (e .slot) (λ b. set-size size (pick (eqb last 0) (set-first from b) b)) j (laid-resized (eqb last 0) from size j)
+operation-again (Delete e first size) j = own-again (e .slot) (λ b. mark-deleted b) j (laid-mark j)
 operation-again (Truncate e first from size) j =
-    (own-again (e .slot) (λ b. set-size size (pick (eqb size 0) (set-first 0 b) b)) j (laid-resized (eqb size 0) 0 size j), tt)
+    own-again (e .slot) (λ b. set-size size (pick (eqb size 0) (set-first 0 b) b)) j (laid-resized (eqb size 0) 0 size j)
 operation-again (Rename e first size to renamed) j = (
   (laid-mark j, ((λ _. (refl, laid-again (λ b. mark-deleted b) j (laid-mark j))), λ ne. absurd (ne refl))),
   ((laid-name renamed j, ((λ _. (refl, name-over renamed j)), λ ne. absurd (ne refl))), tt),

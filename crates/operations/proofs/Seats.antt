@@ -1,52 +1,57 @@
--- The slots that a group's edits name, where RECORD takes its records.
-use Prim.Native.Nat.{ℕ, _+_, _≤_, _<_}
+-- The slots that a change's edits name, where RECORD takes its records.
+use Prim.Native.Nat.{ℕ, _<_}
 use native.Mathlib.Omega.{arith}
-use mathlib.Core.Path.{_≡_}
-use mathlib.Core.List.{List, [], _∷_}
-use mathlib.Core.Bool.{true, false}
-use lib.Dec.{eqb}
-use borrow.Author.Tests.{eq-eqb, eqb-false}
-use Rattle.model.specs.Record.{operation-of, change-of}
+use mathlib.Core.Path.{_≡_, refl, sym, _∙_, subst}
+use mathlib.Core.List.{List}
+use mathlib.Core.Bool.{true}
+use lib.ListN.{length}
+use Rattle.model.specs.Record.{operation-records, records, record-of, change-of, group-size}
 use Rattle.model.specs.Pending.{records-ok}
 use Rattle.model.specs.declared.Record.{Record}
 use Rattle.model.specs.declared.Operation.{Operation}
+use Rattle.model.specs.declared.Operation.the-variants.{Create, Update, Delete, Truncate, Rename}
 use Rattle.operations.specs.Finish.{Edit, operation-edits, edits, Slots}
-use Rattle.model.proofs.Tests.{by-pick, between-true}
-use Rattle.model.proofs.All.{All}
-use Rattle.model.proofs.Pendings.{Seat, first-seat, first-number, second-seat}
+use Rattle.model.proofs.All.{All, all-map}
+use Rattle.model.proofs.Records.{listed, told-slot}
+use Rattle.model.proofs.Pendings.{Seat, seat-at}
 
-above : (n k : ℕ) → k ≤ n → eqb n k ≡ false → k + 1 ≤ n
-above n k h e = let ne = eqb-false n k e in omega arith
+-- A slot that a record of a list names; an edit of such a slot, made of such a slot.
+abbrev Named : List Record → ℕ → Type 0
+Named rs s = (k : ℕ) × (k < length rs) × (listed rs k .slot ≡ s)
 
--- RECORD asks that an operation's slots are the root's and not above z.
+abbrev Told : List Record → Edit → Type 0
+Told rs e = Named rs (e .slot) × Named rs (e .source)
+
+-- What each operation supplies: its edits are of slots that its records name.
+operation-named : (o : Operation) → All (Told (operation-records o)) (operation-edits o)
+unfolding operation-records operation-edits record-of
+operation-named (Create e) = (((0, omega arith, refl), (0, omega arith, refl)), tt)
+operation-named (Update e last from size) = (((0, omega arith, refl), (0, omega arith, refl)), tt)
+operation-named (Delete e first size) = (((0, omega arith, refl), (0, omega arith, refl)), tt)
+operation-named (Truncate e first from size) = (((0, omega arith, refl), (0, omega arith, refl)), tt)
+operation-named (Rename e first size to renamed) = (
+  ((0, omega arith, refl), (0, omega arith, refl)),
+  (((1, omega arith, refl), (0, omega arith, refl)), tt),
+)
+
+change-named : (x : Change) → All (Told (records x)) (edits x)
+unfolding records edits
+change-named x = operation-named (x .operation)
+
+-- RECORD asks that a change's slots are the root's and not above z.
 abbrev pub Seated : ℕ → ℕ → Edit → Type 0
 Seated n z e = Seat n z (e .slot) × Seat n z (e .source)
 
 pub told-seats : (n z : ℕ) (rs : ℕ → Record) → records-ok n z rs ≡ true → All (Seated n z) (edits (change-of rs))
-unfolding change-of operation-of edits operation-edits
+unfolding group-size
 told-seats n z rs h =
-    let s = first-seat n z rs h in
-    by-pick (λ (o : Operation). All (Seated n z) (operation-edits o)) (eqb (rs 0 .number) 1) _ _ (λ _. ((s, s), tt)) (λ n1.
-    by-pick (λ (o : Operation). All (Seated n z) (operation-edits o)) (eqb (rs 0 .number) 2) _ _ (λ _. ((s, s), tt)) (λ n2.
-    by-pick (λ (o : Operation). All (Seated n z) (operation-edits o)) (eqb (rs 0 .number) 3) _ _ (λ _. ((s, s), tt)) (λ n3.
-    by-pick (λ (o : Operation). All (Seated n z) (operation-edits o)) (eqb (rs 0 .number) 4) _ _ (λ _. ((s, s), tt)) (λ n4.
-    ((s, s), ((second-seat n z rs h (five n1 n2 n3 n4), s), tt))))))
+    all-map (Told (records (change-of rs))) (Seated n z) (λ e t. (seat (e .slot) (t .0), seat (e .source) (t .1)))
+    (edits (change-of rs)) (change-named (change-of rs))
   where
-    five : eqb (rs 0 .number) 1 ≡ false → eqb (rs 0 .number) 2 ≡ false → eqb (rs 0 .number) 3 ≡ false → eqb (rs 0 .number) 4 ≡ false
-        → eqb (rs 0 .number) 5 ≡ true
-    five n1 n2 n3 n4 =
-        let r = between-true 1 5 (rs 0 .number) (first-number n z rs h) in
-        let two : 2 ≤ rs 0 .number = above (rs 0 .number) 1 (r .0) n1 in
-        let three : 3 ≤ rs 0 .number = above (rs 0 .number) 2 two n2 in
-        let four : 4 ≤ rs 0 .number = above (rs 0 .number) 3 three n3 in
-        let last : 5 ≤ rs 0 .number = above (rs 0 .number) 4 four n4 in
-        let high : rs 0 .number ≤ 5 = r .1 in
-        eq-eqb (rs 0 .number) 5 (omega arith)
-
-below : (n z : ℕ) (es : List Edit) → All (Seated n z) es → All (λ e. (e .slot < n) × (e .source < n)) es
-below n z [] a = tt
-below n z (e ∷ es) a = ((a .0 .0 .0, a .0 .1 .0), below n z es (a .1))
+    seat : (s : ℕ) → Named (records (change-of rs)) s → Seat n z s
+    seat s t = subst (Seat n z) (sym (told-slot rs (t .0) (t .1)) ∙ t .2) (seat-at n z rs h (t .0) (t .1))
 
 -- The slots of a group that RECORD takes.
 pub told-slots : (n z : ℕ) (rs : ℕ → Record) → records-ok n z rs ≡ true → Slots n (change-of rs)
-told-slots n z rs h = below n z (edits (change-of rs)) (told-seats n z rs h)
+told-slots n z rs h =
+    all-map (Seated n z) (λ e. (e .slot < n) × (e .source < n)) (λ e t. (t .0 .0, t .1 .0)) (edits (change-of rs)) (told-seats n z rs h)

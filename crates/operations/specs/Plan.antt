@@ -10,7 +10,7 @@ use Rattle.model.specs.Fat.{Fat, entry, fat1-of, fat2-of, free-clusters, link, 
 use Rattle.model.specs.Chain.{needed, chain, file-sector}
 use Rattle.model.specs.Root.{free-slot}
 use Rattle.model.specs.Log.{Log, log-of, unused}
-use Rattle.model.specs.Record.{records, plain, encode, group-in}
+use Rattle.model.specs.Record.{plain, encode, group-of, group-in}
 use Rattle.model.specs.declared.Layout.{Layout}
 use Rattle.model.specs.declared.Area.{Area}
 use Rattle.model.specs.declared.Name.{Name}
@@ -36,7 +36,7 @@ group-sector a g = let u = unused (a .sectors) g in a .sector + pick (ltb u (a .
 
 -- The group of a change: "into the lowest log sector whose first byte is 0".
 unfoldable pub new-group : Area → Card → Change → Group
-new-group a c x = record { sector = group-sector a (log-of a c); records = length (records x); change = x }
+new-group a c x = group-of (group-sector a (log-of a c)) x
 
 unfoldable pub group-store : Group → Store
 group-store g = store (g .sector) (encode (g .change))

@@ -24,9 +24,9 @@ use Rattle.model.proofs.Changes.{Keeps, after-keeps}
 use Rattle.model.proofs.Overlays.{overlay-in, overlay-below}
 use Rattle.model.proofs.Runs.{ran-card}
 use Rattle.model.proofs.Turns.{map-indices, upto-all}
-use Rattle.operations.specs.Finish.{edit, edit-from, operation-edits, edits, Slots, effect, set-name, mark-deleted, new-entry, root-sector, concerns}
-use Rattle.operations.specs.Finish.{root-stores}
-use Rattle.operations.proofs.Edits.{laid-resized, laid-mark, laid-name, edit-made, own-made, edit-past, edits-out, sector-mix}
+use Rattle.operations.specs.Finish.{edit, edit-from, operation-edits, edits, Slots, effect, set-name, mark-deleted, new-entry}
+use Rattle.operations.specs.Finish.{root-sector, concerns, root-stores}
+use Rattle.operations.proofs.Edits.{laid-new, laid-resized, laid-mark, laid-name, edit-made, own-made, edit-past, edits-out, sector-mix}
 use Rattle.root_write.specs.Slots.{resized, root-store, root-turn}
 
 pub slot-byte : (l : Layout) (w : List ℕ) (k a j : ℕ) → a ≡ 512 * (l .root + k / 16) + 32 * (k % 16) → j < 32 → getD w (a + j) 0 ≡ slot-at l (card-of w) k j
@@ -36,8 +36,8 @@ slot-byte l w k a j e h = ap (λ (z : ℕ). getD w z 0) (omega arith)
 -- ---- operations
 
 -- A slot that a change does not edit, as it was loaded.
-pub out : (o : Change) (d : Directory) (k : ℕ) (b : Bytes) → All (λ e. k ≡ e .slot → ⊥) (edits o) → ((j : ℕ) → j < 32 → b j ≡ d k j) → (j : ℕ)
-    → j < 32 → b j ≡ effect o d k j
+pub out : (o : Change) (d : Directory) (k : ℕ) (b : Bytes) → All (λ e. k ≡ e .slot → ⊥) (edits o) → ((j : ℕ) → j < 32 → b j ≡ d k j)
+    → (j : ℕ) → j < 32 → b j ≡ effect o d k j
 unfolding effect
 out o d k b ne same j h = same j h ∙ sym (λ t. edits-out (edits o) d k ne t j)
 
@@ -45,11 +45,10 @@ out o d k b ne same j h = same j h ∙ sym (λ t. edits-out (edits o) d k ne t j
 module _ (d : Directory) (k : ℕ) (b r : Bytes) (same : (j : ℕ) → j < 32 → b j ≡ d k j) where
   pub in-create : (e : Entry) → k ≡ e .slot → r ≡ new-entry (e .name) → (j : ℕ) → j < 32 → r j ≡ effect (plain (Create e)) d k j
   unfolding effect edits operation-edits
-  in-create e h is j s = ap (λ (x : Bytes). x j) is ∙ own-made (e .slot) (λ x. new-entry (e .name)) [] d k j b h
-      (inl (new-entry (e .name) j, λ x. refl)) (same j s)
+  in-create e h is j s = ap (λ (x : Bytes). x j) is ∙ own-made (e .slot) (λ x. new-entry (e .name)) [] d k j b h (laid-new (e .name) j) (same j s)
 
-  pub in-update : (e : Entry) (last from size : ℕ) → k ≡ e .slot → r ≡ resized b (eqb last 0) from size → (j : ℕ) → j < 32
-      → r j ≡ effect (plain (Update e last from size)) d k j
+  pub in-update : (e : Entry) (last from size : ℕ) → k ≡ e .slot → r ≡ resized b (eqb last 0) from size
+      → (j : ℕ) → j < 32 → r j ≡ effect (plain (Update e last from size)) d k j
   unfolding effect edits operation-edits
   in-update e last from size h is j s =
       ap (λ (x : Bytes). x j) is ∙ own-made (e .slot) (λ x. resized x (eqb last 0) from size) [] d k j b h (laid-resized (eqb last 0) from size j) (same j s)
@@ -58,14 +57,14 @@ module _ (d : Directory) (k : ℕ) (b r : Bytes) (same : (j : ℕ) → j < 32 �
   unfolding effect edits operation-edits
   in-delete e first size h is j s = ap (λ (x : Bytes). x j) is ∙ own-made (e .slot) (λ x. mark-deleted x) [] d k j b h (laid-mark j) (same j s)
 
-  pub in-truncate : (e : Entry) (first from size : ℕ) → k ≡ e .slot → r ≡ resized b (eqb size 0) 0 size → (j : ℕ) → j < 32
-      → r j ≡ effect (plain (Truncate e first from size)) d k j
+  pub in-truncate : (e : Entry) (first from size : ℕ) → k ≡ e .slot → r ≡ resized b (eqb size 0) 0 size
+      → (j : ℕ) → j < 32 → r j ≡ effect (plain (Truncate e first from size)) d k j
   unfolding effect edits operation-edits
   in-truncate e first from size h is j s =
       ap (λ (x : Bytes). x j) is ∙ own-made (e .slot) (λ x. resized x (eqb size 0) 0 size) [] d k j b h (laid-resized (eqb size 0) 0 size j) (same j s)
 
-  pub in-rename : (e : Entry) (first size to : ℕ) (renamed : Name) → k ≡ e .slot → r ≡ mark-deleted b → (j : ℕ) → j < 32
-      → r j ≡ effect (plain (Rename e first size to renamed)) d k j
+  pub in-rename : (e : Entry) (first size to : ℕ) (renamed : Name) → k ≡ e .slot → r ≡ mark-deleted b
+      → (j : ℕ) → j < 32 → r j ≡ effect (plain (Rename e first size to renamed)) d k j
   unfolding effect edits operation-edits
   in-rename e first size to renamed h is j s =
       ap (λ (x : Bytes). x j) is ∙ own-made (e .slot) (λ x. mark-deleted x) (edit-from (e .slot) to (λ x. set-name renamed x) ∷ []) d k j b h

@@ -13,6 +13,7 @@ use Rattle.model.specs.Promises.{Shape}
 use Rattle.model.specs.declared.Area.{Area}
 use Rattle.model.specs.declared.Group.{Group}
 use Rattle.model.specs.declared.Layout.{Layout}
+use Rattle.model.specs.Record.{group-of}
 use Rattle.model.specs.declared.Change.{Change}
 use Rattle.operations.specs.Finish.{root-sector, effect, concerns, finish}
 use Rattle.model.proofs.Tests.{less?, told}
@@ -20,7 +21,7 @@ use Rattle.model.proofs.All.{All, all-map}
 use Rattle.model.proofs.Cards.{put-case, clip-clip, clip-same}
 use Rattle.model.proofs.Changes.{Clipped, Keeps, after-keeps, Covers, after-is}
 use Rattle.model.proofs.Records.{Fits}
-use Rattle.model.proofs.Pendings.{Stored, Named, Recorded, group-of}
+use Rattle.model.proofs.Pendings.{Stored, Recorded}
 use Rattle.model.proofs.Volumes.{layout-of, SameMarks, first-fat, area-of}
 use Rattle.safety.proofs.Start.{Fixed, Start, shape-of}
 use Rattle.operations.proofs.Edits.{Near, unconcerned, sector-mix}
@@ -38,7 +39,6 @@ pub record Entered (c u : Card) (i : ℕ) (o : Change) : Type 0 where
   pub fixed : (n : ℕ) → Fixed (layout-of c) n → u n ≡ c n
   pub marks : SameMarks (layout-of c) (fat2-of (layout-of c) u) (first-fat c)
   pub stored : Stored (area-of c .sectors) (log-of (area-of c) u) i o
-  pub named : Named o
   pub fits : Fits o
   pub recorded : Recorded (layout-of c .entries) (last-slot c) o
   pub lives : Lives (slot-at (layout-of c) c) o
@@ -152,7 +152,7 @@ module _ {size : ℕ} {c : Card} (st : Start size c) {u : Card} {i : ℕ} {o : C
 
     effect-same : (r : ℕ) → r < l .entries / 16 → clip (root-sector (effect o (slot-at l y)) r) ≡ clip (root-sector new-root r)
     effect-same r less = clip-same (root-sector (effect o (slot-at l y)) r) (root-sector new-root r)
-        (sector-mix l c y o (sh .whole-sectors) (recorded-slots (l .entries) z o (h .recorded)) root-near r less)
+        (sector-mix l c y o (sh .whole-sectors) (recorded-slots (l .entries) z o (h .fits) (h .recorded)) root-near r less)
 
     -- A root sector that is not concerned is as it is to become.
     byte-kept : (r : ℕ) → concerns o r ≡ false → (j : ℕ) → j < 512 → root-sector new-root r j ≡ c (root-place l r) j

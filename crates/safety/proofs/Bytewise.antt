@@ -21,14 +21,11 @@ use Rattle.model.specs.Ground.{Answer, refused, granted}
 use Rattle.model.specs.Volume.{clean, examine}
 use Rattle.model.specs.declared.Group.{Group}
 use Rattle.model.specs.declared.Layout.{Layout}
-use Rattle.model.specs.declared.Name.{Name}
 use Rattle.model.specs.declared.Change.{Change}
-use Rattle.model.specs.declared.Operation.{Operation}
-use Rattle.model.specs.declared.Operation.the-variants.{Create, Update, Delete, Truncate, Rename}
 use Rattle.model.specs.declared.Pending.{Pending}
 use Rattle.model.specs.declared.Volume.{Volume}
 use Rattle.operations.specs.Program.{Program, stores, ending}
-use Rattle.operations.specs.Finish.{Edit, set-slots, set-name, new-entry, operation-edits, edits, effect, root-sector, finish, redo}
+use Rattle.operations.specs.Finish.{Edit, set-slots, edits, effect, root-sector, finish, redo}
 use Rattle.operations.specs.Plan.{prepare, group-store, operate, journal, new-group, last-of, extend, shorten, appended, append-sector, data-stores}
 use Rattle.operations.specs.Plan.{recover-stores}
 use Rattle.operations.specs.Calls.{Call, plan, creates, appends, truncates, deletes, renames, recovers, recover}
@@ -44,6 +41,7 @@ use Rattle.model.proofs.Fats.{write-all}
 use Rattle.model.proofs.Grounds.{bound}
 use Rattle.model.proofs.Changes.{Clipped, Keeps, after-keeps, put-clipped}
 use Rattle.model.proofs.Volumes.{window, layout-of, first-fat, volume-of, cleaned}
+use Rattle.operations.proofs.Edits.{Laid, laid-small, Bears, again}
 use Rattle.safety.proofs.Start.{Start}
 use Rattle.safety.proofs.Before.{start-rests}
 use Rattle.safety.proofs.Steps.{prepare-all, finish-all}
@@ -73,9 +71,6 @@ none j = omega arith
 if-small : (t : Bool) (a b : Bytes) → Small a → Small b → Small (pick t a b)
 if-small t a b h k = by-pick Small t a b (λ _. h) (λ _. k)
 
-named : (n : Name) (b : Bytes) → Small b → Small (set-name n b)
-named n b h = patched 8 (n .stem) 0 _ (patched 3 (n .extension) 8 b h)
-
 -- ---- records
 
 record-small : (r : Record) → Small (record-bytes r)
@@ -104,31 +99,18 @@ committed-small n b h j = by-pick (λ x. x < 256) (eqb (j % 32) 0 && ltb j (32 *
 
 -- ---- slots
 
--- An edit makes bytes of bytes.
-abbrev Makes : Edit → Type 0
-Makes e = (b : Bytes) → Small b → Small (e .change b)
-
-operation-small : (o : Operation) → All Makes (operation-edits o)
-unfolding operation-edits new-entry
-operation-small (Create e) = ((λ b h. named (e .name) _ (patched 1 0x20 11 _ (patched 2 0x21 16 _ (patched 2 0x21 18 _ (patched 2 0x21 24 zeros none))))), tt)
-operation-small (Update e last from size) = ((λ b h. patched 4 size 28 _ (if-small (eqb last 0) _ b (patched 2 from 26 b h) h)), tt)
-operation-small (Delete e first size) = ((λ b h. patched 1 0xE5 0 b h), tt)
-operation-small (Truncate e first from size) = ((λ b h. patched 4 size 28 _ (if-small (eqb size 0) _ b (patched 2 0 26 b h) h)), tt)
-operation-small (Rename e first size to renamed) = ((λ b h. patched 1 0xE5 0 b h), ((λ b h. named renamed b h), tt))
-
-edits-small : (o : Change) → All Makes (edits o)
-unfolding edits
-edits-small o = operation-small (o .operation)
-
-set-small : (es : List Edit) (d : Directory) → All Makes es → ((k : ℕ) → Small (d k)) → (k : ℕ) → Small (set-slots es d k)
+-- An edit makes bytes of bytes (`again`).
+set-small : (es : List Edit) (d : Directory) (j : ℕ) → All (λ e. Laid (e .change) j) es → ((k : ℕ) → d k j < 256) → (k : ℕ) → set-slots es d k j < 256
 unfolding set-slots
-set-small [] d a h k = h k
-set-small (e ∷ es) d a h k = if-small (eqb k (e .slot)) (e .change (d (e .source))) (set-slots es d k) (a .0 (d (e .source)) (h (e .source)))
-    (set-small es d (a .1) h k)
+set-small [] d j a h k = h k
+set-small (e ∷ es) d j a h k = by-pick (λ (b : Bytes). b j < 256) (eqb k (e .slot)) (e .change (d (e .source))) (set-slots es d k)
+    (λ _. laid-small (e .change) j (a .0) (d (e .source)) (h (e .source))) (λ _. set-small es d j (a .1) h k)
 
 effect-small : (o : Change) (d : Directory) → ((k : ℕ) → Small (d k)) → (k : ℕ) → Small (effect o d k)
 unfolding effect
-effect-small o d h = set-small (edits o) d (edits-small o) h
+effect-small o d h k j =
+    set-small (edits o) d j (all-map (λ e. Laid (e .change) j × Bears (edits o) e j) (λ e. Laid (e .change) j) (λ e a. a .0) (edits o) (again o j))
+    (λ i. h i j) k
 
 -- ---- FATs
 

@@ -10,7 +10,7 @@ use Rattle.model.specs.Sector.{Card, Store, clip, store, after, put}
 use Rattle.model.specs.Fat.{Fat, fat1-of, fat2-of, write-fat, is-reserved}
 use Rattle.model.specs.Root.{slot-at, root-place}
 use Rattle.model.specs.Log.{unused, log-of}
-use Rattle.model.specs.Record.{encode, commit}
+use Rattle.model.specs.Record.{encode, group-of, commit}
 use Rattle.model.specs.Ground.{granted}
 use Rattle.model.specs.Volume.{clean}
 use Rattle.model.specs.Promises.{Shape}
@@ -30,7 +30,7 @@ use Rattle.model.proofs.Cards.{Away, after-append, after-away, put-out, put-in,
 use Rattle.model.proofs.Changes.{Keeps, after-keeps, put-clipped}
 use Rattle.model.proofs.Fats.{write-done, entry-clip}
 use Rattle.model.proofs.Records.{Fits}
-use Rattle.model.proofs.Pendings.{Named, Recorded, quiet-zeros, group-of, Quiet}
+use Rattle.model.proofs.Pendings.{Recorded, quiet-zeros, Quiet}
 use Rattle.model.proofs.Grounds.{then}
 use Rattle.model.proofs.Volumes.{layout-of, SameMarks, first-fat, window, volume-of, area-of}
 use Rattle.safety.proofs.Journal.{Laws, Kept, end-card}
@@ -51,7 +51,6 @@ Inside c s = s .sector < layout-of c .total
 pub record Supplies (c : Card) (ds : List Store) (f : Fat) (o : Change) : Type 0 where
   pub outside : All (λ s. Clear c (s .sector)) ds
   pub marks : SameMarks (layout-of c) f (first-fat c)
-  pub named : Named o
   pub fits : Fits o
   pub recorded : Recorded (layout-of c .entries) (last-slot c) o
   pub lives : Lives (slot-at (layout-of c) c) o
@@ -158,7 +157,6 @@ module _ {size : ℕ} {c : Card} (st : Start size c) where
         bytes = put-in (after prep c) (group-store the-group) (log .sector + spot) refl ∙ clip-clip (encode o);
         others = λ j less ne. subst Quiet (sym (group-else (log .sector + j) (λ e. ne (omega arith)))) (prepared .quiet j less);
       };
-      named = given .named;
       fits = given .fits;
       recorded = given .recorded;
       lives = given .lives;

@@ -69,8 +69,9 @@ module _ {size : ℕ} {c : Card} (st : Start size c) {u : Card} {i : ℕ} {o : C
     mixed-order = record {
       within = root-order st .within;
       below = λ k less. under k less (slot-near st h y m 0 (omega arith) k (omega (arith, root-order st .within)))
-          (begins (l .entries) z o (slot-at l c) (h .recorded) (h .lives) k);
-      above = λ k more less. over k more less (slot-near st h y m 0 (omega arith) k less) (begins (l .entries) z o (slot-at l c) (h .recorded) (h .lives) k);
+          (begins (l .entries) z o (slot-at l c) (h .fits) (h .recorded) (h .lives) k);
+      above = λ k more less. over k more less (slot-near st h y m 0 (omega arith) k less)
+          (begins (l .entries) z o (slot-at l c) (h .fits) (h .recorded) (h .lives) k);
     }
       where
         under : (k : ℕ) → k < z → Near (slot-at l c) (new-root st h) (slot-at l y) k 0 → Begins z k (first-bytes l c k) (new-root st h k 0)
@@ -103,7 +104,7 @@ module _ {size : ℕ} {c : Card} (st : Start size c) {u : Card} {i : ℕ} {o : C
     unfolding recover-stores redo pending commit
     says =
         recovery-is st y mixed-alike (Pending.Held (log .sector + i)) (ordered-ok (l .entries) (first-bytes l y) z mixed-order)
-        (pending-is (l .entries) _ log (log-of log y) i o mixed-stored (h .named) (h .fits) later-slot) refl
+        (pending-is (l .entries) _ log (log-of log y) i o mixed-stored (h .fits) later-slot) refl
         ∙ ap (λ (g : Group). granted (redo l g y)) (ap (group-in (log .sector + i)) (log-kept i ∙ h .stored .bytes) ∙ group-read (log .sector + i) o (h .fits))
         ∙ ap (λ (b : Bytes). granted (segment (finish l o y) (store (log .sector + i) (committed (length (records o)) b)) (ending []))) (log-kept i)
 

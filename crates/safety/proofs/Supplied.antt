@@ -1,5 +1,5 @@
 -- What each operation supplies, and so the card that it leaves.
-use Prim.Native.Nat.{ℕ, _-_, _≤_, _<_}
+use Prim.Native.Nat.{ℕ, _-_, _^_, _≤_, _<_}
 use native.Mathlib.Omega.{arith}
 use mathlib.Core.Path.{_≡_, refl}
 use mathlib.Core.List.{List, []}
@@ -25,8 +25,8 @@ use Rattle.safety.proofs.Start.{Start, shape-of, entries-few}
 use Rattle.safety.proofs.Effect.{resized-lives}
 use Rattle.safety.proofs.Operate.{Supplies}
 use Rattle.safety.proofs.Clusters.{Plain, released-marks, plain-fits, shorten-marks, extend-marks}
-use Rattle.model.proofs.Records.{fits-create, fits-update, fits-delete, fits-truncate, fits-rename}
-use Rattle.model.proofs.Pendings.{recorded-create, recorded-update, recorded-delete, recorded-truncate, recorded-rename, starts-not-zero}
+use Rattle.model.proofs.Records.{EntryFits, Fits, entry-record, plain-told}
+use Rattle.model.proofs.Pendings.{recorded, record-fine, part-fine, starts-not-zero}
 use Rattle.model.specs.Record.{operation-records, records, record-of, plain}
 use Rattle.safety.proofs.After.{last-slot}
 use Rattle.safety.proofs.Operations.{entry-fits, slot-seat, slot-named, slot-lives, first-fits, size-fits, the-chain, old-plain, old-busy}
@@ -47,14 +47,26 @@ module _ {size : ℕ} {c : Card} (st : Start size c) where
 
   pub create-supplies : (n : Span) → name-ok n ≡ true → free-slot l c < l .entries → Supplies c [] fat (creates-as n)
   unfolding records operation-records record-of edits operation-edits new-entry overlay byte-of
-  create-supplies n ok room = record {
-    outside = tt;
-    marks = λ k low high. refl;
-    named = name-starts n ok;
-    fits = fits-create _ (record { slot = omega (arith, entries-few st, room); name = name-fits n ok; attributes = omega arith });
-    recorded = recorded-create (l .entries) (last-slot c) _ (room, free-low l c);
-    lives = (starts-not-zero _ (name-starts n ok), tt);
-  }
+  create-supplies n ok room =
+      let fits : Fits (creates-as n) = record {
+        few = omega arith;
+        fields = (
+          entry-record _ 1 0 0 0 (omega arith)
+              (record { slot = omega (arith, entries-few st, room); name = name-fits n ok; attributes = omega arith })
+              (omega arith) (omega arith) (omega arith),
+          tt,
+        );
+        told = plain-told _;
+      } in
+      record {
+        outside = tt;
+        marks = λ k low high. refl;
+        fits = fits;
+        recorded = recorded (l .entries) (last-slot c) (creates-as n) fits
+            (record-fine (l .entries) (last-slot c) _ 1 0 0 0 (omega arith) (omega arith) (omega arith) (room, free-low l c))
+            (λ k low high. absurd (omega arith)) (name-starts n ok, tt);
+        lives = (starts-not-zero _ (name-starts n ok), tt);
+      }
 
   module _ (s : ℕ) (live : Live l c s) where
     abbrev b : Bytes
@@ -68,15 +80,29 @@ module _ {size : ℕ} {c : Card} (st : Start size c) where
 
     pub rename-supplies : (n : Span) → name-ok n ≡ true → free-slot l c < l .entries → Supplies c [] fat (renames-as n)
     unfolding entry-at records operation-records record-of edits operation-edits overlay byte-of
-    rename-supplies n ok room = record {
-      outside = tt;
-      marks = λ k low high. refl;
-      named = slot-named st s live;
-      fits = fits-rename _ _ _ _ _ (entry-fits st s live) (first-fits st s live) (size-fits st s live) (omega (arith, entries-few st, room)) (name-fits n ok);
-      recorded = recorded-rename (l .entries) (last-slot c) _ _ _ _ _ (slot-seat st s live) (room, free-low l c) (live-not-free l c s live room)
-          (name-starts n ok);
-      lives = ((λ r. omega arith), (starts-not-zero _ (name-starts n ok), tt));
-    }
+    rename-supplies n ok room =
+        let k : ℕ = first-cluster b in
+        let m : ℕ = file-size b in
+        let f : Entry = record { slot = free-slot l c; name = name-in (n .byte); attributes = e .attributes } in
+        let own : EntryFits e = entry-fits st s live in
+        let other : EntryFits f = record { slot = omega (arith, entries-few st, room); name = name-fits n ok; attributes = own .attributes } in
+        let first : k < 256 ^ 2 = first-fits st s live in
+        let old : m < 256 ^ 4 = size-fits st s live in
+        let fits : Fits (renames-as n) = record {
+          few = omega arith;
+          fields = (entry-record e 5 k 0 m (omega arith) own first (omega arith) old, (entry-record f 0 k 0 m (omega arith) other first (omega arith) old, tt));
+          told = plain-told _;
+        } in
+        record {
+          outside = tt;
+          marks = λ k low high. refl;
+          fits = fits;
+          recorded = recorded (l .entries) (last-slot c) (renames-as n) fits
+              (record-fine (l .entries) (last-slot c) e 5 k 0 m (omega arith) (omega arith) (omega arith) (slot-seat st s live))
+              (part-fine (l .entries) (last-slot c) e f 5 k 0 m refl (room, free-low l c) (live-not-free l c s live room))
+              (slot-named st s live, (name-starts n ok, tt));
+          lives = ((λ r. omega arith), (starts-not-zero _ (name-starts n ok), tt));
+        }
 
     module _ (whole : keeps-chain l (entry fat) (first-cluster b) (file-size b) ≡ true) where
       abbrev pub ks : List ℕ
@@ -87,14 +113,21 @@ module _ {size : ℕ} {c : Card} (st : Start size c) where
 
       pub delete-supplies : Supplies c [] (release ks fat) deletes-as
       unfolding entry-at records operation-records record-of edits operation-edits overlay byte-of
-      delete-supplies = record {
-        outside = tt;
-        marks = λ k low high. released-marks l (sh .few) fat ks (old-plain st s live whole) k;
-        named = slot-named st s live;
-        fits = fits-delete _ _ _ (entry-fits st s live) (first-fits st s live) (size-fits st s live);
-        recorded = recorded-delete (l .entries) (last-slot c) _ _ _ (slot-seat st s live);
-        lives = ((λ r. omega arith), tt);
-      }
+      delete-supplies =
+          let fits : Fits deletes-as = record {
+            few = omega arith;
+            fields = (entry-record e 3 _ 0 _ (omega arith) (entry-fits st s live) (first-fits st s live) (omega arith) (size-fits st s live), tt);
+            told = plain-told _;
+          } in
+          record {
+            outside = tt;
+            marks = λ k low high. released-marks l (sh .few) fat ks (old-plain st s live whole) k;
+            fits = fits;
+            recorded = recorded (l .entries) (last-slot c) deletes-as fits
+                (record-fine (l .entries) (last-slot c) e 3 _ 0 _ (omega arith) (omega arith) (omega arith) (slot-seat st s live))
+                (λ k low high. absurd (omega arith)) (slot-named st s live, tt);
+            lives = ((λ r. omega arith), tt);
+          }
 
       abbrev pub cut-fat : ℕ → Fat
       cut-fat n = shorten (take (needed l n) ks) (drop (needed l n) ks) fat
@@ -110,12 +143,22 @@ module _ {size : ℕ} {c : Card} (st : Start size c) where
           let busy : All (λ k. entry fat k ≡ 0 → ⊥) (take m ks) = all-take (λ k. entry fat k ≡ 0 → ⊥) m ks (old-busy st s live whole) in
           let freed : All (Plain l fat) (drop m ks) = all-drop (Plain l fat) m ks (old-plain st s live whole) in
           let from : getD (drop m ks) 0 0 < 65536 = plain-fits l (sh .few) fat (drop m ks) freed 0 in
+          let fits : Fits (truncates-as n) = record {
+            few = omega arith;
+            fields = (
+              entry-record e 4 _ (getD (drop m ks) 0 0) n (omega arith) (entry-fits st s live) (first-fits st s live) (omega arith)
+                  (omega (arith, size-fits st s live)),
+              tt,
+            );
+            told = plain-told _;
+          } in
           record {
             outside = tt;
             marks = λ k low high. shorten-marks l (sh .few) fat (take m ks) plain busy (drop m ks) freed k;
-            named = slot-named st s live;
-            fits = fits-truncate _ _ (getD (drop m ks) 0 0) n (entry-fits st s live) (first-fits st s live) (omega arith) (omega (arith, size-fits st s live));
-            recorded = recorded-truncate (l .entries) (last-slot c) _ _ _ _ (slot-seat st s live) from;
+            fits = fits;
+            recorded = recorded (l .entries) (last-slot c) (truncates-as n) fits
+                (record-fine (l .entries) (last-slot c) e 4 _ _ n (omega arith) (omega arith) from (slot-seat st s live))
+                (λ k low high. absurd (omega arith)) (slot-named st s live, tt);
             lives = (resized-lives (eqb n 0) 0 n b (slot-lives st s live), tt);
           }
 
@@ -130,18 +173,25 @@ module _ {size : ℕ} {c : Card} (st : Start size c) where
         unfolding entry-at records operation-records record-of edits operation-edits overlay byte-of
         append-supplies =
             let few : l .clusters ≤ 65524 = sh .few in
-            let from : getD (new st s live whole d room) 0 0 < 65536 = plain-fits l few fat (new st s live whole d room) (new-plain st s live whole d room) 0 in
-            record {
-              outside = outside st s live whole d room;
-              marks = λ k low high. extend-marks l few fat ks (old-plain st s live whole) (old-busy st s live whole) (new st s live whole d room)
-                  (new-plain st s live whole d room) k;
-              named = slot-named st s live;
-              fits = fits-update _ _ (getD (new st s live whole d room) 0 0) (total st s live whole d room) (entry-fits st s live)
-                  (plain-fits l few fat ks (old-plain st s live whole) (length ks - 1)) (omega arith) (total-fits st s live whole d room);
-              recorded = recorded-update (l .entries) (last-slot c) _ _ _ _ (slot-seat st s live) from;
-              lives = (
-                resized-lives (eqb (last-cluster ks) 0) (getD (new st s live whole d room) 0 0) (total st s live whole d room) b
-                    (slot-lives st s live),
+            let k : ℕ = getD (new st s live whole d room) 0 0 in
+            let from : k < 65536 = plain-fits l few fat (new st s live whole d room) (new-plain st s live whole d room) 0 in
+            let n : ℕ = total st s live whole d room in
+            let fits : Fits updates-as = record {
+              few = omega arith;
+              fields = (
+                entry-record e 2 (last-cluster ks) k n (omega arith) (entry-fits st s live)
+                    (plain-fits l few fat ks (old-plain st s live whole) (length ks - 1)) (omega arith) (total-fits st s live whole d room),
                 tt,
               );
+              told = plain-told _;
+            } in
+            record {
+              outside = outside st s live whole d room;
+              marks = λ k low high. extend-marks l few fat ks (old-plain st s live whole) (old-busy st s live whole)
+                  (new st s live whole d room) (new-plain st s live whole d room) k;
+              fits = fits;
+              recorded = recorded (l .entries) (last-slot c) updates-as fits
+                  (record-fine (l .entries) (last-slot c) e 2 (last-cluster ks) k n (omega arith) (omega arith) from (slot-seat st s live))
+                  (λ k low high. absurd (omega arith)) (slot-named st s live, tt);
+              lives = (resized-lives (eqb (last-cluster ks) 0) k n b (slot-lives st s live), tt);
             }

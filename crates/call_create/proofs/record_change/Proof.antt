@@ -17,13 +17,15 @@ use Rattle.log_steps.proofs.log_steps.Reads as log-steps-reads
 
 returns : tie.Need-returns
 returns c =
-    let a = c .before .before .before .before .before .before .args in
-    let pre = c .before .before .before .before .before .before .pre in
-    let log-steps = c .before .before .before .log-steps in
-    let v = a .v in let e = a .w .now in let r = log-steps .result in rw (c .ended .ensures)
-    (did-ran (a .limit) (operate v (card-of e) [] (fat1-of (v .layout) (card-of e)) (a .x)) e _ (r .made) (r .whole)
-    (subst (λ (ss : List Store). Ran (a .limit) ss e (log-steps .last .0) (r .made) (r .whole))
-    (sym (plain-is v (card-of e) (a .x) (ready-none v e (pre .0)))) (log-steps .ensures)))
+    let l = c .before .before .before in
+    let b = l .before .before .before in
+    let a = b .args in
+    let v = a .v in
+    let e = a .w .now in
+    let r = l .log-steps .result in
+    rw (c .ended .ensures) (did-ran (a .limit) (operate v (card-of e) [] (fat1-of (v .layout) (card-of e)) (a .x)) e _ (r .made) (r .whole)
+    (subst (λ (ss : List Store). Ran (a .limit) ss e (l .log-steps .last .0) (r .made) (r .whole))
+    (sym (plain-is v (card-of e) (a .x) (ready-none v e (b .pre .0)))) (l .log-steps .ensures)))
 
 pub record-change-spec : {M : Type 1} → statement M
 record-change-spec = tie.close (tie.spec (λ c κs. search needs) (λ c κs. search needs) (λ c. search needs) returns)

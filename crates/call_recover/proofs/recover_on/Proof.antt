@@ -21,41 +21,42 @@ use Rattle.log_redo.proofs.redo.Reads as redo-reads
 
 group-at-requires : tie.Need-group-at-requires
 group-at-requires c κs =
-    let a = c .before .before .before .before .before .before .args in
+    let args = c .before .before .before .before .before .before .args in
     let pre = c .before .before .before .before .before .before .pre in
-    omega (arith, sector-high (a .v) (a .w .now) (pre) _ (c .before .before .p .given .1), pre .held .whole)
+    omega (arith, sector-high (args .v) (args .w .now) (pre) _ (c .before .before .p .given .1), pre .held .whole)
 
 redo-requires : tie.Need-redo-requires
 redo-requires c κs =
-    let a = c .before .before .before .before .before .before .before .before .args in
-    let pre = c .before .before .before .before .before .before .before .before .pre in
-    let p = c .before .before .before .before .p in
-    let k = rw (← c .before .group-at .ensures) at (redoable (a .v) (a .w .now) (pre) _ (p .given .1)) in (pre .held, (k .slots, (k .low, k .high, k .few)))
+    let g = c .before .group-at .ensures in
+    let b = c .before .before .before .before .before .before .before .before in
+    let k = rw (← g .0) at (redoable (b .args .v) (b .args .w .now) (b .pre) _ (c .before .before .before .before .p .given .1)) in
+    (b .pre .held, (k .slots, (k .low, k .high, g .1)))
 
 returns : tie.Need-returns
 unfolding recover-stores
 returns c =
-    let a = c .before .before .before .before .before .before .before .before .before .args in
+    let args = c .before .before .before .before .before .before .before .before .before .args in
     let enum-told = c .before .before .before .before .before .enum-told in
     let to-fat2 = c .before .before .before .to-fat2 in
-    let l = a .v .layout in let d = card-of (a .w .now) in rw (enum-told .given .1, c .ended .ensures)
-    (did-ran (a .limit) (ending (write-fat l (l .fat2) (fat1-of l d) (fat2-of l d))) (a .w .now) _ _ _ (to-fat2 .ensures))
+    let l = args .v .layout in let d = card-of (args .w .now) in rw (enum-told .given .1, c .ended .ensures)
+    (did-ran (args .limit) (ending (write-fat l (l .fat2) (fat1-of l d) (fat2-of l d))) (args .w .now) _ _ _ (to-fat2 .ensures))
 
 returns-2 : tie.Need-returns-2
 unfolding recover-stores
 returns-2 c =
-    let a = c .before .before .before .before .args in
-    rw (c .enum-told2 .given .1) (did-ran (a .limit) (ending []) (a .w .now) (a .w .now) 0 true (ran-none (a .limit) (a .w .now)))
+    let args = c .before .before .before .before .args in
+    rw (c .enum-told2 .given .1) (did-ran (args .limit) (ending []) (args .w .now) (args .w .now) 0 true (ran-none (args .limit) (args .w .now)))
 
 returns-3 : tie.Need-returns-3
 unfolding recover-stores
 returns-3 c =
-    let a = c .before .before .before .before .before .before .before .before .before .before .before .before .args in
-    let p = c .before .before .before .before .before .before .before .before .p in
-    let group-at = c .before .before .before .before .before .group-at in
+    let before = c .before .before .before .before .before in
     let redo-2 = c .before .before .before .redo in
-    rw (p .given .1, c .ended2 .ensures, ← group-at .ensures)
-    (did-ran (a .limit) (redo (a .v .layout) (group-at .result) (card-of (a .w .now))) (a .w .now) _ _ _ (redo-2 .ensures))
+    let g = before in
+    let p = g .before .before .before in
+    let a = p .before .before .before .before .args in
+    rw (p .p .given .1, c .ended2 .ensures, ← g .group-at .ensures .0)
+    (did-ran (a .limit) (redo (a .v .layout) (g .group-at .result) (card-of (a .w .now))) (a .w .now) _ _ _ (redo-2 .ensures))
 
 pub recover-on-spec : {M : Type 1} → statement M
 recover-on-spec =

@@ -1,8 +1,8 @@
 use mathlib.Core.Path.{sym, ap, _∙_}
 use mathlib.Core.Bool.{and-true}
 use borrow.Author.Tests.{not-true, not-false}
-use Rattle.model.specs.Scan.{every, all}
 use Rattle.model.specs.Sector.{card-of}
+use Rattle.model.specs.Scan.{every, all}
 use Rattle.model.specs.Record.{pends}
 use Rattle.model.specs.Pending.{group-ok}
 use Rattle.model.proofs.Tests.{every-not}
@@ -23,26 +23,27 @@ returns c = sym (every-not _ 0 (sym (c .before .records-ok .ensures) ∙ not-tru
 returns-2 : tie.Need-returns-2
 unfolding group-ok
 returns-2 c =
-    let a = c .before .before .before .before .before .before .args in
-    sym (every-not _ 1 (ap (all (pends (card-of (a .log .now) (a .s)))) (sym (c .before .before .group-size .ensures .0))
+    let g = c .before .before .before .before in
+    let a = g .before .before .args in
+    sym (every-not _ 1 (ap (all (pends (card-of (a .log .now) (a .s)))) (sym (g .group-size .ensures .0))
     ∙ sym (c .before .all-pend .ensures) ∙ not-true _ (c .if2 .taken)))
 
 returns-3 : tie.Need-returns-3
 unfolding group-ok every
 returns-3 c =
-    let records-ok = c .before .before .before .before .before .records-ok in
-    let if1 = c .before .before .before .before .if1 in
-    let group-size = c .before .before .before .group-size in
+    let t = c .before in
+    let p = t .before in
+    let o = p .before in
+    let r = o .before in
     rw (
-      sym (records-ok .ensures) ∙ not-false _ (if1 .left),
-      ← group-size .ensures .0,
-      sym (c .before .before .all-pend .ensures)
-          ∙ not-false _ (c .before .if2 .left),
+      sym (r .records-ok .ensures) ∙ not-false _ (o .if1 .left),
+      ← r .before .group-size .ensures .0,
+      sym (p .all-pend .ensures) ∙ not-false _ (t .if2 .left),
       and-true,
     ) (c .is-empty .ensures)
 
 pub group-ok-spec : {M : Type 1} → statement M
 group-ok-spec =
     tie.close
-    (tie.spec (λ c κs. search needs) returns (λ c κs. search needs) (λ c κs. search needs) returns-2 (λ c. search needs)
+    (tie.spec (λ c κs. search needs) (λ c κs. search needs) returns (λ c κs. search needs) returns-2 (λ c. search needs)
     (λ c κs. search needs) returns-3)

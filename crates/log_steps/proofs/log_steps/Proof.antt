@@ -9,7 +9,7 @@ use Rattle.log_steps.proofs.log_steps.Statement.{statement}
 use Rattle.log_steps.proofs.log_steps.Tie as tie
 use Rattle.log_steps.proofs.log_steps.Reads as reads
 use Rattle.log_steps.proofs.log_steps.Lts as lts
-use Rattle.log_write.proofs.records_of.Reads as records-of-reads
+use Rattle.log_group.proofs.records_of.Reads as records-of-reads
 use Rattle.log_steps.proofs.store_and_redo.Reads as store-and-redo-reads
 use Rattle.log_write.proofs.clear_log.Reads as clear-log-reads
 use Rattle.log_write.proofs.group_sector.Reads as group-sector-reads

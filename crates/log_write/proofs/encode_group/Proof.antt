@@ -17,7 +17,7 @@ use Rattle.sector_build.proofs.lay.Reads as lay-reads
 use Rattle.sector.proofs.index.Reads as index-reads
 use Rattle.log_write.proofs.record_bytes.Reads as record-bytes-reads
 use Rattle.log_write.proofs.record_of.Reads as record-of-reads
-use Rattle.log_write.proofs.records_of.Reads as records-of-reads
+use Rattle.log_group.proofs.records_of.Reads as records-of-reads
 
 abbrev Inv-loop : tie.InvT-loop
 Inv-loop x n buf₀ k₀ buf k = (k ≤ n) × (length buf ≡ 512) × (bytes-of buf ≡ lay (map record-bytes (take k (records x))))
@@ -33,25 +33,26 @@ record-of-requires c κs = omega (arith, c .before .before .records-of .ensures 
 
 loop-again : tie.Need-loop-again Inv-loop μ-loop
 loop-again c =
-    let a = c .before .before .before .before .before .before .before .args in
-    let records-of = c .before .before .before .before .before .before .records-of in
-    let turn = c .before .before .before .before .before .loop in
-    let record-of = c .before .before .before .record-of in
-    let record-bytes-2 = c .before .before .record-bytes in (
+    let r = c .before .before in
+    let reco = r .before in
+    let l = reco .before .before in
+    let reco′ = l .before in
+    let b = reco′ .before in (
       search needs,
       search needs,
-      lay-next (records (a .x)) (turn .k) (bytes-of (record-bytes-2 .result)) (bytes-of (turn .buf))
-          (bytes-of (c .lay .result)) (omega (arith, records-of .ensures .0)) (record-bytes-2 .ensures ∙ ap record-bytes (record-of .ensures))
-          (turn .inv .2) (c .lay .ensures ∙ ap (λ (z : ℕ). overlay 32 (bytes-of (record-bytes-2 .result)) (32 * z) (bytes-of (turn .buf)))
+      lay-next (records (b .args .x)) (l .loop .k) (bytes-of (r .record-bytes .result)) (bytes-of (l .loop .buf))
+          (bytes-of (c .lay .result)) (omega (arith, reco′ .records-of .ensures .0)) (r .record-bytes .ensures ∙ ap record-bytes (reco .record-of .ensures))
+          (l .loop .inv .2) (c .lay .ensures ∙ ap (λ (z : ℕ). overlay 32 (bytes-of (r .record-bytes .result)) (32 * z) (bytes-of (l .loop .buf)))
           (c .before .index .ensures)),
     )
 
 returns : tie.Need-returns Inv-loop μ-loop
 unfolding encode
 returns c =
-    let a = c .before .before .before .args in
+    let r = c .before .before in
+    let b = r .before in
     c .before .loop .inv .2 ∙ ap (λ (rs : List Record). lay (map record-bytes rs))
-    (take-all (c .before .loop .k) (records (a .x)) (omega (arith, c .before .before .records-of .ensures .0)))
+    (take-all (c .before .loop .k) (records (b .args .x)) (omega (arith, r .records-of .ensures .0)))
 
 pub encode-group-spec : {M : Type 1} → statement M
 encode-group-spec =

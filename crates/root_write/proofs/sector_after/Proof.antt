@@ -27,14 +27,15 @@ loop-holds c = (search needs, search needs, λ j h. absurd (omega arith))
 
 loop-again : tie.Need-loop-again Inv-loop μ-loop
 loop-again c =
-    let a = c .before .before .before .before .before .before .args in
-    let turn = c .before .before .before .before .loop in
-    let slot-after = c .before .before .slot-after in (
+    let s = c .before .before in
+    let l = s .before .before in
+    let b = l .before .before in
+    let a = b .args in (
       search needs,
       search needs,
-      laid-more (effect (a .x) (slot-at (a .l) (card-of (a .w .now)))) (a .r) (turn .i) (c .before .index .result)
-          (bytes-of (turn .buf)) (bytes-of (slot-after .result)) (bytes-of (c .lay .result)) (c .before .index .ensures) (turn .inv .2)
-          (slot-after .ensures) (c .lay .ensures),
+      laid-more (effect (a .x) (slot-at (a .l) (card-of (a .w .now)))) (a .r) (l .loop .i) (c .before .index .result)
+          (bytes-of (l .loop .buf)) (bytes-of (s .slot-after .result)) (bytes-of (c .lay .result)) (c .before .index .ensures) (l .loop .inv .2)
+          (s .slot-after .ensures) (c .lay .ensures),
     )
 
 returns : tie.Need-returns Inv-loop μ-loop

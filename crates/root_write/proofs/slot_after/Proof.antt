@@ -17,48 +17,48 @@ use Rattle.root_write.proofs.resize.Reads as resize-reads
 returns : tie.Need-returns
 unfolding effect edits
 returns c =
-    let a = c .before .before .before .before .before .before .before .before .args in
+    let args = c .before .before .before .before .before .before .before .before .args in
     let load-slot = c .before .before .before .before .before .before .load-slot in
-    let o = c .before .before .before .before .o in
-    rw (o .given .1) (in-create (slot-at (a .l) (card-of (a .w .now))) (a .k) (bytes-of (load-slot .result)) (bytes-of (c .new-entry .result))
-    (load-slot .ensures) (o .given .0 .0) (c .before .if1 .taken) (c .new-entry .ensures))
+    let o-2 = c .before .before .before .before .o in
+    rw (o-2 .given .1) (in-create (slot-at (args .l) (card-of (args .w .now))) (args .k) (bytes-of (load-slot .result))
+    (bytes-of (c .new-entry .result)) (load-slot .ensures) (o-2 .given .0 .0) (c .before .if1 .taken) (c .new-entry .ensures))
 
 returns-2 : tie.Need-returns-2
 unfolding effect edits
 returns-2 c =
-    let a = c .before .before .before .before .before .before .before .before .args in
+    let args = c .before .before .before .before .before .before .before .before .args in
     let load-slot = c .before .before .before .before .before .before .load-slot in
     let o2 = c .before .before .before .before .o2 in
-    rw (o2 .given .1) (in-update (slot-at (a .l) (card-of (a .w .now))) (a .k) (bytes-of (load-slot .result)) (bytes-of (c .resize .result))
+    rw (o2 .given .1) (in-update (slot-at (args .l) (card-of (args .w .now))) (args .k) (bytes-of (load-slot .result)) (bytes-of (c .resize .result))
     (load-slot .ensures) (o2 .given .0 .0) (o2 .given .0 .1 .0) (o2 .given .0 .1 .1 .0) (o2 .given .0 .1 .1 .1 .0) (c .before .if2 .taken)
     (c .resize .ensures))
 
 returns-3 : tie.Need-returns-3
 unfolding effect edits
 returns-3 c =
-    let a = c .before .before .before .before .before .before .before .before .args in
+    let args = c .before .before .before .before .before .before .before .before .args in
     let load-slot = c .before .before .before .before .before .before .load-slot in
     let o3 = c .before .before .before .before .o3 in
-    rw (o3 .given .1) (in-delete (slot-at (a .l) (card-of (a .w .now))) (a .k) (bytes-of (load-slot .result)) (bytes-of (c .mark .result))
+    rw (o3 .given .1) (in-delete (slot-at (args .l) (card-of (args .w .now))) (args .k) (bytes-of (load-slot .result)) (bytes-of (c .mark .result))
     (load-slot .ensures) (o3 .given .0 .0) (o3 .given .0 .1 .0) (o3 .given .0 .1 .1 .0) (c .before .if3 .taken) (c .mark .ensures))
 
 returns-4 : tie.Need-returns-4
 unfolding effect edits
 returns-4 c =
-    let a = c .before .before .before .before .before .before .before .before .args in
+    let args = c .before .before .before .before .before .before .before .before .args in
     let load-slot = c .before .before .before .before .before .before .load-slot in
     let o4 = c .before .before .before .before .o4 in
-    rw (o4 .given .1) (in-truncate (slot-at (a .l) (card-of (a .w .now))) (a .k) (bytes-of (load-slot .result)) (bytes-of (c .resize2 .result))
-    (load-slot .ensures) (o4 .given .0 .0) (o4 .given .0 .1 .0) (o4 .given .0 .1 .1 .0) (o4 .given .0 .1 .1 .1 .0) (c .before .if4 .taken)
-    (c .resize2 .ensures))
+    rw (o4 .given .1) (in-truncate (slot-at (args .l) (card-of (args .w .now))) (args .k) (bytes-of (load-slot .result))
+    (bytes-of (c .resize2 .result)) (load-slot .ensures) (o4 .given .0 .0) (o4 .given .0 .1 .0) (o4 .given .0 .1 .1 .0) (o4 .given .0 .1 .1 .1 .0)
+    (c .before .if4 .taken) (c .resize2 .ensures))
 
 returns-5 : tie.Need-returns-5
 unfolding effect edits
 returns-5 c =
-    let a = c .before .before .before .before .before .before .before .before .args in
+    let args = c .before .before .before .before .before .before .before .before .args in
     let load-slot = c .before .before .before .before .before .before .load-slot in
     let o5 = c .before .before .before .before .o5 in
-    rw (o5 .given .1) (in-rename (slot-at (a .l) (card-of (a .w .now))) (a .k) (bytes-of (load-slot .result)) (bytes-of (c .mark2 .result))
+    rw (o5 .given .1) (in-rename (slot-at (args .l) (card-of (args .w .now))) (args .k) (bytes-of (load-slot .result)) (bytes-of (c .mark2 .result))
     (load-slot .ensures) (o5 .given .0 .0) (o5 .given .0 .1 .0) (o5 .given .0 .1 .1 .0) (o5 .given .0 .1 .1 .1 .0) (o5 .given .0 .1 .1 .1 .1 .0)
     (c .before .if5 .taken) (c .mark2 .ensures))
 
@@ -72,53 +72,62 @@ load-slot-requires-2 c κs =
 returns-6 : tie.Need-returns-6
 unfolding effect edits
 returns-6 c =
-    let a = c .before .before .before .before .before .before .before .before .before .before .args in
+    let args = c .before .before .before .before .before .before .before .before .before .before .args in
     let o5 = c .before .before .before .before .before .before .o5 in
     let if5 = c .before .before .before .if5 in
-    rw (o5 .given .1) (in-renamed (slot-at (a .l) (card-of (a .w .now))) (a .k) (o5 .given .0 .0) (o5 .given .0 .1 .0) (o5 .given .0 .1 .1 .0)
-    (o5 .given .0 .1 .1 .1 .0) (o5 .given .0 .1 .1 .1 .1 .0) (bytes-of (c .before .load-slot2 .result)) (bytes-of (c .set-name .result))
-    (c .before .load-slot2 .ensures) (if5 .left) (c .before .before .if6 .taken) (c .set-name .ensures))
+    rw (o5 .given .1) (in-renamed (slot-at (args .l) (card-of (args .w .now))) (args .k) (o5 .given .0 .0) (o5 .given .0 .1 .0)
+    (o5 .given .0 .1 .1 .0) (o5 .given .0 .1 .1 .1 .0) (o5 .given .0 .1 .1 .1 .1 .0) (bytes-of (c .before .load-slot2 .result))
+    (bytes-of (c .set-name .result)) (c .before .load-slot2 .ensures) (if5 .left) (c .before .before .if6 .taken) (c .set-name .ensures))
 
 returns-7 : tie.Need-returns-7
 unfolding edits operation-edits
 returns-7 c =
-    let a = c .before .before .before .before .before .before .before .args in
-    let load-slot = c .before .before .before .before .before .load-slot in
-    let o = c .before .before .before .o in
-    out (a .x) (slot-at (a .l) (card-of (a .w .now))) (a .k) (bytes-of (load-slot .result)) (rw (o .given .1) (c .if1 .left, tt)) (load-slot .ensures)
+    let o = c .before .before .before in
+    let l = o .before .before in
+    let b = l .before .before in
+    let a = b .args in
+    out (a .x) (slot-at (a .l) (card-of (a .w .now))) (a .k) (bytes-of (l .load-slot .result)) (rw (o .o .given .1) (c .if1 .left, tt))
+    (l .load-slot .ensures)
 
 returns-8 : tie.Need-returns-8
 unfolding edits operation-edits
 returns-8 c =
-    let a = c .before .before .before .before .before .before .before .args in
-    let load-slot = c .before .before .before .before .before .load-slot in
-    let o2 = c .before .before .before .o2 in
-    out (a .x) (slot-at (a .l) (card-of (a .w .now))) (a .k) (bytes-of (load-slot .result)) (rw (o2 .given .1) (c .if2 .left, tt)) (load-slot .ensures)
+    let o = c .before .before .before in
+    let l = o .before .before in
+    let b = l .before .before in
+    let a = b .args in
+    out (a .x) (slot-at (a .l) (card-of (a .w .now))) (a .k) (bytes-of (l .load-slot .result)) (rw (o .o2 .given .1) (c .if2 .left, tt))
+    (l .load-slot .ensures)
 
 returns-9 : tie.Need-returns-9
 unfolding edits operation-edits
 returns-9 c =
-    let a = c .before .before .before .before .before .before .before .args in
-    let load-slot = c .before .before .before .before .before .load-slot in
-    let o3 = c .before .before .before .o3 in
-    out (a .x) (slot-at (a .l) (card-of (a .w .now))) (a .k) (bytes-of (load-slot .result)) (rw (o3 .given .1) (c .if3 .left, tt)) (load-slot .ensures)
+    let o = c .before .before .before in
+    let l = o .before .before in
+    let b = l .before .before in
+    let a = b .args in
+    out (a .x) (slot-at (a .l) (card-of (a .w .now))) (a .k) (bytes-of (l .load-slot .result)) (rw (o .o3 .given .1) (c .if3 .left, tt))
+    (l .load-slot .ensures)
 
 returns-10 : tie.Need-returns-10
 unfolding edits operation-edits
 returns-10 c =
-    let a = c .before .before .before .before .before .before .before .args in
-    let load-slot = c .before .before .before .before .before .load-slot in
-    let o4 = c .before .before .before .o4 in
-    out (a .x) (slot-at (a .l) (card-of (a .w .now))) (a .k) (bytes-of (load-slot .result)) (rw (o4 .given .1) (c .if4 .left, tt)) (load-slot .ensures)
+    let o = c .before .before .before in
+    let l = o .before .before in
+    let b = l .before .before in
+    let a = b .args in
+    out (a .x) (slot-at (a .l) (card-of (a .w .now))) (a .k) (bytes-of (l .load-slot .result)) (rw (o .o4 .given .1) (c .if4 .left, tt))
+    (l .load-slot .ensures)
 
 returns-11 : tie.Need-returns-11
 unfolding edits operation-edits
 returns-11 c =
-    let a = c .before .before .before .before .before .before .before .before .args in
-    let load-slot = c .before .before .before .before .before .before .load-slot in
-    let o5 = c .before .before .before .before .o5 in
-    out (a .x) (slot-at (a .l) (card-of (a .w .now))) (a .k) (bytes-of (load-slot .result))
-    (rw (o5 .given .1) (c .before .if5 .left, (c .if6 .left, tt))) (load-slot .ensures)
+    let o = c .before .before .before .before in
+    let l = o .before .before in
+    let b = l .before .before in
+    let a = b .args in
+    out (a .x) (slot-at (a .l) (card-of (a .w .now))) (a .k) (bytes-of (l .load-slot .result))
+    (rw (o .o5 .given .1) (c .before .if5 .left, (c .if6 .left, tt))) (l .load-slot .ensures)
 
 pub slot-after-spec : {M : Type 1} → statement M
 slot-after-spec =

@@ -21,15 +21,17 @@ returns c = rw (sym (c .before .concerns .ensures) ∙ not-true _ (c .if1 .taken
 
 returns-2 : tie.Need-returns-2
 returns-2 c =
-    let a = c .before .before .before .before .before .before .before .before .before .before .before .args in
-    let concerns = c .before .before .before .before .before .before .before .before .before .concerns in
-    let if1 = c .before .before .before .before .before .before .before .before .if1 in
-    let sector-after = c .before .before .before .before .before .before .sector-after in
+    let s = c .before .before in
+    let sect = s .before .before .before .before in
+    let if = sect .before .before in
+    let conc = if .before in
+    let b = conc .before .before in
+    let a = b .args in
     rw (
-      sym (concerns .ensures) ∙ not-false _ (if1 .left),
-      ← store-same (a .l .root + a .r) (bytes-of (sector-after .result))
-          (root-sector (effect (a .x) (slot-at (a .l) (card-of (a .w .now)))) (a .r)) (sector-after .ensures),
-    ) (c .before .before .store-sector .ensures)
+      sym (conc .concerns .ensures) ∙ not-false _ (if .if1 .left),
+      ← store-same (a .l .root + a .r) (bytes-of (sect .sector-after .result))
+          (root-sector (effect (a .x) (slot-at (a .l) (card-of (a .w .now)))) (a .r)) (sect .sector-after .ensures),
+    ) (s .store-sector .ensures)
 
 pub store-concerned-spec : {M : Type 1} → statement M
 store-concerned-spec =

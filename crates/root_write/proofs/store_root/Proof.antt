@@ -17,51 +17,53 @@ use Rattle.root_write.proofs.store_root.Lts as lts
 use Rattle.root_write.proofs.store_concerned.Reads as store-concerned-reads
 
 abbrev Inv-loop : tie.InvT-loop
-Inv-loop w₀ l o limit made₀ r₀ w made r = (r ≤ l .entries / 16) × (length w ≡ length w₀) × Ran limit (up-to (root-turn l o (card-of w₀)) r) w₀ w made true
+Inv-loop w₀ l x limit made₀ r₀ w made r = (r ≤ l .entries / 16) × (length w ≡ length w₀) × Ran limit (up-to (root-turn l x (card-of w₀)) r) w₀ w made true
 
 abbrev μ-loop : tie.MeasureT-loop
-μ-loop w₀ l o limit made₀ r₀ w made r = l .entries / 16 - r
+μ-loop w₀ l x limit made₀ r₀ w made r = l .entries / 16 - r
 
 loop-holds : tie.Need-loop-holds Inv-loop μ-loop
 loop-holds c = (search needs, refl, turns-none _ _ _)
 
 returns : tie.Need-returns Inv-loop μ-loop
 returns c =
-    let a = c .before .before .before .before .before .before .before .before .before .before .before .args in
-    let pre = c .before .before .before .before .before .before .before .before .before .before .before .pre in
-    let turn = c .before .before .before .before .before .before .before .before .before .loop in
-    let store-concerned = c .before .before .before .before .before .store-concerned in
+    let s = c .before .before .before .before .before in
+    let l = s .before .before .before .before in
+    let b = l .before .before in
+    let a = b .args in
     rw (← root-turns (a .l) (a .x) (card-of (a .w .now)))
-    (turns-cut (root-turn (a .l) (a .x) (card-of (a .w .now))) (a .limit) (turn .r) (a .w .now) (turn .w) _ (turn .made) _ (turn .inv .2)
+    (turns-cut (root-turn (a .l) (a .x) (card-of (a .w .now))) (a .limit) (l .loop .r) (a .w .now) (l .loop .w) _ (l .loop .made) _ (l .loop .inv .2)
     (a .l .entries / 16) (omega arith) (rw (
-      turn-same (a .l) (a .x) (pre .0 .fits .shape .whole-sectors) (pre .1) (card-of (a .w .now)) (a .limit)
-          (turn .r) (a .w .now) (turn .w) (turn .made) refl (turn .inv .2) (omega arith),
-      not-true (store-concerned .result .whole)
-          (c .if2 .taken),
-    ) at (store-concerned .ensures)))
+      turn-same (a .l) (a .x) (b .pre .0 .fits .shape .whole-sectors) (b .pre .1) (card-of (a .w .now)) (a .limit)
+          (l .loop .r) (a .w .now) (l .loop .w) (l .loop .made) refl (l .loop .inv .2) (omega arith),
+      not-true (s .store-concerned .result .whole) (c .if2 .taken),
+    )
+    at (s .store-concerned .ensures)))
 
 loop-again : tie.Need-loop-again Inv-loop μ-loop
 loop-again c =
-    let a = c .before .before .before .before .before .before .before .before .before .before .before .args in
-    let pre = c .before .before .before .before .before .before .before .before .before .before .before .pre in
-    let turn = c .before .before .before .before .before .before .before .before .before .loop in
-    let store-concerned = c .before .before .before .before .before .store-concerned in (
+    let s = c .before .before .before .before .before in
+    let l = s .before .before .before .before in
+    let b = l .before .before in
+    let a = b .args in (
       search needs,
       search needs,
-      turns-more (root-turn (a .l) (a .x) (card-of (a .w .now))) (a .limit) (turn .r) (a .w .now) (turn .w) _ (turn .made)
-          _ (turn .inv .2) (rw (
-            turn-same (a .l) (a .x) (pre .0 .fits .shape .whole-sectors) (pre .1) (card-of (a .w .now)) (a .limit) (turn .r)
-                (a .w .now) (turn .w) (turn .made) refl (turn .inv .2) (omega arith),
-            not-false (store-concerned .result .whole)
-                (c .if2 .left),
-          ) at (store-concerned .ensures)),
+      turns-more (root-turn (a .l) (a .x) (card-of (a .w .now))) (a .limit) (l .loop .r) (a .w .now) (l .loop .w) _
+          (l .loop .made) _ (l .loop .inv .2) (rw (
+            turn-same (a .l) (a .x) (b .pre .0 .fits .shape .whole-sectors) (b .pre .1) (card-of (a .w .now)) (a .limit)
+                (l .loop .r) (a .w .now) (l .loop .w) (l .loop .made) refl (l .loop .inv .2) (omega arith),
+            not-false (s .store-concerned .result .whole) (c .if2 .left),
+          )
+          at (s .store-concerned .ensures)),
     )
 
 returns-2 : tie.Need-returns-2 Inv-loop μ-loop
 returns-2 c =
-    let a = c .before .before .before .before .args in
-    let turn = c .before .before .loop in
-    let end : turn .r ≡ a .l .entries / 16 = omega arith in rw (← root-turns (a .l) (a .x) (card-of (a .w .now))) (rw end at (turn .inv .2))
+    let l = c .before .before in
+    let b = l .before .before in
+    let a = b .args in
+    let end : l .loop .r ≡ a .l .entries / 16 = omega arith in
+    rw (← root-turns (a .l) (a .x) (card-of (a .w .now))) (rw end at (l .loop .inv .2))
 
 pub store-root-spec : {M : Type 1} → statement M
 store-root-spec =
