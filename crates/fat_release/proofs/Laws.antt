@@ -34,8 +34,8 @@ among-none l [] x h le = refl
 among-none l (k ∷ ks) x h le = rw (ne-eqb x k (λ e. let less : k < l .clusters + 2 = h .0 in omega arith)) (among-none l ks x (h .1) le)
 
 -- No cluster lies so high.
-pub marked-none : (l : Layout) (ks : List ℕ) (from : ℕ) (marks : List ℕ) → Inside l ks → l .clusters + 2 ≤ from → ((i : ℕ) → mark-of marks i ≡ 0)
-    → Marked ks from marks
+pub marked-none : (l : Layout) (ks : List ℕ) (from : ℕ) (marks : List ℕ) → Inside l ks → l .clusters + 2 ≤ from
+    → ((i : ℕ) → mark-of marks i ≡ 0) → Marked ks from marks
 marked-none l ks from marks h le none i less = rw (among-none l ks (from + i) h (omega arith)) (none i)
 
 -- Bits of a byte: set, and none in 0. All bytes are tried.
@@ -131,8 +131,8 @@ mark-set marks from k i v x lo hi e put =
 
 -- The marks of a walk so far, with the n clusters from k on yet to come, are those of all.
 abbrev pub Marking : (ℕ → ℕ) → ℕ → ℕ → ℕ → List ℕ → ℕ → ℕ → Type 0
-Marking e from first m marks k n = (i : ℕ) → i < 16384
-    → pick (among (chain e n k) (from + i)) 1 (mark-of marks i) ≡ pick (among (chain e m first) (from + i)) 1 0
+Marking e from first m marks k n =
+    (i : ℕ) → i < 8192 → pick (among (chain e n k) (from + i)) 1 (mark-of marks i) ≡ pick (among (chain e m first) (from + i)) 1 0
 
 module _ (e : ℕ → ℕ) (from first m : ℕ) where
   pub marking-none : (marks : List ℕ) → ((i : ℕ) → mark-of marks i ≡ 0) → Marking e from first m marks first m
@@ -143,7 +143,7 @@ module _ (e : ℕ → ℕ) (from first m : ℕ) where
   marking-done marks k n z so i less = rw z at (so i less)
 
   pub marking-more : (marks : List ℕ) (k n : ℕ) → 0 < n → Marking e from first m marks k n → (out : List ℕ)
-      → ((i : ℕ) → i < 16384 → mark-of out i ≡ pick (eqb (from + i) k) 1 (mark-of marks i)) → Marking e from first m out (e k) (n - 1)
+      → ((i : ℕ) → i < 8192 → mark-of out i ≡ pick (eqb (from + i) k) 1 (mark-of marks i)) → Marking e from first m out (e k) (n - 1)
   unfolding chain any
   marking-more marks k zero pos so out put i less = absurd (omega arith)
   marking-more marks k (suc n) pos so out put i less =
@@ -169,23 +169,23 @@ module _ (l : Layout) (e : ℕ → ℕ) where
 -- ---- sectors by their marks
 
 -- By the marks of freed clusters, the FAT in which these are freed.
-pub cleared-is : (ks marks : List ℕ) (f : Fat) (s : ℕ) → Marked ks (16384 * (s / 64)) marks → (j : ℕ) → j < 512 → cleared marks f s j ≡ release ks f s j
+pub cleared-is : (ks marks : List ℕ) (f : Fat) (s : ℕ) → Marked ks (8192 * (s / 32)) marks → (j : ℕ) → j < 512 → cleared marks f s j ≡ release ks f s j
 unfolding cleared
 cleared-is ks marks f s h j less =
-    let e : 16384 * (s / 64) + (256 * (s % 64) + j / 2) ≡ 256 * s + j / 2 = omega arith in
-    rw (h (256 * (s % 64) + j / 2) (omega arith), e) (go (among ks (256 * s + j / 2)) ∙ sym (release-byte ks f s j less))
+    let e : 8192 * (s / 32) + (256 * (s % 32) + j / 2) ≡ 256 * s + j / 2 = omega arith in
+    rw (h (256 * (s % 32) + j / 2) (omega arith), e) (go (among ks (256 * s + j / 2)) ∙ sym (release-byte ks f s j less))
   where
     go : (b : Bool) → pick (eqb (pick b 1 0) 0) (f s j) 0 ≡ pick b 0 (f s j)
     go true = refl
     go false = refl
 
 -- A buffer that holds sector s of f, cleared by the marks.
-pub cleared-of : (marks buf out : List ℕ) (f : Fat) (s at : ℕ) → at ≡ 256 * (s % 64) → ((j : ℕ) → j < 512 → getD buf j 0 ≡ f s j)
+pub cleared-of : (marks buf out : List ℕ) (f : Fat) (s at : ℕ) → at ≡ 256 * (s % 32) → ((j : ℕ) → j < 512 → getD buf j 0 ≡ f s j)
     → ((j : ℕ) → j < 512 → getD out j 0 ≡ pick (eqb (mark-of marks (at + j / 2)) 0) (getD buf j 0) 0) → (j : ℕ) → j < 512 → getD out j 0 ≡ cleared marks f s j
 unfolding cleared
 cleared-of marks buf out f s at e held put j less =
     put j less ∙ ap (λ (z : ℕ). pick (eqb (mark-of marks (z + j / 2)) 0) (getD buf j 0) 0) e
-    ∙ ap (λ (z : ℕ). pick (eqb (mark-of marks (256 * (s % 64) + j / 2)) 0) z 0) (held j less)
+    ∙ ap (λ (z : ℕ). pick (eqb (mark-of marks (256 * (s % 32) + j / 2)) 0) z 0) (held j less)
 
 -- ---- a pass over the sectors
 
@@ -193,9 +193,9 @@ cleared-of marks buf out f s at e held put j less =
 abbrev pub freed : Fat → ℕ → ℕ → ℕ → Fat
 freed t kept first m = release (chain (entry t) m first) (lead kept end-value t)
 
--- Marks serve all of their 64 sectors.
-pub next-marks : (ks marks : List ℕ) (s : ℕ) → Marked ks (16384 * (s / 64)) marks → ((s + 1) % 64 ≡ 0 → ⊥) → Marked ks (16384 * ((s + 1) / 64)) marks
-next-marks ks marks s h ne = let e : 16384 * ((s + 1) / 64) ≡ 16384 * (s / 64) = omega arith in rw e h
+-- Marks serve all of their 32 sectors.
+pub next-marks : (ks marks : List ℕ) (s : ℕ) → Marked ks (8192 * (s / 32)) marks → ((s + 1) % 32 ≡ 0 → ⊥) → Marked ks (8192 * ((s + 1) / 32)) marks
+next-marks ks marks s h ne = let e : 8192 * ((s + 1) / 32) ≡ 8192 * (s / 32) = omega arith in rw e h
 
 -- ---- FAT1 as it is on the card
 

@@ -33,8 +33,8 @@ mark-of marks i = bit-of (getD marks (i / 8) 0) (i % 8)
 
 -- Mark i says whether cluster from + i is one of a list.
 abbrev pub Marked : List ℕ → ℕ → List ℕ → Type 0
-Marked ks from marks = (i : ℕ) → i < 16384 → mark-of marks i ≡ pick (among ks (from + i)) 1 0
+Marked ks from marks = (i : ℕ) → i < 8192 → mark-of marks i ≡ pick (among ks (from + i)) 1 0
 
--- A FAT with the marked entries 0, the marks being those of the 64 sectors that sector s is one of.
+-- A FAT with the marked entries 0, the marks being those of the 32 sectors that sector s is one of.
 unfoldable pub cleared : List ℕ → Fat → Fat
-cleared marks f s j = pick (eqb (mark-of marks (256 * (s % 64) + j / 2)) 0) (f s j) 0
+cleared marks f s j = pick (eqb (mark-of marks (256 * (s % 32) + j / 2)) 0) (f s j) 0

@@ -1,4 +1,4 @@
-// Release: the marks of freed clusters, and a sector of FAT2 with them freed. A chain is walked once for each 64 sectors that hold
+// Release: the marks of freed clusters, and a sector of FAT2 with them freed. A chain is walked once for each 32 sectors that hold
 // clusters.
 use model::Layout;
 ghost use mathlib.Core.Path.{_≡_};
@@ -13,7 +13,7 @@ ghost use Rattle.model.specs.Promises.{Held};
 ghost use Rattle.fat_copy.specs.Change.{own-fat};
 ghost use Rattle.fat_release.specs.Release.{bit-of, mark-of, Inside, Marked};
 
-// The marks of 16,384 clusters, one bit each. Where no cluster is freed no byte need be lent for them.
+// The marks of 8,192 clusters, one bit each. Where no cluster is freed no byte need be lent for them.
 fn clear_marks(marks: &mut [u8])
     ensures { λ _. ⌜ ((i : ℕ) → mark-of (now (marks .exit)) i ≡ 0) ⌝ }
 {
@@ -43,29 +43,29 @@ fn with_bit(b: u8, i: usize) -> u8
     b + (1 << i)
 }
 
-// Marks cluster k, if it is one of the 16,384 from `from` on.
+// Marks cluster k, if it is one of the 8,192 from `from` on.
 fn mark(marks: &mut [u8], from: u32, k: u32)
-    requires { ⌜ length (now marks) ≡ 2048 ⌝ }
-    ensures { λ _. ⌜ ((i : ℕ) → i < 16384 → mark-of (now (marks .exit)) i ≡ pick (eqb (from + i) k) 1 (mark-of (now (marks .entry)) i)) ⌝ }
+    requires { ⌜ length (now marks) ≡ 1024 ⌝ }
+    ensures { λ _. ⌜ ((i : ℕ) → i < 8192 → mark-of (now (marks .exit)) i ≡ pick (eqb (from + i) k) 1 (mark-of (now (marks .entry)) i)) ⌝ }
 {
     if k < from {
         return;
     }
-    if 16384 <= k - from {
+    if 8192 <= k - from {
         return;
     }
     let i = sector::index(k - from);
     marks[i / 8] = with_bit(marks[i / 8], i % 8);
 }
 
-// The marks for sector s: made anew where 64 sectors begin, by a walk along the m clusters from `first` on.
+// The marks for sector s: made anew where 32 sectors begin, by a walk along the m clusters from `first` on.
 pub fn mark_block(w: &[u8], l: Layout, marks: &mut [u8], s: u32, first: u32, m: u32)
     requires { ⌜
-        Held l (now w) × (0 < m → length (now marks) ≡ 2048) × (s < l .fatsize) × Inside l (chain (entry (own-fat l (now w))) m first)
-        × ((s % 64 ≡ 0 → ⊥) → Marked (chain (entry (own-fat l (now w))) m first) (16384 * (s / 64)) (now marks)) ⌝ }
-    ensures { λ _. ⌜ Marked (chain (entry (own-fat l (now (w .entry)))) m first) (16384 * (s / 64)) (now (marks .exit)) ⌝ }
+        Held l (now w) × (0 < m → length (now marks) ≡ 1024) × (s < l .fatsize) × Inside l (chain (entry (own-fat l (now w))) m first)
+        × ((s % 32 ≡ 0 → ⊥) → Marked (chain (entry (own-fat l (now w))) m first) (8192 * (s / 32)) (now marks)) ⌝ }
+    ensures { λ _. ⌜ Marked (chain (entry (own-fat l (now (w .entry)))) m first) (8192 * (s / 32)) (now (marks .exit)) ⌝ }
 {
-    if s % 64 != 0 {
+    if s % 32 != 0 {
         return;
     }
     clear_marks(marks);
@@ -85,7 +85,7 @@ pub fn mark_block(w: &[u8], l: Layout, marks: &mut [u8], s: u32, first: u32, m: 
 // Whether one of the 256 clusters from `at` on is marked. The loop has no way out but its end: so the compiler looks at sixteen
 // bytes at once.
 pub fn has_mark(marks: &[u8], at: usize) -> bool
-    requires { ⌜ (at % 8 ≡ 0) × (at + 256 ≤ 16384) × (length (now marks) % 2048 ≡ 0) ⌝ }
+    requires { ⌜ (at % 8 ≡ 0) × (at + 256 ≤ 8192) × (length (now marks) % 1024 ≡ 0) ⌝ }
     ensures { λ r. ⌜ (r ≡ false → (i : ℕ) → i < 256 → mark-of (now (marks .entry)) (at + i) ≡ 0) ⌝ }
 {
     if marks.len() == 0 {
@@ -129,7 +129,7 @@ fn clear_eight(buf: &mut [u8], k: usize, m: u8)
 
 // Clears the entries that the marks from `at` on name, in the buffer of a sector. Eight that have no mark are passed over.
 pub fn clear_marked(buf: &mut [u8], marks: &[u8], at: usize)
-    requires { ⌜ (length (now buf) ≡ 512) × (at % 8 ≡ 0) × (at + 256 ≤ 16384) × (length (now marks) % 2048 ≡ 0) ⌝ }
+    requires { ⌜ (length (now buf) ≡ 512) × (at % 8 ≡ 0) × (at + 256 ≤ 8192) × (length (now marks) % 1024 ≡ 0) ⌝ }
     ensures { λ _. ⌜
         ((j : ℕ) → j < 512 → getD (now (buf .exit)) j 0 ≡ pick (eqb (mark-of (now (marks .entry)) (at + j / 2)) 0) (getD (now (buf .entry)) j 0) 0) ⌝ }
 {

@@ -1,4 +1,4 @@
--- Laws of the renewed FAT: it is that of an append, of a truncate and of a delete.
+-- Laws of the renewed FAT: sector by sector, and as it is where nothing is new or nothing freed.
 use Prim.Native.Nat.{ℕ, zero, suc, _+_, _*_, _/_, _%_, _<_, _≤_}
 use native.Mathlib.Omega.{arith}
 use mathlib.Core.Path.{_≡_, refl, sym, ap, _∙_}
@@ -14,10 +14,7 @@ use Rattle.model.specs.Fat.{Fat, entry, end-value, fat1-of, fat2-of, free-clust
 use Rattle.model.specs.Chain.{chain}
 use Rattle.model.specs.Promises.{Ran, up-to, Shape}
 use Rattle.model.specs.declared.Layout.{Layout}
-use Rattle.model.proofs.All.{All}
 use Rattle.model.proofs.Entries.{release-local}
-use Rattle.operations.specs.Plan.{extend, shorten, last-cluster}
-use Rattle.operations.proofs.Lasts.{last-list}
 use Rattle.fat_copy.specs.Change.{lead, renewal, sectors-of, own-fat}
 use Rattle.fat_copy.proofs.Laws.{renewal-same, renewals, next-kept, fat-kept}
 use Rattle.fat_link.specs.Allocate.{grown, news, Above, Moved}
@@ -29,29 +26,11 @@ use Rattle.fat_release.specs.Release.{cut, cleared, mark-of, Inside, Marked}
 use Rattle.fat_release.proofs.Laws.{cleared-is, own-chain, cut-none, cut-some}
 use Rattle.fat_write.specs.Renew.{renewed, passed}
 
--- Append: nothing is freed.
-pub renewed-extend : (old : List ℕ) → All (λ k. k ≡ 0 → ⊥) old → (new : List ℕ) (t : Fat) → renewed (last-cluster old) new [] t ≡ extend old new t
-unfolding renewed extend release
-renewed-extend old used [] t = refl
-renewed-extend old used (k ∷ ks) t = rw (ne-eqb (suc (length ks) + 0) 0 (λ e. omega arith), last-list old used)
-
--- Truncate: nothing is new.
-pub renewed-shorten : (kept : List ℕ) → All (λ k. k ≡ 0 → ⊥) kept → (freed : List ℕ) (t : Fat) → renewed (last-cluster kept) [] freed t ≡ shorten kept freed t
-unfolding renewed shorten
-renewed-shorten kept used [] t = refl
-renewed-shorten kept used (k ∷ ks) t = rw (ne-eqb (0 + suc (length ks)) 0 (λ e. omega arith), ← last-list kept used, append-nil)
-
--- Delete: none is kept.
-pub renewed-release : (freed : List ℕ) (t : Fat) → renewed 0 [] freed t ≡ release freed t
-unfolding renewed link release
-renewed-release [] t = refl
-renewed-release (k ∷ ks) t = rw (ne-eqb (0 + suc (length ks)) 0 (λ e. omega arith))
-
 -- ---- a sector
 
 -- One with neither `last`, nor a new cluster, nor a mark stays as it is.
 pub unchanged : (marks : List ℕ) (l : Layout) (t : Fat) (s last value at left : ℕ) → (s ≡ last / 256 → ⊥) → Above (s + 1) at left
-    → ((i : ℕ) → i < 256 → mark-of marks (256 * (s % 64) + i) ≡ 0) → (j : ℕ) → j < 512 → cleared marks (linked l t last value at left) s j ≡ t s j
+    → ((i : ℕ) → i < 256 → mark-of marks (256 * (s % 32) + i) ≡ 0) → (j : ℕ) → j < 512 → cleared marks (linked l t last value at left) s j ≡ t s j
 unfolding cleared
 unchanged marks l t s last value at left ne up none j less = rw (none (j / 2) (omega arith)) (ap (λ (b : Bytes). b j) (stays l t s last value at left ne up))
 
@@ -64,8 +43,8 @@ module _ (l : Layout) (sh : Shape l) (last value first n m old limit : ℕ) (e x
   fat-same = fat-kept l sh (passed l (own-fat l e) last value first n m old) limit s e x made so
 
   -- A sector's store, as the turn finds the card, is that of the whole.
-  pub turn-same : (marks : List ℕ) → Marked (chain (entry (own-fat l x)) m old) (16384 * (s / 64)) marks → (at left : ℕ)
-      → Moved l (own-fat l e) s first n at left
+  pub turn-same : (marks : List ℕ) → Marked (chain (entry (own-fat l x)) m old) (8192 * (s / 32)) marks
+      → (at left : ℕ) → Moved l (own-fat l e) s first n at left
       → renewal (l .fat2 + s) (cleared marks (linked l (own-fat l x) last value at left) s) (card-of x (l .fat2 + s)) ≡ renewals l
       (passed l (own-fat l e) last value first n m old) (fat2-of l (card-of e)) s
   turn-same marks h at left mv =

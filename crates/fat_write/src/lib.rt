@@ -24,14 +24,14 @@ pub struct Turn {
 
 // Whether sector s may hold `last`, a new cluster or, by the marks, a freed one.
 fn is_changed(marks: &[u8], s: u32, last: u32, at: u32, left: u32) -> bool
-    requires { ⌜ length (now marks) % 2048 ≡ 0 ⌝ }
+    requires { ⌜ length (now marks) % 1024 ≡ 0 ⌝ }
     ensures { λ r. ⌜
-        (r ≡ false → (s ≡ last / 256 → ⊥) × (0 < left → s ≡ at / 256 → ⊥) × ((i : ℕ) → i < 256 → mark-of (now (marks .entry)) (256 * (s % 64) + i) ≡ 0)) ⌝ }
+        (r ≡ false → (s ≡ last / 256 → ⊥) × (0 < left → s ≡ at / 256 → ⊥) × ((i : ℕ) → i < 256 → mark-of (now (marks .entry)) (256 * (s % 32) + i) ≡ 0)) ⌝ }
 {
     if fat_link::is_changed(s, last, at, left) {
         return true;
     }
-    fat_release::has_mark(marks, 256 * sector::index(s % 64))
+    fat_release::has_mark(marks, 256 * sector::index(s % 32))
 }
 
 // Sector s of FAT2, from FAT1's: `last` leads to `value`, the new clusters in it are linked, the marked ones freed. One with no
@@ -48,10 +48,11 @@ fn renew_sector(
     limit: u32,
 ) -> Turn
     requires { ⌜
-        Held l (now w) × (s < l .fatsize) × (value < 65536) × Cursor l (own-fat l (now w)) at left × Above s at left × (length (now marks) % 2048 ≡ 0) ⌝ }
+        Held l (now w) × (s < l .fatsize) × (value < 65536) × Cursor l (own-fat l (now w)) at left × Above s at left × (length (now marks) % 1024 ≡ 0) ⌝ }
     ensures { λ r. ⌜
-        Ran limit (renewal (l .fat2 + s) (cleared (now (marks .entry))
-        (link (news l (own-fat l (now (w .entry))) at left) (lead last value (own-fat l (now (w .entry))))) s)
+        Ran limit
+        (renewal (l .fat2 + s)
+        (cleared (now (marks .entry)) (link (news l (own-fat l (now (w .entry))) at left) (lead last value (own-fat l (now (w .entry))))) s)
         (card-of (now (w .entry)) (l .fat2 + s))) (now (w .entry)) (now (w .exit)) (r .made) (r .whole)
         × Moved l (own-fat l (now (w .entry))) (s + 1) at left (r .at) (r .left) × Above (s + 1) (r .at) (r .left) ⌝ }
 {
@@ -66,7 +67,7 @@ fn renew_sector(
     }
     let b = fat_link::link_sector(w, l, s, last, value, at, left);
     let mut buf = b.buf;
-    fat_release::clear_marked(&mut buf, marks, 256 * sector::index(s % 64));
+    fat_release::clear_marked(&mut buf, marks, 256 * sector::index(s % 32));
     let p = fat_copy::store_changed(w, l.fat2 + s, &buf, limit);
     Turn {
         made: p.made,
@@ -77,7 +78,7 @@ fn renew_sector(
 }
 
 // All of FAT2: `last` leads to `value`, the n new clusters from `first` on are linked, and the m clusters from `old` on freed. The
-// marks of freed clusters need 2 KiB; none where nothing is freed.
+// marks of freed clusters need 1 KiB; none where nothing is freed.
 fn renew_all(
     w: &mut [u8],
     l: Layout,
@@ -91,7 +92,7 @@ fn renew_all(
     limit: u32,
 ) -> Progress
     requires { ⌜ Held l (now w) × (value < 65536) × Cursor l (own-fat l (now w)) first n × Inside l (chain (entry (own-fat l (now w))) m old) ⌝ }
-    requires { ⌜ (length (now marks) % 2048 ≡ 0) × (0 < m → length (now marks) ≡ 2048) ⌝ }
+    requires { ⌜ (length (now marks) % 1024 ≡ 0) × (0 < m → length (now marks) ≡ 1024) ⌝ }
     ensures { λ r. ⌜
         Ran limit (write-fat l (l .fat2) (passed l (own-fat l (now (w .entry))) last value first n m old) (fat2-of l (card-of (now (w .entry)))))
         (now (w .entry)) (now (w .exit)) (r .made) (r .whole) ⌝ }
@@ -125,7 +126,7 @@ fn free_clusters(
     limit: u32,
 ) -> Progress
     requires { ⌜ Held l (now w) × Inside l (chain (entry (fat1-of l (card-of (now w)))) m old) ⌝ }
-    requires { ⌜ (length (now marks) % 2048 ≡ 0) × (0 < m → length (now marks) ≡ 2048) ⌝ }
+    requires { ⌜ (length (now marks) % 1024 ≡ 0) × (0 < m → length (now marks) ≡ 1024) ⌝ }
     ensures { λ r. ⌜
         Ran limit (write-fat l (l .fat2) (cut (fat1-of l (card-of (now (w .entry)))) last old m) (fat2-of l (card-of (now (w .entry)))))
         (now (w .entry)) (now (w .exit)) (r .made) (r .whole) ⌝ }
@@ -150,11 +151,12 @@ fn renew_fat(
 ) -> Progress
     requires { ⌜
         Held l (now w) × (n ≤ length (free-clusters l (fat1-of l (card-of (now w))))) × Inside l (chain (entry (fat1-of l (card-of (now w)))) m old) ⌝ }
-    requires { ⌜ (length (now marks) % 2048 ≡ 0) × (0 < m → length (now marks) ≡ 2048) ⌝ }
+    requires { ⌜ (length (now marks) % 1024 ≡ 0) × (0 < m → length (now marks) ≡ 1024) ⌝ }
     ensures { λ r. ⌜
-        Ran limit (write-fat l (l .fat2) (renewed last (take n (free-clusters l (fat1-of l (card-of (now (w .entry))))))
-        (chain (entry (fat1-of l (card-of (now (w .entry))))) m old) (fat1-of l (card-of (now (w .entry)))))
-        (fat2-of l (card-of (now (w .entry))))) (now (w .entry)) (now (w .exit)) (r .made) (r .whole) ⌝ }
+        Ran limit
+        (write-fat l (l .fat2)
+        (renewed last (take n (free-clusters l (fat1-of l (card-of (now (w .entry)))))) (chain (entry (fat1-of l (card-of (now (w .entry))))) m old)
+        (fat1-of l (card-of (now (w .entry))))) (fat2-of l (card-of (now (w .entry))))) (now (w .entry)) (now (w .exit)) (r .made) (r .whole) ⌝ }
 {
     if n == 0 {
         return free_clusters(w, l, last, old, m, marks, limit);
@@ -171,7 +173,7 @@ pub fn shorten_fat(w: &mut [u8], l: Layout, last: u32, old: u32, m: u32, limit: 
         Ran limit (write-fat l (l .fat2) (cut (fat1-of l (card-of (now (w .entry)))) last old m) (fat2-of l (card-of (now (w .entry)))))
         (now (w .entry)) (now (w .exit)) (r .made) (r .whole) ⌝ }
 {
-    let mut marks = [0u8; 2048];
+    let mut marks = [0u8; 1024];
     renew_fat(w, l, last, 0, old, m, &mut marks, limit)
 }
 

@@ -1,6 +1,6 @@
 -- Laws of files along their chains: links, the last cluster, and the bytes read so far.
 use Prim.Native.Nat.{ℕ, zero, suc, _+_, _-_, _*_, _/_, _%_, _≤_, _<_, min}
-use native.Mathlib.Nat.{mul-le-mul}
+use native.Mathlib.Nat.{mul-le-mul, mul-le-mul-right, mod-lt, div-add-mod', div-eq-of-lt, mod-eq-of-lt, mul-add-div-right, mul-add-mod-self-right}
 use native.Mathlib.Omega.{arith}
 use mathlib.Core.Path.{_≡_, refl, sym, ap, _∙_}
 use mathlib.Core.List.{List}
@@ -10,7 +10,7 @@ use Rattle.model.specs.Bytes.{Bytes, bytes-of, overlay, part}
 use Rattle.model.specs.Sector.{Card, card-of}
 use Rattle.model.specs.Fat.{Fat, entry, fat1-of}
 use Rattle.model.specs.Chain.{chain, needed, keeps-chain, cluster-sector, file-sector}
-use Rattle.model.specs.Promises.{Fits, Held}
+use Rattle.model.specs.Promises.{Fits, Held, Shape}
 use Rattle.model.specs.declared.Layout.{Layout}
 use Rattle.model.specs.declared.File.{File}
 use Rattle.model.proofs.Indices.{all-getD}
@@ -22,7 +22,7 @@ use Rattle.model.proofs.Walks.{chain-length}
 use Rattle.model.proofs.Needed.{needed-none, needed-some}
 use Rattle.operations.specs.Plan.{clusters-of, last-cluster}
 use Rattle.operations.specs.Reading.{file-byte, reading}
-use Rattle.file_read.specs.Files.{links, Read, Fills}
+use Rattle.file_read.specs.Files.{links, bytes-from, Read, Fills}
 
 -- ---- links
 
@@ -86,23 +86,32 @@ in-window l xs k h less =
     let m : 4085 * 1 ≤ l .clusters * l .factor = mul-le-mul (h .fits .shape .many) (h .fits .shape .factor-low) in
     omega arith
 
--- ---- bytes of a sector
+-- The sectors of a cluster lie on the card to the last.
+pub cluster-end : (l : Layout) → Shape l → (k q : ℕ) → k < 2 + l .clusters → cluster-sector l k + q % l .factor + (l .factor - q % l .factor) ≤ l .total
+unfolding cluster-sector
+cluster-end l sh k q less =
+    let e : suc (k - 2) * l .factor ≤ l .clusters * l .factor = mul-le-mul-right (l .factor) (omega arith) in
+    let s : suc (k - 2) * l .factor ≡ (k - 2) * l .factor + l .factor = omega arith in
+    omega (arith, sh .data-end, mod-lt q {m = l .factor} (sh .factor-low))
 
--- Bytes of a sector, by their place in the window.
-pub sector-bytes : (xs : List ℕ) (s from n : ℕ) → from + n ≤ 512 → (m : ℕ) → m < n → getD xs (512 * s + from + m) 0 ≡ card-of xs s (from + m)
-sector-bytes xs s from n h m less = let z : 512 * s + from + m ≡ 512 * s + (from + m) = omega arith in rw z (sym (byte-in xs s (from + m) (omega arith)))
+-- ---- bytes of sectors
 
-pub read-sector-is : (w : List ℕ) (s from done count : ℕ) (e x : List ℕ) (n to start m r : ℕ) → n ≡ min (512 - from) (count - done) → to ≡ done
-    → start ≡ 512 * s + from
-    → m ≡ n → r ≡ done + n → from < 512 → ((i : ℕ) → getD x i 0 ≡ overlay m (part (bytes-of w) start) to (bytes-of e) i)
-    → Read (card-of w s) from done count e x r
-read-sector-is w s from done count e x n to start m r is t f k end low h =
+-- Bytes of the sectors from s on, by their place in the window.
+pub sector-bytes : (xs : List ℕ) (s from m : ℕ) → getD xs (512 * s + from + m) 0 ≡ bytes-from (card-of xs) s (from + m)
+sector-bytes xs s from m =
+    let z : 512 * s + from + m ≡ 512 * (s + (from + m) / 512) + (from + m) % 512 = omega arith in
+    ap (λ (i : ℕ). getD xs i 0) z ∙ sym (byte-in xs (s + (from + m) / 512) ((from + m) % 512) (omega arith))
+
+pub read-sectors-is : (w : List ℕ) (s size from done count : ℕ) (e x : List ℕ) (n to start m r : ℕ) → n ≡ min (size - from) (count - done)
+    → to ≡ done → start ≡ 512 * s + from → m ≡ n → r ≡ done + n → ((i : ℕ) → getD x i 0 ≡ overlay m (part (bytes-of w) start) to (bytes-of e) i)
+    → Read (bytes-from (card-of w) s) size from done count e x r
+read-sectors-is w s size from done count e x n to start m r is t f k end h =
     let z : m ≡ r - done = omega arith in
+    let b : Bytes = part (bytes-from (card-of w) s) from in
     record {
       reached = end ∙ ap (λ n. done + n) is;
-      bytes = λ i. h i
-          ∙ overlay-same m (part (bytes-of w) start) (part (card-of w s) from) to (bytes-of e) (λ j less. rw f (sector-bytes w s from m (omega arith) j less)) i
-          ∙ ap (λ n. overlay n (part (card-of w s) from) to (bytes-of e) i) z ∙ ap (λ a. overlay (r - done) (part (card-of w s) from) a (bytes-of e) i) t;
+      bytes = λ i. h i ∙ overlay-same m (part (bytes-of w) start) b to (bytes-of e) (λ j less. rw f (sector-bytes w s from j)) i
+          ∙ ap (λ n. overlay n b to (bytes-of e) i) z ∙ ap (λ a. overlay (r - done) b a (bytes-of e) i) t;
     }
 
 -- ---- the bytes of a file
@@ -121,26 +130,55 @@ file-along l one c f i h =
     ap (λ k. c (cluster-sector l k + i / 512 % l .factor) (i % 512))
     (sym (chain-at (entry (fat1-of l c)) (needed l (f .size)) (f .first) (i / 512 / l .factor) (in-needed l one (f .size) i h)))
 
--- The bytes of one sector, from byte `at` of the file on.
-pub along-sector : (l : Layout) (c : Card) (first k s at n : ℕ) → k ≡ links (entry (fat1-of l c)) (at / 512 / l .factor) first
-    → s ≡ cluster-sector l k + at / 512 % l .factor → at % 512 + n ≤ 512 → (m : ℕ) → m < n → c s (at % 512 + m) ≡ along l c first (at + m)
-unfolding along
-along-sector l c first k s at n e f h m less =
-    let u : (at + m) / 512 ≡ at / 512 = omega arith in
-    let v : (at + m) % 512 ≡ at % 512 + m = omega arith in
-    rw (u, v, ← e, ← f)
+-- Each turn reads something.
+pub read-on : (size from done count r : ℕ) → r ≡ done + min (size - from) (count - done) → from < size → done < count → count - r < count - done
+read-on size from done count r is low more = omega arith
 
--- What is read so far, and the bytes of one more sector.
-pub read-more : (l : Layout) (c : Card) (first k s offset i count r : ℕ) (e x y : List ℕ)
+below-end : (a b r : ℕ) → r < b → a < 512 → a < 512 * (b - r)
+below-end a b r less h = omega arith
+
+-- The offset in a sector is below the bytes of the cluster from that sector on.
+pub from-low : (l : Layout) → 1 ≤ l .factor → (at : ℕ) → at % 512 < 512 * (l .factor - at / 512 % l .factor)
+from-low l one at = below-end (at % 512) (l .factor) (at / 512 % l .factor) (mod-lt (at / 512) {m = l .factor} one) (omega arith)
+
+-- A number y further on, within the same f.
+within : (q y f : ℕ) → q % f + y < f → ((q + y) / f ≡ q / f) × ((q + y) % f ≡ q % f + y)
+within q y f less =
+    let d : q / f * f + q % f ≡ q = div-add-mod' q f in
+    let z : q + y ≡ q / f * f + (q % f + y) = omega arith in
+    let none : (q % f + y) / f ≡ 0 = div-eq-of-lt less in
+    let same : q / f + 0 ≡ q / f = omega arith in (
+      ap (λ (n : ℕ). n / f) z ∙ mul-add-div-right (omega arith) (q / f) (q % f + y) ∙ ap (λ (n : ℕ). q / f + n) none ∙ same,
+      ap (λ (n : ℕ). n % f) z ∙ mul-add-mod-self-right (q / f) f (q % f + y) ∙ mod-eq-of-lt less,
+    )
+
+-- The bytes of a cluster, from byte `at` of the file on.
+pub along-cluster : (l : Layout) (c : Card) (first k s at n : ℕ) → k ≡ links (entry (fat1-of l c)) (at / 512 / l .factor) first
+    → s ≡ cluster-sector l k + at / 512 % l .factor → at % 512 + n ≤ 512 * (l .factor - at / 512 % l .factor)
+    → (m : ℕ) → m < n → bytes-from c s (at % 512 + m) ≡ along l c first (at + m)
+unfolding along
+along-cluster l c first k s at n e f h m less =
+    let y : ℕ = (at % 512 + m) / 512 in
+    let u : (at + m) / 512 ≡ at / 512 + (at % 512 + m) / 512 = omega arith in
+    let v : (at + m) % 512 ≡ (at % 512 + m) % 512 = omega arith in
+    let same = within (at / 512) ((at % 512 + m) / 512) (l .factor) (omega arith) in
+    let place : s + (at % 512 + m) / 512 ≡ cluster-sector l k + (at / 512 % l .factor + (at % 512 + m) / 512) = omega (arith, f) in
+    rw (u, v, same .0, same .1, ← e) (ap (λ (z : ℕ). c z ((at % 512 + m) % 512)) place)
+
+-- What is read so far, and the bytes of one more cluster.
+pub read-more : (l : Layout) (c : Card) (first k s size offset i count r : ℕ) (e x y : List ℕ)
     → k ≡ links (entry (fat1-of l c)) ((offset + i) / 512 / l .factor) first → s ≡ cluster-sector l k + (offset + i) / 512 % l .factor
-    → Read (c s) ((offset + i) % 512) i count x y r → ((j : ℕ) → getD x j 0 ≡ overlay i (part (along l c first) offset) 0 (bytes-of e) j)
+    → size ≡ 512 * (l .factor - (offset + i) / 512 % l .factor) → (offset + i) % 512 ≤ size
+    → Read (bytes-from c s) size ((offset + i) % 512) i count x y r → ((j : ℕ) → getD x j 0 ≡ overlay i (part (along l c first) offset) 0 (bytes-of e) j)
     → (j : ℕ) → getD y j 0 ≡ overlay r (part (along l c first) offset) 0 (bytes-of e) j
-read-more l c first k s offset i count r e x y at is got so j =
+read-more l c first k s size offset i count r e x y at is end low got so j =
     let z : i + (r - i) ≡ r = omega (arith, got .reached) in
     let p : Bytes = part (along l c first) offset in
-    let here : (m : ℕ) → m < r - i → c s ((offset + i) % 512 + m) ≡ part p i m =
-    λ m less. along-sector l c first k s (offset + i) (r - i) at is (omega (arith, got .reached)) m less ∙ ap (along l c first) (omega arith) in
-    overlay-next p e x y i (r - i) so (λ j. got .bytes j ∙ overlay-same (r - i) (part (c s) ((offset + i) % 512)) (part p i) i (bytes-of x) here j) j
+    let b : Bytes = part (bytes-from c s) ((offset + i) % 512) in
+    let fits : (offset + i) % 512 + (r - i) ≤ 512 * (l .factor - (offset + i) / 512 % l .factor) = omega (arith, got .reached) in
+    let here : (m : ℕ) → m < r - i → bytes-from c s ((offset + i) % 512 + m) ≡ part p i m =
+    λ m less. along-cluster l c first k s (offset + i) (r - i) at is fits m less ∙ ap (along l c first) (omega arith) in
+    overlay-next p e x y i (r - i) so (λ j. got .bytes j ∙ overlay-same (r - i) b (part p i) i (bytes-of x) here j) j
     ∙ ap (λ n. overlay n p 0 (bytes-of e) j) z
 
 -- All is read, or nothing is to be.

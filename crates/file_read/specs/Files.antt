@@ -1,5 +1,5 @@
 -- Words that the contracts use: the chain rule, links of a chain, and what reading leaves of a lent buffer.
-use Prim.Native.Nat.{ℕ, zero, suc, _+_, _-_, min}
+use Prim.Native.Nat.{ℕ, zero, suc, _+_, _-_, _/_, _%_, min}
 use mathlib.Core.Path.{_≡_}
 use mathlib.Core.Bool.{true}
 use mathlib.Core.List.{List}
@@ -21,9 +21,13 @@ unfoldable pub links : (ℕ → ℕ) → ℕ → ℕ → ℕ
 links e zero k = k
 links e (suc n) k = e (links e n k)
 
--- The bytes b of a sector, from an offset on, have been laid over a buffer from `done` to r: up to the sector's end, or to count.
-pub record Read (b : Bytes) (from done count : ℕ) (entry exit : List ℕ) (r : ℕ) : Type 0 where
-  pub reached : r ≡ done + min (512 - from) (count - done)
+-- The bytes of a card from sector s on.
+abbrev pub bytes-from : Card → ℕ → Bytes
+bytes-from c s j = c (s + j / 512) (j % 512)
+
+-- The bytes b, `size` in number, from an offset on, have been laid over a buffer from `done` to r: up to their end, or to count.
+pub record Read (b : Bytes) (size from done count : ℕ) (entry exit : List ℕ) (r : ℕ) : Type 0 where
+  pub reached : r ≡ done + min (size - from) (count - done)
   pub bytes : (i : ℕ) → getD exit i 0 ≡ overlay (r - done) (part b from) done (bytes-of entry) i
 
 -- A buffer has been filled as f says; `count` is f's.

@@ -2,7 +2,7 @@
 use model::File;
 use model::Layout;
 ghost use mathlib.Core.Path.{_≡_};
-ghost use Prim.Native.Nat.{ℕ, _+_, _*_, _%_, _≤_, _<_, min};
+ghost use Prim.Native.Nat.{ℕ, _+_, _-_, _*_, _%_, _≤_, _<_, min};
 ghost use lib.ListN.{length, getD};
 ghost use Rattle.model.specs.Bytes.{bytes-of, overlay, part};
 ghost use Rattle.model.specs.Sector.{card-of};
@@ -11,7 +11,7 @@ ghost use Rattle.model.specs.Chain.{cluster-sector};
 ghost use Rattle.model.specs.Promises.{Fits, Held};
 ghost use Rattle.operations.specs.Plan.{clusters-of, last-cluster};
 ghost use Rattle.operations.specs.Reading.{reading};
-ghost use Rattle.file_read.specs.Files.{Proper, links, Read, Fills};
+ghost use Rattle.file_read.specs.Files.{Proper, links, bytes-from, Read, Fills};
 
 // n, but no more than the room.
 fn least(room: usize, n: u32) -> u32
@@ -63,17 +63,26 @@ pub fn last_cluster(w: &[u8], l: Layout, f: File) -> u32
 // The sector of a file's 512 bytes number q, in cluster k.
 pub fn sector_in(l: Layout, k: u32, q: u32) -> u32
     requires { ⌜ Fits l × (2 ≤ k) × (k < 2 + l .clusters) ⌝ }
-    ensures { λ r. ⌜ (r ≡ cluster-sector l k + q % l .factor) × (l .start ≤ r) × (r < l .total) ⌝ }
+    ensures { λ r. ⌜ (r ≡ cluster-sector l k + q % l .factor) × (l .start ≤ r) × (r < l .total) × (r + (l .factor - q % l .factor) ≤ l .total) ⌝ }
 {
     l.start + (k - 2) * l.factor + q % l.factor
 }
 
-// The bytes of sector s from an offset on, into the buffer from `done` on, up to `count`; and how far the buffer is then done.
-fn read_sector(buffer: &mut [u8], w: &[u8], s: u32, from: u32, done: u32, count: u32) -> u32
-    requires { ⌜ (512 * s + 512 ≤ length (now w)) × (from < 512) × (done ≤ count) × (count ≤ length (now buffer)) ⌝ }
-    ensures { λ r. ⌜ Read (card-of (now (w .entry)) s) from done count (now (buffer .entry)) (now (buffer .exit)) r ⌝ }
+// The bytes of the m sectors from s on, from an offset on, into the buffer from `done` on, up to `count`; and how far the buffer
+// is then done.
+fn read_sectors(
+    buffer: &mut [u8],
+    w: &[u8],
+    s: u32,
+    m: u32,
+    from: u32,
+    done: u32,
+    count: u32,
+) -> u32
+    requires { ⌜ (512 * (s + m) ≤ length (now w)) × (m ≤ 64) × (from < 512 * m) × (done ≤ count) × (count ≤ length (now buffer)) ⌝ }
+    ensures { λ r. ⌜ Read (bytes-from (card-of (now (w .entry))) s) (512 * m) from done count (now (buffer .entry)) (now (buffer .exit)) r ⌝ }
 {
-    let n = least(sector::index(512 - from), count - done);
+    let n = least(sector::index(512 * m - from), count - done);
     copy(
         buffer,
         sector::index(done),
@@ -85,7 +94,7 @@ fn read_sector(buffer: &mut [u8], w: &[u8], s: u32, from: u32, done: u32, count:
 }
 
 // The bytes of a file that keeps the chain rule, from an offset within it on, as many as the buffer takes; and how many. The
-// cluster reached and its number go along, so that each link is followed once.
+// cluster reached and its number go along, so that each link is followed once; what is read of a cluster is copied at once.
 fn read_within(w: &[u8], l: Layout, f: File, offset: u32, buffer: &mut [u8]) -> u32
     requires { ⌜ Held l (now w) × Proper l (card-of (now w)) f × (offset < f .size) ⌝ }
     ensures { λ r. ⌜ Fills (reading l (card-of (now (w .entry))) f offset (length (now (buffer .entry)))) (now (buffer .entry)) (now (buffer .exit)) r ⌝ }
@@ -100,7 +109,8 @@ fn read_within(w: &[u8], l: Layout, f: File, offset: u32, buffer: &mut [u8]) -> 
         let x = q / l.factor;
         cluster = follow(w, l, cluster, x - index);
         index = x;
-        done = read_sector(buffer, w, sector_in(l, cluster, q), at % 512, done, count);
+        let s = sector_in(l, cluster, q);
+        done = read_sectors(buffer, w, s, l.factor - q % l.factor, at % 512, done, count);
     }
     count
 }

@@ -122,6 +122,12 @@ impl Card {
         2 + LOG_SECTORS / usize::from(self.shape.sectors_per_cluster)
     }
 
+    /// The size of a file in all clusters but those of the log.
+    pub fn largest_file(shape: Shape) -> usize {
+        let sectors = usize::from(shape.sectors_per_cluster);
+        512 * sectors * (shape.clusters as usize - LOG_SECTORS / sectors)
+    }
+
     /// Where the bytes of that cluster begin.
     pub fn first_data(&self) -> usize {
         512 * (self.shape.data() + LOG_SECTORS)
@@ -168,10 +174,10 @@ impl Shape {
     }
 }
 
-/// The same clusters in another order. Their number is a power of two, so an odd step meets each once.
+/// The same clusters in another order. The step is a prime that does not divide their number, so it meets each once.
 fn mixed(clusters: Vec<usize>) -> Vec<usize> {
     let count = clusters.len();
-    assert!(count == 0 || count.is_power_of_two());
+    assert!(count == 0 || count % 7_919 != 0);
     (0..count)
         .map(|index| clusters[index * 7_919 % count])
         .collect()

@@ -1,7 +1,7 @@
 //! Prints docs/BENCH.md: each call of the library against the independent Rust implementation, on the same input.
 //!
 //! `cargo run --release --offline -p bench > ../docs/BENCH.md` in `host`, after `rt staticlib lfat`. With `-- --floor` only what is
-//! set against memcmp and memcpy, in seconds.
+//! set against memcmp and memcpy, with `-- --only TEXT` only the calls whose row has the text.
 
 mod cards;
 mod cost;
@@ -14,8 +14,13 @@ mod timing;
 use testkit::call;
 
 fn main() {
-    if std::env::args().any(|word| word == "--floor") {
+    let words: Vec<String> = std::env::args().skip(1).collect();
+    if words.first().is_some_and(|word| word == "--floor") {
         return floor::print();
+    }
+    if let [flag, text] = &words[..] {
+        assert_eq!(flag, "--only", "--floor, or --only TEXT, or nothing");
+        return speed::print_only(text);
     }
     println!("# Speed and write cost\n");
     println!(

@@ -20,10 +20,18 @@ pub fn print() {
         "A cell is library / plain = ratio of medians, in microseconds. Columns are clusters × sectors per cluster. *One piece*: the\n\
          file, or the room for it, lies in consecutive clusters; *scattered*: spread over the whole card, files in mixed order.\n"
     );
+    print_only("");
+}
+
+/// The rows whose text has this in it.
+pub fn print_only(text: &str) {
     println!("| call | 4,085 × 1 | 4,085 × 64 | 65,524 × 1 | 65,524 × 64 |");
     println!("|---|---|---|---|---|");
     let mut ratios = Vec::new();
     for (what, setup) in rows() {
+        if !what.contains(text) {
+            continue;
+        }
         print!("| {what} |");
         for shape in SHAPES {
             let (mut card, call) = setup(shape);
@@ -106,6 +114,15 @@ fn rows() -> Vec<(String, Setup)> {
                 Box::new(move |shape| (cut_append(shape, layout, size), Call::Recover)),
             );
         }
+    }
+    for (layout, layout_text) in LAYOUTS {
+        row(
+            format!("delete a file in all clusters, {layout_text}"),
+            Box::new(move |shape| {
+                let card = Card::with_file(shape, layout, Card::largest_file(shape));
+                (card, Call::Delete(name()))
+            }),
+        );
     }
     rows
 }

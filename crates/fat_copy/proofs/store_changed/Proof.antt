@@ -15,9 +15,9 @@ returns c = rw (renewal-none _ _ _ (sym (c .before .alters .ensures) ∙ not-tru
 
 returns-2 : tie.Need-returns-2
 returns-2 c =
-    let alters = c .before .before .before .before .before .alters in
-    let if1 = c .before .before .before .before .if1 in
-    rw (renewal-one _ _ _ (sym (alters .ensures) ∙ not-false _ (if1 .left))) (c .before .before .store-sector .ensures)
+    let the-if1 = c .before .before .before .before .if1 in
+    let the-alters = c .before .before .before .before .before .alters in
+    rw (renewal-one _ _ _ (sym (the-alters .ensures) ∙ not-false _ (the-if1 .left))) (c .before .before .store-sector .ensures)
 
 pub store-changed-spec : {M : Type 1} → statement M
 store-changed-spec =

@@ -32,17 +32,17 @@ add-found c = omega arith
 
 loop-again : tie.Need-loop-again Inv-loop μ-loop
 loop-again c =
-    let turn = c .before .before .before .before .loop in
+    let o = c .before .before .before .before .loop in
     let a = c .before .before .before .before .before .before .before .before .args in
     let p = holds (a .v) (fat-at (card-of (a .w .now)) (a .fat)) in
-    let i = turn .i in
+    let i = o .i in
     let k = a .k + i in
     let e = flat (a .w .now) (a .fat) k _ _ (omega arith) (c .before .pair .ensures .is) in (
       search needs,
       ⊎-elim (λ u. omega (arith, u .1)) (λ u. omega (arith, u .1)) (c .if1 .came),
       ⊎-elim
-          (λ u. u .1 ∙ count-hit p (a .k) i (turn .found) k (turn .inv .2) (omega arith) (eq-eqb _ _ (sym e ∙ u .0 .taken)))
-          (λ u. u .1 ∙ count-miss p (a .k) i (turn .found) k (turn .inv .2) (omega arith) (ne-eqb _ _ (λ q. u .0 .left (e ∙ q))))
+          (λ u. u .1 ∙ count-hit p (a .k) i (o .found) k (o .inv .2) (omega arith) (eq-eqb _ _ (sym e ∙ u .0 .taken)))
+          (λ u. u .1 ∙ count-miss p (a .k) i (o .found) k (o .inv .2) (omega arith) (ne-eqb _ _ (λ q. u .0 .left (e ∙ q))))
           (c .if1 .came),
     )
 

@@ -15,9 +15,9 @@ returns c =
 
 returns-2 : tie.Need-returns-2
 returns-2 c =
-    let a = c .before .before .args in
-    sym (reserved-marks (a .l) (a .v) (omega arith) ∙ ap marks (sym (c .before .classify .ensures))
-    ∙ not-reserved (c .before .classify .result) (c .match .keys2))
+    let args = c .before .before .args in
+    sym (reserved-marks (args .l) (args .v) (omega arith) ∙ ap marks (sym (c .before .classify .ensures)) ∙ not-reserved
+    (c .before .classify .result) (c .match .keys2))
 
 pub is-reserved-spec : {M : Type 1} → statement M
 is-reserved-spec = tie.close (tie.spec (λ c κs. search needs) (λ c. search needs) returns returns-2)

@@ -16,8 +16,8 @@ use Rattle.fat_release.proofs.clear_marked.Lts as lts
 use Rattle.fat_release.proofs.clear_eight.Reads as clear-eight-reads
 
 abbrev Inv-loop : tie.InvT-loop
-Inv-loop buf₀ marks at k₀ buf k = (k ≤ 32) × (length buf ≡ 512)
-    × ((j : ℕ) → j < 16 * k → getD buf j 0 ≡ pick (eqb (mark-of marks (at + j / 2)) 0) (getD buf₀ j 0) 0)
+Inv-loop buf₀ marks at k₀ buf k = (k ≤ 32) × (length buf ≡ 512) ×
+    ((j : ℕ) → j < 16 * k → getD buf j 0 ≡ pick (eqb (mark-of marks (at + j / 2)) 0) (getD buf₀ j 0) 0)
     × ((j : ℕ) → 16 * k ≤ j → getD buf j 0 ≡ getD buf₀ j 0)
 
 abbrev μ-loop : tie.MeasureT-loop
@@ -31,14 +31,14 @@ loop-holds c = (search needs, search needs, λ j h. absurd (omega arith), λ j h
 
 loop-again : tie.Need-loop-again Inv-loop μ-loop
 loop-again c =
-    let pre = c .before .before .before .before .before .before .before .before .before .before .pre in
+    let h0 = c .before .before .before .before .before .before .before .before .before .before .pre in
     let a = c .before .before .before .before .before .before .before .before .before .before .args in
     let o = c .before .before .before .before .before .before .loop in
     let e = c .before .before .clear-eight .ensures in (
       search needs,
       search needs,
       λ j h. ⊎-elim
-          (λ q. (rw (mark-in (a .marks .now) (a .at) (o .k) j (pre .1) q, o .inv .3 j (omega arith)) at (e .0 j q)))
+          (λ q. (rw (mark-in (a .marks .now) (a .at) (o .k) j (h0 .1) q, o .inv .3 j (omega arith)) at (e .0 j q)))
           (λ ne. e .1 j ne ∙ o .inv .2 j (omega arith)) (same? (j / 16) (o .k)),
       λ j h. e .1 j (λ q. omega arith) ∙ o .inv .3 j (omega arith),
     )

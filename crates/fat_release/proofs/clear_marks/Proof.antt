@@ -26,8 +26,8 @@ loop-again : tie.Need-loop-again Inv-loop μ-loop
 loop-again c = (
   simp length-set (omega arith),
   simp length-set (c .before .loop .inv .1),
-  copied-more (λ _. 0) (c .before .loop .marks)
-      (c .before .loop .i) (omega arith) (c .before .loop .inv .2),
+  copied-more (λ _. 0) (c .before .loop .marks) (c .before .loop .i) (omega arith)
+      (c .before .loop .inv .2),
 )
 
 returns : tie.Need-returns Inv-loop μ-loop

@@ -17,10 +17,10 @@ renew-fat-requires c κs = ((search needs, search needs, tt), (refl, λ p. absur
 
 returns : tie.Need-returns
 returns c =
-    let pre = c .before .before .before .before .before .before .before .pre in
-    let renew-fat = c .before .before .before .renew-fat in
+    let the-renew-fat = c .before .before .before .renew-fat in
+    let h0 = c .before .before .before .before .before .before .before .pre in
     let a = c .before .before .before .before .before .before .before .args in
-    rw (← renewed-append (a .l) (fat1-of (a .l) (card-of (a .w .now))) (a .last) (a .n) 0 (pre .1)) (renew-fat .ensures)
+    rw (← renewed-append (a .l) (fat1-of (a .l) (card-of (a .w .now))) (a .last) (a .n) 0 (h0 .1)) (the-renew-fat .ensures)
 
 pub extend-fat-spec : {M : Type 1} → statement M
 extend-fat-spec = tie.close (tie.spec (λ c. search needs) renew-fat-requires (λ c. search needs) returns)

@@ -32,28 +32,22 @@ returns c = let a = c .before .before .before .before .before .before .before .b
 
 renew-all-requires-2 : tie.Need-renew-all-requires-2
 renew-all-requires-2 c κs =
-    let pre = c .before .before .before .before .before .pre in
+    let h0 = c .before .before .before .before .before .pre in
     let a = c .before .before .before .before .before .args in (
-      (
-        search needs,
-        search needs,
-        no-cursor _ _,
-        rw (own-chain (a .l) (card-of (a .w .now)) (pre .0 .0 .fits .shape) (a .m) (a .old) (pre .0 .1))
-            (pre .0 .1),
-      ),
-      pre .1,
+      (search needs, search needs, no-cursor _ _, rw (own-chain (a .l) (card-of (a .w .now)) (h0 .0 .0 .fits .shape) (a .m) (a .old) (h0 .0 .1)) (h0 .0 .1)),
+      h0 .1,
     )
 
 returns-2 : tie.Need-returns-2
 returns-2 c =
-    let pre = c .before .before .before .before .before .before .before .before .before .before .pre in
-    let renew-all2 = c .before .before .before .before .renew-all2 in
+    let the-renew-all2 = c .before .before .before .before .renew-all2 in
+    let h0 = c .before .before .before .before .before .before .before .before .before .before .pre in
     let a = c .before .before .before .before .before .before .before .before .before .before .args in
     let x = card-of (a .w .now) in
     rw (write-same (a .l) (cut (fat1-of (a .l) x) (a .last) (a .old) (a .m))
     (passed (a .l) (own-fat (a .l) (a .w .now)) (a .last) end-value 0 0 (a .m) (a .old)) (fat2-of (a .l) x)
-    (λ s j h b. passed-cut (a .l) x (pre .0 .0 .fits .shape) (a .last) (a .old) (a .m) (pre .0 .1) s j (omega arith) h))
-    (renew-all2 .ensures)
+    (λ s j h b. passed-cut (a .l) x (h0 .0 .0 .fits .shape) (a .last) (a .old) (a .m) (h0 .0 .1) s j (omega arith) h))
+    (the-renew-all2 .ensures)
 
 pub free-clusters-spec : {M : Type 1} → statement M
 free-clusters-spec =

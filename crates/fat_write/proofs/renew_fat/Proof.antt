@@ -21,42 +21,42 @@ use Rattle.fat_write.proofs.renew_all.Reads as renew-all-reads
 
 returns : tie.Need-returns
 returns c =
-    let if1 = c .before .before .before .before .before .before .before .if1 in
-    let free-clusters-2 = c .before .before .before .before .free-clusters in
+    let the-free-clusters = c .before .before .before .before .free-clusters in
+    let the-if1 = c .before .before .before .before .before .before .before .if1 in
     let a = c .before .before .before .before .before .before .before .before .before .before .args in
     let t = fat1-of (a .l) (card-of (a .w .now)) in
-    rw (if1 .taken, renewed-cut (free-clusters (a .l) t) t (a .last) (a .old) (a .m)) (free-clusters-2 .ensures)
+    rw (the-if1 .taken, renewed-cut (free-clusters (a .l) t) t (a .last) (a .old) (a .m)) (the-free-clusters .ensures)
 
 renew-all-requires : tie.Need-renew-all-requires
 renew-all-requires c κs =
-    let pre = c .before .before .before .before .before .before .before .pre in
     let find-entry = c .before .before .find-entry in
+    let h0 = c .before .before .before .before .before .before .before .pre in
     let a = c .before .before .before .before .before .before .before .args in
     let x = card-of (a .w .now) in (
       (
         search needs,
-        omega (arith, find-entry .ensures .2, pre .0 .0 .fits .shape .few),
-        first-cursor (a .l) x (pre .0 .0 .fits .shape) (a .n) (find-entry .result) (pre .0 .1)
-            (find-entry .ensures .0 ∙ own-first (a .l) x 2 (a .l .clusters) (omega (arith, pre .0 .0))),
-        rw (own-chain (a .l) x (pre .0 .0 .fits .shape) (a .m) (a .old) (pre .0 .2)) (pre .0 .2),
+        omega (arith, find-entry .ensures .2, h0 .0 .0 .fits .shape .few),
+        first-cursor (a .l) x (h0 .0 .0 .fits .shape) (a .n) (find-entry .result) (h0 .0 .1)
+            (find-entry .ensures .0 ∙ own-first (a .l) x 2 (a .l .clusters) (omega (arith, h0 .0 .0))),
+        rw (own-chain (a .l) x (h0 .0 .0 .fits .shape) (a .m) (a .old) (h0 .0 .2)) (h0 .0 .2),
       ),
-      pre .1,
+      h0 .1,
     )
 
 returns-2 : tie.Need-returns-2
 returns-2 c =
-    let pre = c .before .before .before .before .before .before .before .before .before .before .before .before .pre in
-    let find-entry = c .before .before .before .before .before .before .before .find-entry in
-    let renew-all = c .before .before .before .before .renew-all in
+    let the-renew-all = c .before .before .before .before .renew-all in
+    let the-find-entry = c .before .before .before .before .before .before .before .find-entry in
+    let h0 = c .before .before .before .before .before .before .before .before .before .before .before .before .pre in
     let a = c .before .before .before .before .before .before .before .before .before .before .before .before .args in
     let x = card-of (a .w .now) in
     let t = fat1-of (a .l) x in
-    let r = find-entry .result in
-    let is = find-entry .ensures .0 ∙ own-first (a .l) x 2 (a .l .clusters) (omega (arith, pre .0 .0)) in
+    let r = the-find-entry .result in
+    let is = the-find-entry .ensures .0 ∙ own-first (a .l) x 2 (a .l .clusters) (omega (arith, h0 .0 .0)) in
     rw (write-same (a .l) (renewed (a .last) (take (a .n) (free-clusters (a .l) t)) (chain (entry t) (a .m) (a .old)) t)
     (passed (a .l) (own-fat (a .l) (a .w .now)) (a .last) r r (a .n) (a .m) (a .old)) (fat2-of (a .l) x)
-    (λ s j h b. passed-some (a .l) x (pre .0 .0 .fits .shape) (a .last) (a .old) (a .m) (pre .0 .2) (a .n) r (pre .0 .1) is (omega arith) s j h))
-    (renew-all .ensures)
+    (λ s j h b. passed-some (a .l) x (h0 .0 .0 .fits .shape) (a .last) (a .old) (a .m) (h0 .0 .2) (a .n) r (h0 .0 .1) is (omega arith) s j h))
+    (the-renew-all .ensures)
 
 pub renew-fat-spec : {M : Type 1} → statement M
 renew-fat-spec =

@@ -27,18 +27,19 @@ part-store-from-end c = let f = c .before .before .before .before .is-filled .en
 
 returns : tie.Need-returns
 returns c =
-    let is-filled = c .before .before .before .before .before .before .before .before .is-filled in
-    let if1 = c .before .before .before .before .before .before .before .if1 in
-    let index = c .before .before .before .before .before .before .index in
-    let index2 = c .before .before .before .before .before .index2 in
     let store-from = c .before .before .store-from in
+    let the-index2 = c .before .before .before .before .before .index2 in
+    let the-index = c .before .before .before .before .before .before .index in
+    let the-if1 = c .before .before .before .before .before .before .before .if1 in
+    let the-is-filled = c .before .before .before .before .before .before .before .before .is-filled in
     let a = c .before .before .before .before .before .before .before .before .before .before .before .args in
-    let f = is-filled .ensures (if1 .taken) in
-    let from = 512 * index .result - index2 .result in
+    let f = the-is-filled .ensures (the-if1 .taken) in
+    let from = 512 * the-index .result - the-index2 .result in
     let k : from + 512 - from ≡ 512 = omega arith in
     let d = card-of (a .w .now) in
     let b = bytes-of (take 512 (drop from (a .new .now))) in
-    ran-same (a .limit) (a .w .now) (store-from .last .0) (store-from .result .made) (store-from .result .whole) (store (a .s) b ∷ [])
+    ran-same (a .limit) (a .w .now) (store-from .last .0) (store-from .result .made)
+    (store-from .result .whole) (store (a .s) b ∷ [])
     (append-sector d (a .s) (a .size) (view (a .new .now)) (a .q) ∷ [])
     (ap (λ (z : Store). z ∷ []) (append-is d (a .s) (a .size) (view (a .new .now)) (a .q) b
     (filled (d (a .s)) (a .size) (a .new .now) (a .q) from (f .0) (f .1) (omega (arith, f .0)))))
@@ -46,14 +47,15 @@ returns c =
 
 returns-2 : tie.Need-returns-2
 returns-2 c =
-    let build = c .before .before .before .before .before .build in
     let store-sector = c .before .before .store-sector in
+    let the-build = c .before .before .before .before .before .build in
     let a = c .before .before .before .before .before .before .before .before .before .before .before .args in
     let d = card-of (a .w .now) in
-    let b = bytes-of (build .result) in
-    ran-same (a .limit) (a .w .now) (store-sector .last .0) (store-sector .result .made) (store-sector .result .whole) (store (a .s) b ∷ [])
+    let b = bytes-of (the-build .result) in
+    ran-same (a .limit) (a .w .now) (store-sector .last .0) (store-sector .result .made)
+    (store-sector .result .whole) (store (a .s) b ∷ [])
     (append-sector d (a .s) (a .size) (view (a .new .now)) (a .q) ∷ [])
-    (ap (λ (z : Store). z ∷ []) (append-is d (a .s) (a .size) (view (a .new .now)) (a .q) b (build .ensures))) (store-sector .ensures)
+    (ap (λ (z : Store). z ∷ []) (append-is d (a .s) (a .size) (view (a .new .now)) (a .q) b (the-build .ensures))) (store-sector .ensures)
 
 pub append-sector-spec : {M : Type 1} → statement M
 append-sector-spec =

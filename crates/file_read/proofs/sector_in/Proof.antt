@@ -2,6 +2,7 @@ use mathlib.Core.Path.{refl}
 use native.Mathlib.Omega.{arith}
 use Rattle.model.specs.Chain.{cluster-sector}
 use Rattle.operations.proofs.DataStores.{in-data}
+use Rattle.file_read.proofs.Laws.{cluster-end}
 use borrow.Author.Needs.{needs}
 use Rattle.file_read.proofs.sector_in.Statement.{statement}
 use Rattle.file_read.proofs.sector_in.Tie as tie
@@ -15,23 +16,29 @@ mul-result c = omega (arith, in-data (c .before .args .l) (c .before .pre .0 .sh
 add-result : tie.Need-add-result
 unfolding cluster-sector
 add-result c =
-    let a = c .before .before .args in
+    let args = c .before .before .args in
     let pre = c .before .before .pre in
-    omega (arith, in-data (a .l) (pre .0 .shape) (a .k) (a .q) (pre .2))
+    omega (
+      arith,
+      in-data (args .l) (pre .0 .shape) (args .k) (args .q)
+          (pre .2),
+    )
 
 add-result-2 : tie.Need-add-result-2
 unfolding cluster-sector
 add-result-2 c =
     let a = c .before .before .before .args in
-    let pre = c .before .before .before .pre in
-    omega (arith, in-data (a .l) (pre .0 .shape) (a .k) (a .q) (pre .2))
+    let h0 = c .before .before .before .pre in
+    omega (arith, in-data (a .l) (h0 .0 .shape) (a .k) (a .q) (h0 .2))
 
 returns : tie.Need-returns
 unfolding cluster-sector
 returns c =
-    let a = c .before .before .before .args in
     let pre = c .before .before .before .pre in
-    let r = in-data (a .l) (pre .0 .shape) (a .k) (a .q) (pre .2) in (refl, r .0, r .1)
+    let a = c .before .before .before .args in
+    let sh = pre .0 .shape in
+    let r = in-data (a .l) sh (a .k) (a .q) (pre .2) in
+    (refl, r .0, r .1, cluster-end (a .l) sh (a .k) (a .q) (pre .2))
 
 pub sector-in-spec : {M : Type 1} → statement M
 sector-in-spec =

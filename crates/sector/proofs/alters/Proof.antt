@@ -24,22 +24,22 @@ loop-holds c = (search needs, all-none _)
 
 loop-again : tie.Need-loop-again Inv-loop μ-loop
 loop-again c =
-    let args = c .before .before .before .before .before .before .args in
-    let index = c .before .before .before .before .index in
-    let turn = c .before .before .before .loop in
-    let w = args .w .now in
-    let p = equal (bytes-of (args .buf .now)) (λ m. getD w (512 * index .result + m) 0) in
-    (search needs, all-more p (turn .j) (turn .alike) (turn .inv .1))
+    let o = c .before .before .before .loop in
+    let the-index = c .before .before .before .before .index in
+    let a = c .before .before .before .before .before .before .args in
+    let w = a .w .now in
+    let p = equal (bytes-of (a .buf .now)) (λ m. getD w (512 * the-index .result + m) 0) in
+    (search needs, all-more p (o .j) (o .alike) (o .inv .1))
 
 returns : tie.Need-returns Inv-loop μ-loop
 returns c =
-    let args = c .before .before .before .before .args in
-    let index = c .before .before .index in
-    let w = args .w .now in
-    let x = bytes-of (args .buf .now) in
-    let a = index .result in
-    compared x (λ m. getD w (512 * a + m) 0) x (card-of w (args .s))
-    (λ j h. refl) (in-sector w a (args .s) (index .ensures)) (c .before .loop .j) (omega arith) (c .before .loop .alike) (c .before .loop .inv .1)
+    let a1 = c .before .before .before .before .args in
+    let w = a1 .w .now in
+    let x = bytes-of (a1 .buf .now) in
+    let a = c .before .before .index .result in
+    compared x (λ m. getD w (512 * a + m) 0) x (card-of w (a1 .s))
+    (λ j h. refl) (in-sector w a (a1 .s) (c .before .before .index .ensures)) (c .before .loop .j) (omega arith) (c .before .loop .alike)
+    (c .before .loop .inv .1)
 
 pub alters-spec : {M : Type 1} → statement M
 alters-spec =

@@ -23,25 +23,24 @@ loop-holds c = (search needs, all-none _)
 
 loop-again : tie.Need-loop-again Inv-loop μ-loop
 loop-again c =
-    let args = c .before .before .before .before .before .before .before .args in
-    let index = c .before .before .before .before .before .index in
-    let index2 = c .before .before .before .before .index2 in
-    let turn = c .before .before .before .loop in
-    let w = args .w .now in
-    let p = equal (λ m. getD w (512 * index .result + m) 0) (λ m. getD w (512 * index2 .result + m) 0) in
-    (search needs, all-more p (turn .j) (turn .alike) (turn .inv .1))
+    let o = c .before .before .before .loop in
+    let the-index2 = c .before .before .before .before .index2 in
+    let the-index = c .before .before .before .before .before .index in
+    let a = c .before .before .before .before .before .before .before .args in
+    let w = a .w .now in
+    let p = equal (λ m. getD w (512 * the-index .result + m) 0) (λ m. getD w (512 * the-index2 .result + m) 0) in
+    (search needs, all-more p (o .j) (o .alike) (o .inv .1))
 
 returns : tie.Need-returns Inv-loop μ-loop
 returns c =
-    let args = c .before .before .before .before .before .args in
-    let index = c .before .before .before .index in
-    let index2 = c .before .before .index2 in
-    let w = args .w .now in
-    let a = index .result in
-    let b = index2 .result in
-    compared (λ m. getD w (512 * a + m) 0) (λ m. getD w (512 * b + m) 0) (card-of w (args .s)) (card-of w (args .t))
-    (in-sector w a (args .s) (index .ensures)) (in-sector w b (args .t) (index2 .ensures)) (c .before .loop .j) (omega arith) (c .before .loop .alike)
-    (c .before .loop .inv .1)
+    let the-index = c .before .before .before .index in
+    let a1 = c .before .before .before .before .before .args in
+    let w = a1 .w .now in
+    let a = the-index .result in
+    let b = c .before .before .index2 .result in
+    compared (λ m. getD w (512 * a + m) 0) (λ m. getD w (512 * b + m) 0) (card-of w (a1 .s)) (card-of w (a1 .t))
+    (in-sector w a (a1 .s) (the-index .ensures)) (in-sector w b (a1 .t) (c .before .before .index2 .ensures)) (c .before .loop .j) (omega arith)
+    (c .before .loop .alike) (c .before .loop .inv .1)
 
 pub differs-spec : {M : Type 1} → statement M
 differs-spec =

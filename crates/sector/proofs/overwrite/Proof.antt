@@ -26,17 +26,21 @@ returns c = rw (c .if1 .taken) (ran-zero (store 0 (bytes-of (c .before .args .by
 
 loop-again : tie.Need-loop-again Inv-loop μ-loop
 loop-again c =
-    let a = c .before .before .before .before .args in
     let turn = c .before .before .loop in
-    (search needs, search needs, copied-more (λ m. getD (a .bytes .now) m 0) (turn .part) (turn .j) (omega arith) (turn .inv .2))
+    let a = c .before .before .before .before .args in (
+      search needs,
+      search needs,
+      copied-more (λ m. getD (a .bytes .now) m 0) (turn .part) (turn .j) (omega arith)
+          (turn .inv .2),
+    )
 
 returns-2 : tie.Need-returns-2 Inv-loop μ-loop
 returns-2 c =
     let a = c .before .before .before .args in
     ran-one (store 0 (bytes-of (a .bytes .now))) (a .part .now) (c .before .loop .part) (a .limit) (omega arith)
     (lent-put (a .part .now) (c .before .loop .part) (omega arith) (omega arith)
-    ∙ ap (put (card-of (a .part .now))) (store-same 0 (bytes-of (c .before .loop .part)) (bytes-of (a .bytes .now))
-    (λ j h. c .before .loop .inv .2 j (omega arith))))
+    ∙ ap (put (card-of (a .part .now)))
+    (store-same 0 (bytes-of (c .before .loop .part)) (bytes-of (a .bytes .now)) (λ j h. c .before .loop .inv .2 j (omega arith))))
 
 pub overwrite-spec : {M : Type 1} → statement M
 overwrite-spec =

@@ -13,13 +13,12 @@ use Rattle.sector.proofs.overwrite.Reads as overwrite-reads
 
 returns : tie.Need-returns
 returns c =
+    let the-index = c .before .before .before .before .index in
     let a = c .before .before .before .before .before .before .before .args in
-    let index = c .before .before .before .before .index in
-    let overwrite = c .before .before .overwrite in
-    let k : 512 * index .result + 512 - 512 * index .result ≡ 512 = omega arith in
-    rw (k, index .ensures)
-    (ran-lent (a .w .now) (overwrite .last .0) (a .s) (omega arith) (omega arith) (a .limit) _ _ (bytes-of (a .bytes .now))
-    (rw (k, index .ensures) at (overwrite .ensures)))
+    let k : 512 * the-index .result + 512 - 512 * the-index .result ≡ 512 = omega arith in
+    rw (k, the-index .ensures)
+    (ran-lent (a .w .now) (c .before .before .overwrite .last .0) (a .s) (omega arith) (omega arith) (a .limit) _ _ (bytes-of (a .bytes .now))
+    (rw (k, the-index .ensures) at (c .before .before .overwrite .ensures)))
 
 pub store-from-spec : {M : Type 1} → statement M
 store-from-spec =
