@@ -1,9 +1,10 @@
 //! Empty card images with a log, to try things on.
 
 use crate::failure::Failure;
-use crate::layout::{Layout, CLUSTERS, SECTOR};
-use std::fs::OpenOptions;
+use lfat_disk::layout::{Layout, CLUSTERS, SECTOR};
+use std::fs::{self, OpenOptions};
 use std::io::Write;
+use std::path::Path;
 
 const RESERVED_SECTORS: usize = 1;
 
@@ -83,18 +84,24 @@ impl Blank {
         boot[510..].copy_from_slice(&[0x55, 0xAA]);
     }
 
-    /// Writes the image to a new file.
-    pub fn write(&self, path: &str) -> Result<(), Failure> {
+    /// Writes the image to a new file. One that cannot be written whole is not left behind.
+    pub fn write(&self, path: &Path) -> Result<(), Failure> {
         let (front, total) = self.front()?;
-        let mut file = OpenOptions::new()
+        let failed = |error| Failure::host(path.display(), error);
+        let mut options = OpenOptions::new();
+        let mut file = options
             .write(true)
             .create_new(true)
             .open(path)
-            .map_err(|error| Failure::host(path, error))?;
-        file.write_all(&front)
+            .map_err(failed)?;
+        let written = file
+            .write_all(&front)
             .and_then(|()| file.set_len(total as u64 * SECTOR as u64))
-            .and_then(|()| file.sync_all())
-            .map_err(|error| Failure::host(path, error))
+            .and_then(|()| file.sync_all());
+        written.map_err(|error| {
+            let _ = fs::remove_file(path);
+            failed(error)
+        })
     }
 }
 

@@ -6,17 +6,23 @@ use crate::{help, rack, reading, writing};
 
 pub struct Command {
     pub name: &'static str,
-    /// The words after the name.
-    pub usage: &'static str,
+    /// The words that it needs, and those that it may have.
+    pub words: &'static [&'static str],
+    pub more: &'static str,
     pub about: &'static str,
     pub details: &'static str,
     pub options: Options,
     pub run: fn(Args) -> Result<(), Failure>,
 }
 
-const NONE: Options = Options {
+/// The options of every command on a card that is there.
+pub const CARD: Options = Options {
+    valued: &["--partition"],
+    plain: &["--wait"],
+};
+const JSON: Options = Options {
     valued: &[],
-    plain: &[],
+    plain: &["--json"],
 };
 const LIMIT: Options = Options {
     valued: &["--limit"],
@@ -26,7 +32,8 @@ const LIMIT: Options = Options {
 pub static COMMANDS: [Command; 12] = [
     Command {
         name: "blank",
-        usage: "IMAGE [--clusters N] [--cluster-sectors N] [--root-entries N] [--log-sectors N]",
+        words: &["IMAGE"],
+        more: "[--clusters N] [--cluster-sectors N] [--root-entries N] [--log-sectors N]",
         about: "make an empty card image with a log, to try things on",
         details: help::BLANK,
         options: Options {
@@ -42,17 +49,19 @@ pub static COMMANDS: [Command; 12] = [
     },
     Command {
         name: "ls",
-        usage: "IMAGE",
+        words: &["IMAGE"],
+        more: "[--json]",
         about: "list the root directory: sizes and names",
-        details: "",
-        options: NONE,
+        details: help::LS,
+        options: JSON,
         run: reading::ls,
     },
     Command {
         name: "get",
-        usage: "IMAGE NAME [-o FILE]",
+        words: &["IMAGE", "NAME"],
+        more: "[-o FILE]",
         about: "copy a file from the card to standard output",
-        details: "  -o FILE     write to FILE instead\n",
+        details: help::GET,
         options: Options {
             valued: &["-o"],
             plain: &[],
@@ -61,7 +70,8 @@ pub static COMMANDS: [Command; 12] = [
     },
     Command {
         name: "put",
-        usage: "IMAGE NAME FILE [--limit N]",
+        words: &["IMAGE", "NAME", "FILE"],
+        more: "[--limit N]",
         about: "save a file of this machine under a new name",
         details: help::PUT,
         options: LIMIT,
@@ -69,7 +79,8 @@ pub static COMMANDS: [Command; 12] = [
     },
     Command {
         name: "append",
-        usage: "IMAGE NAME FILE [--limit N]",
+        words: &["IMAGE", "NAME", "FILE"],
+        more: "[--limit N]",
         about: "add a file of this machine to the end of one on the card",
         details: "FILE may be - for standard input.\n",
         options: LIMIT,
@@ -77,7 +88,8 @@ pub static COMMANDS: [Command; 12] = [
     },
     Command {
         name: "truncate",
-        usage: "IMAGE NAME SIZE [--limit N]",
+        words: &["IMAGE", "NAME", "SIZE"],
+        more: "[--limit N]",
         about: "shorten a file to SIZE bytes",
         details: "",
         options: LIMIT,
@@ -85,57 +97,85 @@ pub static COMMANDS: [Command; 12] = [
     },
     Command {
         name: "rm",
-        usage: "IMAGE NAME [--limit N]",
+        words: &["IMAGE", "NAME"],
+        more: "[--limit N]",
         about: "remove a file",
-        details: "",
+        details: help::SLOT,
         options: LIMIT,
         run: writing::rm,
     },
     Command {
         name: "mv",
-        usage: "IMAGE OLD NEW [--limit N]",
+        words: &["IMAGE", "OLD", "NEW"],
+        more: "[--limit N]",
         about: "give a file another name, which must not be taken",
-        details: "",
+        details: help::SLOT,
         options: LIMIT,
         run: writing::mv,
     },
     Command {
         name: "recover",
-        usage: "IMAGE [--limit N]",
+        words: &["IMAGE"],
+        more: "[--limit N]",
         about: "finish or take back what a power cut left behind",
-        details: "",
+        details: help::RECOVER,
         options: LIMIT,
         run: writing::recover,
     },
     Command {
         name: "log",
-        usage: "IMAGE [--raw]",
+        words: &["IMAGE"],
+        more: "[--raw | --json]",
         about: "list the card's log, record by record",
         details: "  --raw       write the log table itself, for the program loglist\n",
         options: Options {
             valued: &[],
-            plain: &["--raw"],
+            plain: &["--raw", "--json"],
         },
         run: reading::log,
     },
     Command {
         name: "info",
-        usage: "IMAGE",
+        words: &["IMAGE"],
+        more: "[--json]",
         about: "show layout, log, free clusters and state; exit status 0 if the card is clean",
         details: "",
-        options: NONE,
+        options: JSON,
         run: reading::info,
     },
     Command {
         name: "rack",
-        usage:
-            "IMAGE OPERATION ... [--svg FILE] [--depth N] [--random N] [--seed N] [--break[=I,J]]",
+        words: &["IMAGE", "OPERATION"],
+        more: "... [--svg FILE] [--depth N] [--random N] [--seed N] [--break[=I,J]] [--json]",
         about: "pull the plug at every store of an operation, recover, and check what is left",
         details: help::RACK,
         options: Options {
             valued: &["--svg", "--depth", "--random", "--seed", "--break"],
-            plain: &["--break"],
+            plain: &["--break", "--json"],
         },
         run: rack::rack,
     },
 ];
+
+impl Command {
+    /// Everything after `lfat`.
+    pub fn usage(&self) -> String {
+        format!("{} {} {}", self.name, self.words.join(" "), self.more)
+    }
+
+    /// Reads the words and runs. What is missing is said before anything else is looked at.
+    pub fn run(&self, words: &[std::ffi::OsString]) -> Result<(), Failure> {
+        let known = match self.name {
+            "blank" => vec![self.options],
+            _ => vec![self.options, CARD],
+        };
+        let usage = |failure| match failure {
+            Failure::Usage(what) => Failure::Usage(format!("{what}; usage: lfat {}", self.usage())),
+            other => other,
+        };
+        let args = Args::parse(words, &known).map_err(usage)?;
+        args.check_missing(self.words)
+            .and_then(|()| (self.run)(args))
+            .map_err(usage)
+    }
+}

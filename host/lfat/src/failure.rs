@@ -1,4 +1,4 @@
-//! Why a command did not end well, and the exit status that says so.
+//! Why a command did not end well, in one line, and the exit status that says so.
 
 use lfat_card::Refusal;
 use std::fmt;
@@ -10,13 +10,15 @@ pub enum Failure {
     /// The library refused; with a sentence on what to do.
     Refused(Refusal, String),
     /// The limit cut the stores short, after so many.
-    Stopped(usize),
+    Stopped(u32),
     /// The rack found a card that recovery did not bring back.
     Mismatch(String),
-    /// A file or the image could not be read or written.
+    /// A file or the card could not be opened, read or written. The card is as it was.
     Host(String),
-    /// The library's stores are not in the order that is known here. Nothing was written.
-    Order,
+    /// The list of stores and the library do not agree. Nothing was written.
+    Disagree,
+    /// The disk failed in mid-save.
+    Cut(String),
 }
 
 impl Failure {
@@ -24,7 +26,9 @@ impl Failure {
         match self {
             Failure::Refused(..) | Failure::Stopped(_) | Failure::Mismatch(_) => 1,
             Failure::Usage(_) => 2,
-            Failure::Host(_) | Failure::Order => 3,
+            Failure::Host(_) => 3,
+            Failure::Disagree => 4,
+            Failure::Cut(_) => 5,
         }
     }
 
@@ -44,26 +48,34 @@ impl From<Refusal> for Failure {
 fn advice(refusal: Refusal) -> &'static str {
     match refusal {
         Refusal::Short | Refusal::Boot => {
-            "This is no image of a FAT16 card. 'lfat blank' makes one to try things on."
+            "This is no FAT16 card: FAT12, FAT32 and exFAT are not covered. 'lfat blank' makes a card to try things on."
         }
-        Refusal::Window => "The image ends before the card does. Was it copied whole?",
-        Refusal::Logarea => "The card was not prepared with a log, so it cannot be written safely.",
-        Refusal::Root => "The root directory is damaged. Check the card with another tool.",
+        Refusal::Window => "The image or partition ends before the card does. Was it copied whole?",
+        Refusal::Logarea => {
+            "It was not prepared with a log, so it cannot be used safely. 'lfat blank NEW.IMG' makes a card that is: copy the \
+             files off with any FAT program, put them on NEW.IMG with 'lfat put', and write NEW.IMG to the card."
+        }
+        Refusal::Root => {
+            "The root directory is damaged: 'fsck.fat -n' says more. Copy the files off with any FAT program, and put them on a \
+             card that 'lfat blank' made."
+        }
         Refusal::Record => {
-            "The log is damaged, so recovery cannot tell what to finish. 'lfat log' shows it."
+            "The log is damaged, so recovery cannot tell what to finish. 'lfat log' shows it. Copy the files off with any FAT \
+             program, and put them on a card that 'lfat blank' made."
         }
-        Refusal::Unclean => "A save was cut short. Run 'lfat recover' on the image first.",
+        Refusal::Unclean => "A save was cut short. Run 'lfat recover' first.",
         Refusal::Name => {
             "A name has 1 to 8 characters, then perhaps a dot and 1 to 3 more, as ROUTE.CUT: \
              capital letters, digits and ! # $ % & ' ( ) - @ ^ _ ` { } ~"
         }
         Refusal::Absent => "'lfat ls' shows the names that there are.",
-        Refusal::Directory => "Only files in the root directory are covered.",
+        Refusal::Directory => "Only files in the root directory are covered; any FAT program opens the directory.",
         Refusal::Exists => "'lfat append' adds to a file, 'lfat rm' removes it.",
         Refusal::Rootfull => "Remove a file first: 'lfat rm'.",
-        Refusal::Chain => "Its bytes are not known, so it is neither read nor changed.",
         Refusal::Length => "'lfat ls' shows the sizes; truncate only shortens.",
         Refusal::Nospace => "'lfat info' shows the free clusters; 'lfat rm' frees some.",
+        // CHAIN, and grounds to come.
+        _ => "Its bytes are not known, so it is neither read nor changed; 'lfat mv' can give it another name, 'fsck.fat -n' says more.",
     }
 }
 
@@ -71,16 +83,14 @@ impl fmt::Display for Failure {
     fn fmt(&self, f: &mut fmt::Formatter<'_>) -> fmt::Result {
         match self {
             Failure::Usage(what) => write!(f, "{what}"),
-            Failure::Refused(refusal, advice) => write!(f, "{refusal}.\n{advice}"),
-            Failure::Stopped(made) => write!(
+            Failure::Refused(refusal, advice) => write!(f, "{refusal}. {advice}"),
+            Failure::Stopped(made) => {
+                write!(f, "STOPPED after {made} stores, as asked. Run 'lfat recover' next.")
+            }
+            Failure::Mismatch(what) | Failure::Host(what) | Failure::Cut(what) => write!(f, "{what}"),
+            Failure::Disagree => write!(
                 f,
-                "STOPPED after {made} stores, as asked.\nRun 'lfat recover' on the image next."
-            ),
-            Failure::Mismatch(what) | Failure::Host(what) => write!(f, "{what}"),
-            Failure::Order => write!(
-                f,
-                "the library's stores are not in the order that this program knows; \
-                 the image is as it was"
+                "DISAGREE: the list of stores and the library's card are not the same. Nothing was written; please report this."
             ),
         }
     }

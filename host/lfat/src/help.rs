@@ -10,25 +10,51 @@ Formatting real cards is not its purpose. A file that is there is not overwritte
   --log-sectors N      1 to 128, whole clusters (8, or one cluster)
 ";
 
+pub const LS: &str = "\
+A file whose name no rule allows, or has twice, is shown with its slot, as slot:3: get, rm and mv take that for its name.
+  --json      one JSON object: entries, each with slot, name, size, directory, attributes
+";
+
+pub const GET: &str = "\
+NAME may be slot:N, as ls shows it, for a file whose name no rule allows.
+  -o FILE     write to FILE instead, which is replaced once all is read; - is standard output
+";
+
+pub const SLOT: &str = "\
+NAME (or OLD) may be slot:N, as ls shows it, for a file whose name no rule allows.
+";
+
 pub const PUT: &str = "\
 FILE may be - for standard input. Two calls are made, create and append: after a power cut and a recovery there is no
 such file, an empty one, or the whole one.
 ";
 
-const LIMIT: &str = "\
-  --limit N   make only the first N stores, as if the power went then; answers STOPPED
+pub const RECOVER: &str = "\
+A save whose log record is on the card is finished; any other is dropped, and every file is as before it.
+";
+
+const LIMIT: &str =
+    "  --limit N   make only the first N stores, as if the power went then; answers STOPPED\n";
+
+const CARD: &str = "\
+IMAGE is a card image or a block device, such as /dev/sdX, or IMAGE:N for its partition N. Without a number the first
+partition that holds a FAT16 card is taken, where there are partitions.
+  --partition N  the partition, as in IMAGE:N
+  --wait         wait until no other program has the card, instead of failing
 ";
 
 pub const RACK: &str = "\
 OPERATION is one of: create NAME, append NAME FILE, put NAME FILE, truncate NAME SIZE, rm NAME, mv OLD NEW.
-The image is only read. Each cut is followed by recoveries, cut in turn, until one ends; then both FATs, the root
+The card is only read. Each cut is followed by recoveries, cut in turn, until one ends; then both FATs, the root
 directory and all files must be as before the operation (old) or, if the log record was on the card, as after it (new).
+Of more than 4,096 stores of data, cuts are tried in 2,048 places.
   --svg FILE  draw the cuts, coloured by outcome
   --depth N   cut N recoveries in a row in every place (2)
   --random N  also try N random sequences of cut recoveries after each cut (16)
   --seed N    seed of the random sequences (1)
   --break     swap the last two stores, root directory and commit mark: the rack must find a mismatch;
               --break=I,J swaps stores I and J, counted from 1
+  --json      one JSON object instead of the table
 ";
 
 impl Command {
@@ -37,9 +63,15 @@ impl Command {
             ["--limit"] => LIMIT,
             _ => "",
         };
+        let card = match self.name {
+            "blank" => "",
+            _ => CARD,
+        };
         format!(
-            "usage: lfat {} {}\n\n{}\n{}{limit}",
-            self.name, self.usage, self.about, self.details
+            "usage: lfat {}\n\n{}\n{}{limit}{card}",
+            self.usage(),
+            self.about,
+            self.details
         )
     }
 }
@@ -47,11 +79,13 @@ impl Command {
 /// The help of the whole program.
 pub fn overview() -> String {
     let mut text = "usage: lfat COMMAND IMAGE ...\n\n\
-         Files on FAT16 card images with a TI-LFAT journal; a power cut leaves each as it was or as it was to be.\n\n"
+         Files on FAT16 cards with a TI-LFAT journal; a power cut leaves each as it was or as it was to be.\n\n"
         .to_string();
     for command in &COMMANDS {
         text += &format!("  {:<9} {}\n", command.name, command.about);
     }
-    text + "\n'lfat COMMAND --help' says more. Names on the card are as ROUTE.CUT, in capitals.\n\
-         Exit status: 0 done; 1 refused, stopped or a mismatch; 2 wrong usage; 3 a file could not be used.\n"
+    text + "\n'lfat COMMAND --help' says more; 'lfat --version' the version. -- ends the options.\n\
+         IMAGE is an image, a block device such as /dev/sdX, or IMAGE:N for a partition. Names are as ROUTE.CUT, in capitals.\n\
+         Exit status: 0 done; 1 refused, stopped or a mismatch; 2 wrong usage; 3 a file or the card could not be used;\n\
+         4 list and library disagree, nothing written; 5 the disk failed in mid-save: recover the card.\n"
 }

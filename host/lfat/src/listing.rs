@@ -1,12 +1,34 @@
 //! The text of a log, line by line the same as that of the proved program `loglist`.
 
-use crate::layout::{get16, get32, SECTOR};
+use crate::json;
 use lfat_card::printed;
+use lfat_disk::layout::{get16, get32, SECTOR};
 
 const MOST_BYTES: usize = 65_536;
 const RECORD: usize = 32;
 const UNUSED: u8 = 0;
 const COMMITTED: u8 = 0xE5;
+
+/// A record of the log, with its place.
+pub struct Record<'a> {
+    sector: usize,
+    index: usize,
+    bytes: &'a [u8],
+}
+
+/// The records of a log table that are in use.
+pub fn records(table: &[u8]) -> impl Iterator<Item = Record<'_>> {
+    let sectors = table.chunks_exact(SECTOR).enumerate();
+    let records = sectors.flat_map(|(sector, bytes)| {
+        let records = bytes.chunks_exact(RECORD).enumerate();
+        records.map(move |(index, bytes)| Record {
+            sector,
+            index,
+            bytes,
+        })
+    });
+    records.filter(|record| record.bytes[0] != UNUSED)
+}
 
 /// What is printed for a log table.
 pub fn listing(table: &[u8]) -> String {
@@ -14,33 +36,73 @@ pub fn listing(table: &[u8]) -> String {
         return "not a log\n".to_string();
     }
     let mut text = format!("log {} sectors\n", table.len() / SECTOR);
-    for (sector, records) in table.chunks_exact(SECTOR).enumerate() {
-        for (index, record) in records.chunks_exact(RECORD).enumerate() {
-            if record[0] != UNUSED {
-                text += &format!("{sector} {index} {}\n", line(record));
-            }
-        }
+    for record in records(table) {
+        text += &record.line();
     }
     text
 }
 
-fn line(record: &[u8]) -> String {
-    let state = match record[0] {
-        COMMITTED => "committed",
-        _ => "pending",
-    };
-    format!(
-        "{} {state} {} slot {} first {} from {} size {}",
-        operation(record[13]),
-        printed(&record[..11]),
-        get16(record, 18),
-        get16(record, 20) << 16 | get16(record, 26),
-        get32(record, 22),
-        get32(record, 28)
-    )
+impl Record<'_> {
+    pub fn is_pending(&self) -> bool {
+        self.bytes[0] != COMMITTED
+    }
+
+    pub fn operation(&self) -> &'static str {
+        let words = ["part", "create", "update", "delete", "truncate", "rename"];
+        words.get(usize::from(self.bytes[13])).unwrap_or(&"unknown")
+    }
+
+    pub fn name(&self) -> String {
+        printed(&self.bytes[..11])
+    }
+
+    fn state(&self) -> &'static str {
+        match self.is_pending() {
+            true => "pending",
+            false => "committed",
+        }
+    }
+
+    /// First or last cluster, in two words.
+    fn first(&self) -> usize {
+        get16(self.bytes, 20) << 16 | get16(self.bytes, 26)
+    }
+
+    fn line(&self) -> String {
+        format!(
+            "{} {} {} {} {} slot {} first {} from {} size {}\n",
+            self.sector,
+            self.index,
+            self.operation(),
+            self.state(),
+            self.name(),
+            get16(self.bytes, 18),
+            self.first(),
+            get32(self.bytes, 22),
+            get32(self.bytes, 28)
+        )
+    }
+
+    fn json(&self) -> String {
+        json::object(&[
+            ("sector", &self.sector),
+            ("record", &self.index),
+            ("operation", &json::text(self.operation())),
+            ("state", &json::text(self.state())),
+            ("name", &json::text(&self.name())),
+            ("slot", &get16(self.bytes, 18)),
+            ("first", &self.first()),
+            ("from", &get32(self.bytes, 22)),
+            ("size", &get32(self.bytes, 28)),
+        ])
+    }
 }
 
-fn operation(byte: u8) -> &'static str {
-    let words = ["part", "create", "update", "delete", "truncate", "rename"];
-    words.get(usize::from(byte)).unwrap_or(&"unknown")
+/// The same as a JSON object.
+pub fn json(table: &[u8]) -> String {
+    let records = records(table).map(|record| record.json());
+    json::object(&[
+        ("sectors", &(table.len() / SECTOR)),
+        ("records", &json::array(records)),
+    ]) + "\n"
 }

@@ -1,19 +1,16 @@
-//! lfat: files on FAT16 card images, safe against power cuts.
+//! lfat: files on FAT16 cards, safe against power cuts.
 
-use lfat::args::Args;
 use lfat::commands::COMMANDS;
 use lfat::failure::Failure;
 use lfat::help::overview;
 use lfat::output::print;
+use std::ffi::OsString;
 use std::process::ExitCode;
 
-const HELP: [&str; 3] = ["--help", "-h", "help"];
+const HELP: [&str; 2] = ["--help", "-h"];
 
 fn main() -> ExitCode {
-    let words: Vec<String> = std::env::args_os()
-        .skip(1)
-        .map(|word| word.to_string_lossy().into_owned())
-        .collect();
+    let words: Vec<OsString> = std::env::args_os().skip(1).collect();
     match run(&words) {
         Ok(()) => ExitCode::SUCCESS,
         Err(failure) => {
@@ -23,32 +20,25 @@ fn main() -> ExitCode {
     }
 }
 
-fn run(words: &[String]) -> Result<(), Failure> {
+fn run(words: &[OsString]) -> Result<(), Failure> {
     let Some((name, rest)) = words.split_first() else {
-        return Err(Failure::Usage(format!(
-            "COMMAND is missing\n\n{}",
-            overview()
-        )));
+        let what = "COMMAND is missing; 'lfat --help' lists the commands";
+        return Err(Failure::Usage(what.to_string()));
     };
-    if HELP.contains(&name.as_str()) {
+    if name == "help" || HELP.iter().any(|word| name == word) {
         return print(overview().as_bytes());
     }
-    let Some(command) = COMMANDS.iter().find(|command| command.name == name) else {
-        return Err(Failure::Usage(format!(
-            "there is no command '{name}'\n\n{}",
-            overview()
-        )));
+    if name == "--version" {
+        return print(concat!("lfat ", env!("CARGO_PKG_VERSION"), "\n").as_bytes());
+    }
+    let Some(command) = COMMANDS.iter().find(|command| name == command.name) else {
+        let name = name.display();
+        let what = format!("there is no command '{name}'; 'lfat --help' lists the commands");
+        return Err(Failure::Usage(what));
     };
-    if rest.iter().any(|word| HELP[..2].contains(&word.as_str())) {
+    let mut options = rest.iter().take_while(|word| *word != "--");
+    if options.any(|word| HELP.iter().any(|help| word == help)) {
         return print(command.help().as_bytes());
     }
-    let usage = |failure| match failure {
-        Failure::Usage(what) => {
-            Failure::Usage(format!("{what}\nusage: lfat {name} {}", command.usage))
-        }
-        other => other,
-    };
-    Args::parse(rest, command.options)
-        .and_then(command.run)
-        .map_err(usage)
+    command.run(rest)
 }

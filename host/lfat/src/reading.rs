@@ -1,106 +1,174 @@
-//! The commands that only read an image.
+//! The commands that only read a card.
 
 use crate::args::Args;
 use crate::failure::Failure;
-use crate::image::{Access, Image};
-use crate::layout::{bytes, SECTOR};
-use crate::listing::listing;
-use crate::output::{print, write_file};
-use crate::volume::{is_live, Volume};
-use crate::writing::name;
-use lfat_card::{calls, Answer, Card, Refusal};
+use crate::output::{print, Output};
+use crate::progress::Progress;
+use crate::target::{Target, Which};
+use crate::{json, listing};
+use lfat_card::{calls, Answer, Refusal};
+use lfat_disk::layout::{bytes, SECTOR};
+use lfat_disk::partition::Partition;
+use lfat_disk::volume::{is_live, Volume};
+use lfat_disk::{Access, DiskCard, Entry};
+use std::ffi::OsStr;
 use std::ops::Range;
+use std::path::Path;
+
+/// The bytes of a file that are read at a time.
+const PIECE: usize = 1 << 20;
+
+/// Opens the card that a command only reads.
+fn open(args: &mut Args) -> Result<(Target, DiskCard), Failure> {
+    let target = Target::parse(args.word("IMAGE")?, args)?;
+    args.end()?;
+    let card = target.open(args, Access::Read)?;
+    Ok((target, card))
+}
 
 pub fn ls(mut args: Args) -> Result<(), Failure> {
-    let path = args.word("IMAGE")?;
-    args.end()?;
-    let mut image = Image::open(&path, Access::Read)?;
-    let entries = Card::new(&mut image.window).list()?;
+    let (target, card) = open(&mut args)?;
+    let entries = card.list().map_err(|error| target.failure(error))?;
+    if args.has("--json") {
+        let entries = json::array(entries.iter().map(entry_json));
+        return print((json::object(&[("entries", &entries)]) + "\n").as_bytes());
+    }
     let mut text = String::new();
-    for entry in &entries {
-        let size = if entry.is_directory() {
-            "directory".to_string()
-        } else {
-            entry.size().to_string()
+    for (index, entry) in entries.iter().enumerate() {
+        let size = match entry.is_directory() {
+            true => "directory".to_string(),
+            false => entry.size().to_string(),
         };
-        text += &format!("{size:>10}  {}\n", entry.name());
+        let mut before = entries[..index].iter();
+        let is_second = before.any(|other| other.name_bytes() == entry.name_bytes());
+        let slot = match entry.has_name() && !is_second {
+            true => String::new(),
+            false => format!("  (slot:{})", entry.slot),
+        };
+        text += &format!("{size:>10}  {}{slot}\n", entry.name());
     }
     print(text.as_bytes())
 }
 
-pub fn get(mut args: Args) -> Result<(), Failure> {
-    let path = args.word("IMAGE")?;
-    let name = name(&args.word("NAME")?)?;
-    args.end()?;
-    let mut image = Image::open(&path, Access::Read)?;
-    image.load_file(name)?;
-    let file = Card::new(&mut image.window).read_whole(name)?;
-    match args.option("-o") {
-        Some(path) => write_file(path, &file),
-        None => print(&file),
-    }
+fn entry_json(entry: &Entry) -> String {
+    json::object(&[
+        ("slot", &entry.slot),
+        ("name", &json::text(&entry.name())),
+        ("size", &entry.size()),
+        ("directory", &entry.is_directory()),
+        ("attributes", &entry.attributes()),
+    ])
 }
 
-/// The first of the grounds 1 to 6 on which recovery would be refused. Nothing is stored.
-fn refusal(image: &mut Image) -> Option<Refusal> {
-    match calls::recover(&mut image.window, 0) {
-        Answer::Refused(refusal) => Some(refusal),
-        _ => None,
+pub fn get(mut args: Args) -> Result<(), Failure> {
+    let target = Target::parse(args.word("IMAGE")?, &args)?;
+    let which = Which::parse(&args.word("NAME")?)?;
+    args.end()?;
+    let path = args.option("-o").unwrap_or(OsStr::new("-"));
+    if target.is_at(Path::new(path)) {
+        let what = format!("-o: '{}' is the card itself", path.display());
+        return Err(Failure::Usage(what));
     }
+    let mut card = target.open(&args, Access::Read)?;
+    let size = size(&card, which);
+    let mut piece = vec![0; PIECE.min(size)];
+    let mut read = |offset: usize, piece: &mut [u8]| {
+        let read = match which {
+            Which::Name(name) => card.read(name.bytes(), offset as u64, piece),
+            Which::Slot(slot) => card.read_slot(slot, offset as u64, piece),
+        };
+        read.map_err(|error| target.failure(error))
+    };
+    // A file that is refused leaves nothing behind.
+    let mut count = read(0, &mut piece)?;
+    let mut output = Output::open(path)?;
+    let mut progress = Progress::new("byte");
+    let mut offset = 0;
+    while count > 0 {
+        output.write(&piece[..count])?;
+        offset += count;
+        progress.step(offset, size);
+        count = match matches!(output, Output::Gone) {
+            true => 0,
+            false => read(offset, &mut piece)?,
+        };
+    }
+    output.finish()
+}
+
+/// The size of a file as its entry has it, 0 if there is none.
+fn size(card: &DiskCard, which: Which) -> usize {
+    let entries = card.list().unwrap_or_default();
+    let found = entries.iter().find(|entry| match which {
+        Which::Name(name) => entry.name_bytes() == name.bytes(),
+        Which::Slot(slot) => entry.slot == slot,
+    });
+    found.map_or(0, Entry::size)
 }
 
 pub fn log(mut args: Args) -> Result<(), Failure> {
-    let path = args.word("IMAGE")?;
-    args.end()?;
-    let mut image = Image::open(&path, Access::Read)?;
+    let (_, mut card) = open(&mut args)?;
     // The log of a card with a damaged root directory or log can be shown all the same.
-    match refusal(&mut image) {
+    match card.refusal() {
         None | Some(Refusal::Root | Refusal::Record) => {}
         Some(refusal) => return Err(refusal.into()),
     }
-    let log = Volume::open(&image.window).and_then(|volume| volume.log());
-    let table = &image.window[bytes(&log.ok_or(Refusal::Logarea)?)];
+    let log = Volume::open(card.window()).and_then(|volume| volume.log());
+    let table = &card.window()[bytes(&log.ok_or(Refusal::Logarea)?)];
     if args.has("--raw") {
         print(table)
+    } else if args.has("--json") {
+        print(listing::json(table).as_bytes())
     } else {
-        print(listing(table).as_bytes())
+        print(listing::listing(table).as_bytes())
     }
 }
 
 pub fn info(mut args: Args) -> Result<(), Failure> {
-    let path = args.word("IMAGE")?;
-    args.end()?;
-    let mut image = Image::open(&path, Access::Read)?;
-    let refusal = refusal(&mut image);
-    let volume = Volume::open(&image.window).ok_or(refusal.unwrap_or(Refusal::Boot))?;
-    print(layout_lines(&volume).as_bytes())?;
-    let state = match (refusal, calls::list(&image.window, &mut [])) {
+    let (_, mut card) = open(&mut args)?;
+    let refusal = card.refusal();
+    let volume = Volume::open(card.window()).ok_or(refusal.unwrap_or(Refusal::Boot))?;
+    let state = match (refusal, calls::list(card.window(), &mut [])) {
         (Some(refusal), _) | (None, Answer::Refused(refusal)) => Err(refusal),
         _ => Ok(()),
     };
-    match state {
-        Ok(()) => print(b"state                clean\n"),
-        Err(refusal) => {
-            print(format!("state                {refusal}\n").as_bytes())?;
-            Err(refusal.into())
-        }
-    }
+    let text = match args.has("--json") {
+        true => info_json(&volume, card.partition(), state),
+        false => info_lines(&volume, card.partition(), state),
+    };
+    print(text.as_bytes())?;
+    state.map_err(Failure::from)
 }
 
-fn layout_lines(volume: &Volume) -> String {
+fn info_lines(
+    volume: &Volume,
+    partition: Option<&Partition>,
+    state: Result<(), Refusal>,
+) -> String {
+    let partition = partition.map_or(String::new(), |found| {
+        format!(
+            "partition            {}, from sector {}\n",
+            found.number, found.first
+        )
+    });
     let layout = &volume.layout;
     let free = volume.free_clusters();
     let live = volume.slots().filter(|slot| is_live(slot)).count();
     let data = layout.data_start()..layout.total_sectors;
+    let state = match state {
+        Ok(()) => "clean".to_string(),
+        Err(refusal) => refusal.to_string(),
+    };
     format!(
-        "sectors              {} of {SECTOR} bytes\n\
+        "{partition}sectors              {} of {SECTOR} bytes\n\
          sectors per cluster  {}\n\
          clusters             {}, {free} free ({} bytes)\n\
          FAT1                 {}\n\
          FAT2                 {}\n\
          root directory       {}, {} slots, {live} in use\n\
          data                 {}\n\
-         log                  {}\n",
+         log                  {}\n\
+         state                {state}\n",
         layout.total_sectors,
         layout.sectors_per_cluster,
         layout.clusters,
@@ -122,13 +190,52 @@ fn log_words(volume: &Volume) -> String {
     let (Some(clusters), Some(sectors)) = (volume.log_clusters(), volume.log()) else {
         return "none".to_string();
     };
-    let table = volume.window[bytes(&sectors)].chunks_exact(SECTOR);
-    let used = table.filter(|sector| sector[0] != 0).count();
     format!(
-        "{}, clusters {} to {}, {used} of {} sectors used",
+        "{}, clusters {} to {}, {} of {} sectors used",
         span(&sectors),
         clusters.start,
         clusters.end - 1,
+        used(volume, &sectors),
         sectors.len()
     )
+}
+
+/// The log's sectors that are in use.
+fn used(volume: &Volume, log: &Range<usize>) -> usize {
+    let table = volume.window[bytes(log)].chunks_exact(SECTOR);
+    table.filter(|sector| sector[0] != 0).count()
+}
+
+fn info_json(volume: &Volume, partition: Option<&Partition>, state: Result<(), Refusal>) -> String {
+    let layout = &volume.layout;
+    let free = volume.free_clusters();
+    let live = volume.slots().filter(|slot| is_live(slot)).count();
+    let sectors = |part: Range<usize>| format!("[{}, {}]", part.start, part.end - 1);
+    let log = volume.log().map(|log| {
+        let used = used(volume, &log);
+        json::object(&[("sectors", &sectors(log)), ("used", &used)])
+    });
+    let root = json::object(&[
+        ("sectors", &sectors(layout.root())),
+        ("slots", &layout.root_entries),
+        ("used", &live),
+    ]);
+    let state = state.map_or_else(Refusal::name, |()| "clean");
+    json::object(&[
+        (
+            "partition",
+            &json::optional(partition.map(|found| found.number)),
+        ),
+        ("sectors", &layout.total_sectors),
+        ("sectors_per_cluster", &layout.sectors_per_cluster),
+        ("clusters", &layout.clusters),
+        ("free_clusters", &free),
+        ("free_bytes", &(free * layout.cluster_bytes())),
+        ("fat1", &sectors(layout.fat1())),
+        ("fat2", &sectors(layout.fat2())),
+        ("root", &root),
+        ("data", &sectors(layout.data_start()..layout.total_sectors)),
+        ("log", &json::optional(log)),
+        ("state", &json::text(state)),
+    ]) + "\n"
 }

@@ -1,102 +1,165 @@
-//! The commands that change an image.
+//! The commands that change a card.
 
 use crate::args::{number, Args};
 use crate::blank::Blank;
 use crate::failure::Failure;
-use crate::image::{Access, Image};
-use crate::output::{print, read_file};
-use crate::stores;
-use lfat_card::{Name, Operation, Refusal};
+use crate::listing;
+use crate::output::print;
+use crate::progress::Progress;
+use crate::source::Source;
+use crate::target::{name, Target, Which};
+use lfat_card::{Name, Refusal};
+use lfat_disk::layout::bytes;
+use lfat_disk::volume::Volume;
+use lfat_disk::{Access, DiskCard, Operation};
+use std::path::Path;
 
-/// A name given by the user.
-pub fn name(word: &str) -> Result<Name, Failure> {
-    Name::parse(word).map_err(|refusal| {
-        let capitals = word.to_ascii_uppercase();
-        match Name::parse(&capitals) {
-            Ok(_) => Failure::Refused(refusal, format!("Did you mean {capitals}?")),
-            Err(_) => refusal.into(),
-        }
-    })
+/// A card that is open to be changed.
+struct Opened {
+    target: Target,
+    card: DiskCard,
+    limit: u32,
 }
 
-/// Runs the calls in memory; only if all are granted, writes their stores to the image.
-/// Gives how many there were.
-fn write(path: &str, args: &Args, calls: &[Operation]) -> Result<usize, Failure> {
-    args.end()?;
-    let limit = args.number("--limit", usize::MAX)?;
-    let mut image = Image::open(path, Access::Write)?;
-    for call in calls {
-        if let Operation::Append { name, .. } = call {
-            image.load_file(*name)?;
-        }
+impl Opened {
+    /// All words have been read. Reads the options and opens the card.
+    fn new(target: Target, args: &Args) -> Result<Opened, Failure> {
+        args.end()?;
+        let limit = args.number("--limit", u32::MAX)?;
+        let mut card = target.open(args, Access::Write)?;
+        let mut progress = Progress::new("sector");
+        card.on_progress(move |made, count| progress.step(made, count));
+        Ok(Opened {
+            target,
+            card,
+            limit,
+        })
     }
-    let mut list = Vec::new();
-    for call in calls {
-        list.extend(stores::run(&mut image.window, call)?);
+
+    /// Makes calls; only if all are granted, something is written. Gives how many stores there were.
+    fn save(&mut self, calls: &[Operation]) -> Result<u32, Failure> {
+        let made = self.card.save(calls, self.limit);
+        made.map_err(|error| self.target.failure(error))
     }
-    let made = list.len().min(limit);
-    image.write(&list[..made])?;
-    if made < list.len() {
-        return Err(Failure::Stopped(made));
-    }
-    Ok(made)
+}
+
+fn image(args: &mut Args) -> Result<Target, Failure> {
+    Target::parse(args.word("IMAGE")?, args)
 }
 
 pub fn put(mut args: Args) -> Result<(), Failure> {
-    let path = args.word("IMAGE")?;
+    let target = image(&mut args)?;
     let name = name(&args.word("NAME")?)?;
-    let data = read_file(&args.word("FILE")?)?;
+    let file = args.word("FILE")?;
+    let mut opened = Opened::new(target, &args)?;
+    let source = Source::open(&file, opened.card.window().len(), &opened.target)?;
+    let data = source.bytes();
+    let name_bytes = name.bytes();
     let calls = [
-        Operation::Create { name },
-        Operation::Append { name, data: &data },
+        Operation::Create { name: name_bytes },
+        Operation::Append {
+            name: name_bytes,
+            data,
+        },
     ];
-    write(&path, &args, &calls).map_err(|failure| match failure {
-        Failure::Refused(Refusal::Exists, _) => Failure::Refused(
-            Refusal::Exists,
-            format!("Add to {name} with 'lfat append', or remove it first with 'lfat rm'."),
+    match opened.save(&calls) {
+        Err(Failure::Refused(Refusal::Exists, _)) => {
+            let advice = taken(&opened.card, name);
+            Err(Failure::Refused(Refusal::Exists, advice))
+        }
+        other => other.map(drop),
+    }
+}
+
+/// What to do where the name of a put is taken.
+fn taken(card: &DiskCard, name: Name) -> String {
+    let entries = card.list().unwrap_or_default();
+    let found = entries
+        .iter()
+        .find(|entry| entry.name_bytes() == name.bytes());
+    match found {
+        Some(entry) if entry.size() == 0 && !entry.is_directory() => format!(
+            "{name} is there and empty, as a put that was cut leaves it: fill it with 'lfat append', or remove it first with 'lfat rm'."
         ),
-        other => other,
-    })?;
-    Ok(())
+        _ => format!("Add to {name} with 'lfat append', or remove it first with 'lfat rm'."),
+    }
 }
 
 pub fn append(mut args: Args) -> Result<(), Failure> {
-    let path = args.word("IMAGE")?;
+    let target = image(&mut args)?;
     let name = name(&args.word("NAME")?)?;
-    let data = read_file(&args.word("FILE")?)?;
-    write(&path, &args, &[Operation::Append { name, data: &data }])?;
-    Ok(())
+    let file = args.word("FILE")?;
+    let mut opened = Opened::new(target, &args)?;
+    let source = Source::open(&file, opened.card.window().len(), &opened.target)?;
+    let (name, data) = (name.bytes(), source.bytes());
+    opened.save(&[Operation::Append { name, data }]).map(drop)
 }
 
 pub fn truncate(mut args: Args) -> Result<(), Failure> {
-    let path = args.word("IMAGE")?;
+    let target = image(&mut args)?;
     let name = name(&args.word("NAME")?)?;
-    let size = number(&args.word("SIZE")?, "SIZE")?;
-    write(&path, &args, &[Operation::Truncate { name, size }])?;
-    Ok(())
+    let size = number(&args.text("SIZE")?, "SIZE")?;
+    let name = name.bytes();
+    let calls = [Operation::Truncate { name, size }];
+    Opened::new(target, &args)?.save(&calls).map(drop)
 }
 
 pub fn rm(mut args: Args) -> Result<(), Failure> {
-    let path = args.word("IMAGE")?;
-    let name = name(&args.word("NAME")?)?;
-    write(&path, &args, &[Operation::Delete { name }])?;
-    Ok(())
+    let target = image(&mut args)?;
+    let which = Which::parse(&args.word("NAME")?)?;
+    let mut opened = Opened::new(target, &args)?;
+    match which {
+        Which::Name(name) => {
+            let name = name.bytes();
+            opened.save(&[Operation::Delete { name }]).map(drop)
+        }
+        Which::Slot(slot) => {
+            let made = opened.card.delete_slot(slot, opened.limit);
+            made.map(drop).map_err(|error| opened.target.failure(error))
+        }
+    }
 }
 
 pub fn mv(mut args: Args) -> Result<(), Failure> {
-    let path = args.word("IMAGE")?;
-    let old = name(&args.word("OLD")?)?;
+    let target = image(&mut args)?;
+    let old = Which::parse(&args.word("OLD")?)?;
     let new = name(&args.word("NEW")?)?;
-    write(&path, &args, &[Operation::Rename { old, new }])?;
-    Ok(())
+    let mut opened = Opened::new(target, &args)?;
+    match old {
+        Which::Name(old) => {
+            let (old, new) = (old.bytes(), new.bytes());
+            opened.save(&[Operation::Rename { old, new }]).map(drop)
+        }
+        Which::Slot(slot) => {
+            let made = opened.card.rename_slot(slot, new.bytes(), opened.limit);
+            made.map(drop).map_err(|error| opened.target.failure(error))
+        }
+    }
 }
 
 pub fn recover(mut args: Args) -> Result<(), Failure> {
-    let path = args.word("IMAGE")?;
-    match write(&path, &args, &[Operation::Recover])? {
-        0 => print(b"nothing to recover\n"),
-        stores => print(format!("recovered, {stores} sectors written\n").as_bytes()),
-    }
+    let target = image(&mut args)?;
+    let mut opened = Opened::new(target, &args)?;
+    let pending = pending(&opened.card);
+    let made = opened.save(&[Operation::Recover])?;
+    let sectors = match made {
+        1 => "1 sector".to_string(),
+        _ => format!("{made} sectors"),
+    };
+    let text = match (made, pending) {
+        (0, _) => "nothing to recover\n".to_string(),
+        (_, Some(what)) => format!("recovered: the save that was cut is finished ({what}), {sectors} written\n"),
+        (_, None) => format!("recovered: a half-made save was dropped, every file is as before it, {sectors} written\n"),
+    };
+    print(text.as_bytes())
+}
+
+/// The operation that a card's log has pending.
+fn pending(card: &DiskCard) -> Option<String> {
+    let log = Volume::open(card.window())?.log()?;
+    let table = &card.window()[bytes(&log)];
+    let record = listing::records(table).find(|record| record.is_pending())?;
+    Some(format!("{} {}", record.operation(), record.name()))
 }
 
 pub fn blank(mut args: Args) -> Result<(), Failure> {
@@ -109,5 +172,5 @@ pub fn blank(mut args: Args) -> Result<(), Failure> {
         root_entries: args.number("--root-entries", 512)?,
         log_sectors: args.number("--log-sectors", sectors_per_cluster.max(8))?,
     };
-    blank.write(&path)
+    blank.write(Path::new(&path))
 }

@@ -9,7 +9,7 @@
 //! - `check`: grounds 1 to 7, which judge the card;
 //! - `lookup`: grounds 8 to 10 and 13, which judge a name and its file;
 //! - `operation`: the five writing operations;
-//! - `transaction`: the order of stores;
+//! - `transaction`, `program`: the order of stores, as a list and in segments;
 //! - `recovery`: redo of a pending group, undo of anything else;
 //! - `reading`: read and list;
 //! - `listing`: the text of the log listing program;
@@ -31,6 +31,7 @@ mod listing;
 mod lookup;
 mod name;
 mod operation;
+mod program;
 mod reading;
 mod recovery;
 mod root;
@@ -44,6 +45,9 @@ pub use builder::{card_k, CardSpec};
 pub use geometry::Geometry;
 pub use inspect::{file_bytes, file_chain, free_clusters, is_sound};
 pub use listing::log_listing;
-pub use operation::{append, create, delete, plan, recover, rename, run, truncate, Operation};
+pub use operation::{
+    append, create, delete, plan, program, recover, rename, run, truncate, Operation,
+};
+pub use program::{Extent, Program, Segment};
 pub use reading::{list, read};
 pub use store::{Sector, Store, SECTOR_BYTES};

@@ -5,6 +5,7 @@ use crate::answer::Ground;
 use crate::check::{self, Mounted};
 use crate::journal::record::commit;
 use crate::journal::PendingGroup;
+use crate::program::{Program, Segment};
 use crate::store::{Sector, Store, SECTOR_BYTES};
 use crate::volume::Volume;
 
@@ -13,6 +14,23 @@ pub fn plan(card: &[u8]) -> Result<Vec<Store>, Ground> {
     Ok(match pending {
         Some(group) => redo(&card, &group),
         None => undo(&card.volume),
+    })
+}
+
+/// The same stores in segments: the commit mark is a barrier, setting FAT2 back
+/// has none.
+pub fn program(card: &[u8]) -> Result<Program<'static>, Ground> {
+    let (card, pending) = check::recoverable(card)?;
+    let segment = match pending {
+        Some(group) => {
+            let mut stores = redo(&card, &group);
+            let commit = stores.pop();
+            Segment::new(stores, commit)
+        }
+        None => Segment::new(undo(&card.volume), None),
+    };
+    Ok(Program {
+        segments: vec![segment],
     })
 }
 

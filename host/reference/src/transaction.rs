@@ -4,40 +4,86 @@ use crate::check::Mounted;
 use crate::fat_draft::FatDraft;
 use crate::journal::record::{commit, group};
 use crate::journal::Record;
+use crate::program::{Extent, Program, Segment};
 use crate::root_change::RootChange;
-use crate::store::Store;
+use crate::store::{Sector, Store, SECTOR_BYTES};
 
 /// What one operation changes.
-pub struct Transaction<'a> {
+pub struct Transaction<'a, 'd> {
     /// Data sectors, for append only.
-    pub data: Vec<Store>,
+    pub data: Vec<Extent<'d>>,
     pub fat: FatDraft<'a>,
     /// The log records of the group.
     pub records: Vec<Record>,
     pub root: RootChange,
 }
 
-impl Transaction<'_> {
-    /// Data, FAT2, group, FAT1, root, commit.
-    pub fn stores(self, card: &Mounted) -> Vec<Store> {
-        let geometry = &card.volume.geometry;
+/// An operation that is granted: the card, and what it changes there, if anything.
+pub struct Planned<'a, 'd> {
+    pub card: Mounted<'a>,
+    pub change: Option<Transaction<'a, 'd>>,
+}
+
+impl<'d> Planned<'_, 'd> {
+    /// The list of stores.
+    pub fn stores(self) -> Vec<Store> {
+        let card = self.card;
+        let change = self.change;
+        change.map_or_else(Vec::new, |change| change.stores(&card))
+    }
+
+    /// The list of stores in segments.
+    pub fn program(self) -> Program<'d> {
+        let card = self.card;
+        let change = self.change;
+        change.map_or_else(Program::default, |change| change.program(&card))
+    }
+}
+
+impl<'d> Transaction<'_, 'd> {
+    /// The log sector that serves, with the group pending and committed, and the stores that make room for it.
+    fn group(&self, card: &Mounted) -> (Vec<Store>, Store, Store) {
         let pending = group(&self.records);
         let committed = commit(pending, self.records.len());
-        let (clearing, log_sector) = card.journal.make_room();
+        let (clearing, sector) = card.journal.make_room();
+        let store = |bytes| Store { sector, bytes };
+        (clearing, store(pending), store(committed))
+    }
 
-        let mut stores = self.data;
+    /// Data, FAT2, group, FAT1, root, commit.
+    fn stores(self, card: &Mounted) -> Vec<Store> {
+        let geometry = &card.volume.geometry;
+        let (clearing, pending, committed) = self.group(card);
+        let data = self.data.iter().map(Extent::count).sum();
+        let mut stores = Vec::with_capacity(data);
+        for (sector, piece) in self.data.iter().flat_map(Extent::sectors) {
+            let mut bytes: Sector = [0; SECTOR_BYTES];
+            bytes.copy_from_slice(piece);
+            stores.push(Store { sector, bytes });
+        }
         stores.extend(self.fat.stores(geometry.fat2_start()));
         stores.extend(clearing);
-        stores.push(Store {
-            sector: log_sector,
-            bytes: pending,
-        });
+        stores.push(pending);
         stores.extend(self.fat.stores(geometry.fat1_start()));
         stores.extend(self.root.stores(&card.volume));
-        stores.push(Store {
-            sector: log_sector,
-            bytes: committed,
-        });
+        stores.push(committed);
         stores
+    }
+
+    /// The same list, in segments: the group's store and the commit mark are barriers.
+    fn program(self, card: &Mounted) -> Program<'d> {
+        let geometry = &card.volume.geometry;
+        let (clearing, pending, committed) = self.group(card);
+        let mut prepare = Segment {
+            stores: self.data,
+            barrier: Some(pending),
+        };
+        let fat2 = self.fat.stores(geometry.fat2_start());
+        fat2.chain(clearing).for_each(|store| prepare.push(store));
+        let fat1 = self.fat.stores(geometry.fat1_start());
+        let finish = fat1.chain(self.root.stores(&card.volume));
+        Program {
+            segments: vec![prepare, Segment::new(finish, Some(committed))],
+        }
     }
 }

@@ -14,14 +14,14 @@ impl Rack<'_> {
     /// Recovers to the end, then with one more recovery cut in every place, from the least limit on. Gives how many
     /// stores the first recovery made.
     pub fn explore(&mut self, cut: &mut Cut, depth: usize, least: u32) -> Option<u32> {
-        let here = self.areas.save(&self.card);
+        let here = self.areas.save(&self.memory.window);
         let needed = self.recover_whole(cut)?;
         let depth = if needed > WIDE { depth.min(1) } else { depth };
         if depth == 0 {
             return Some(needed);
         }
         for limit in least..needed {
-            self.areas.restore(&mut self.card, &here);
+            self.areas.restore(&mut self.memory.window, &here);
             let known = self.limits.len();
             if self.recover_part(cut, limit) {
                 // A second recovery of no store would be the same again.
@@ -39,7 +39,7 @@ impl Rack<'_> {
             let limit = self.random.below(bound);
             cut.recoveries += 1;
             self.limits.push(limit);
-            match calls::recover(&mut self.card, limit) {
+            match calls::recover(&mut self.memory.window, limit) {
                 Answer::Stopped(made) if made == limit => continue,
                 Answer::Done(_) => self.judge(cut),
                 answer => self.fail(cut, &format!("recovery answered {answer:?}")),
@@ -55,7 +55,7 @@ impl Rack<'_> {
     fn recover_part(&mut self, cut: &mut Cut, limit: u32) -> bool {
         cut.recoveries += 1;
         self.limits.push(limit);
-        let answer = calls::recover(&mut self.card, limit);
+        let answer = calls::recover(&mut self.memory.window, limit);
         if answer != Answer::Stopped(limit) {
             self.fail(cut, &format!("recovery answered {answer:?}"));
         }
@@ -65,7 +65,7 @@ impl Rack<'_> {
     /// A recovery that ends; gives its number of stores.
     fn recover_whole(&mut self, cut: &mut Cut) -> Option<u32> {
         cut.recoveries += 1;
-        match calls::recover(&mut self.card, NO_LIMIT) {
+        match calls::recover(&mut self.memory.window, NO_LIMIT) {
             Answer::Done(made) => {
                 self.judge(cut);
                 Some(made)
@@ -86,11 +86,11 @@ impl Rack<'_> {
         } else {
             (&self.old, "old")
         };
-        if let Some(what) = wanted.difference(&self.card) {
+        if let Some(what) = wanted.difference(&self.memory.window) {
             self.fail(cut, &format!("not the {word} state: {what} differs"));
-        } else if !matches!(calls::list(&self.card, &mut []), Answer::Done(_)) {
+        } else if !matches!(calls::list(&self.memory.window, &mut []), Answer::Done(_)) {
             self.fail(cut, "the card is not clean");
-        } else if calls::recover(&mut self.card, NO_LIMIT) != Answer::Done(0) {
+        } else if calls::recover(&mut self.memory.window, NO_LIMIT) != Answer::Done(0) {
             self.fail(cut, "one more recovery stores something");
         } else if is_new {
             cut.new += 1;

@@ -1,7 +1,9 @@
 //! What the rack found, as a table.
 
-use crate::store::Kind;
-use lfat_card::Operation;
+use super::stage::Stage;
+use crate::json;
+use lfat_card::printed;
+use lfat_disk::Operation;
 
 /// One cut and all that followed it.
 #[derive(Clone, Debug)]
@@ -9,7 +11,7 @@ pub struct Cut {
     /// The stores made before the power went.
     pub made: usize,
     /// What the last of them was.
-    pub last: Option<Kind>,
+    pub last: Option<Stage>,
     /// Recoveries called.
     pub recoveries: usize,
     /// Sequences of recoveries that ended in the old state as they should, in the new one as they should, or otherwise.
@@ -19,7 +21,7 @@ pub struct Cut {
 }
 
 impl Cut {
-    pub fn after(made: usize, last: Option<Kind>) -> Cut {
+    pub fn after(made: usize, last: Option<Stage>) -> Cut {
         Cut {
             made,
             last,
@@ -36,21 +38,14 @@ impl Cut {
 }
 
 /// What the last store made was for.
-pub fn stage(last: Option<Kind>) -> &'static str {
-    match last {
-        None => "none",
-        Some(Kind::Data) => "data",
-        Some(Kind::Fat2) => "FAT2",
-        Some(Kind::Clearing) => "log cleared",
-        Some(Kind::Record) => "log record",
-        Some(Kind::Fat1) => "FAT1",
-        Some(Kind::Root) => "root",
-        Some(Kind::Commit) => "commit",
-    }
+fn stage(last: Option<Stage>) -> &'static str {
+    last.map_or("none", Stage::word)
 }
 
 pub struct Report<'a> {
     pub operation: Operation<'a>,
+    /// How many stores it makes.
+    pub stores: usize,
     /// The files' bytes were compared too.
     pub sound: bool,
     pub cuts: Vec<Cut>,
@@ -62,14 +57,29 @@ impl Report<'_> {
     /// The operation in words.
     pub fn title(&self) -> String {
         let words = match self.operation {
-            Operation::Create { name } => format!("create {name}"),
-            Operation::Append { name, data } => format!("append {} bytes to {name}", data.len()),
-            Operation::Truncate { name, size } => format!("truncate {name} to {size} bytes"),
-            Operation::Delete { name } => format!("rm {name}"),
-            Operation::Rename { old, new } => format!("mv {old} to {new}"),
+            Operation::Create { name } => format!("create {}", printed(name)),
+            Operation::Append { name, data } => {
+                format!("append {} bytes to {}", data.len(), printed(name))
+            }
+            Operation::Truncate { name, size } => {
+                format!("truncate {} to {size} bytes", printed(name))
+            }
+            Operation::Delete { name } => format!("rm {}", printed(name)),
+            Operation::Rename { old, new } => format!("mv {} to {}", printed(old), printed(new)),
             Operation::Recover => "recover".to_string(),
         };
-        format!("{words}: {} stores", self.cuts.len() - 1)
+        format!("{words}: {} stores", self.stores)
+    }
+
+    /// The stages, each with its cuts.
+    fn stages(&self) -> Vec<(&'static str, Vec<&Cut>)> {
+        let mut stages: Vec<Option<Stage>> = self.cuts.iter().map(|cut| cut.last).collect();
+        stages.dedup();
+        let cuts = |last| self.cuts.iter().filter(move |cut| cut.last == last);
+        let rows = stages
+            .into_iter()
+            .map(|last| (stage(last), cuts(last).collect()));
+        rows.chain([("all", self.cuts.iter().collect())]).collect()
     }
 
     /// A row for each stage of the stores, and a total.
@@ -84,30 +94,64 @@ impl Report<'_> {
             "new",
             "mismatch"
         );
-        let mut stages: Vec<Option<Kind>> = self.cuts.iter().map(|cut| cut.last).collect();
-        stages.dedup();
-        let all: Vec<&Cut> = self.cuts.iter().collect();
-        for last in stages {
-            let cuts: Vec<&Cut> = all.iter().copied().filter(|c| c.last == last).collect();
-            text += &row(stage(last), &cuts);
+        for (name, cuts) in self.stages() {
+            text += &row(name, &cuts);
         }
-        text += &row("all", &all);
+        if self.cuts.len() <= self.stores {
+            text += &format!(
+                "\nOf {} places to cut, {} were tried.\n",
+                self.stores + 1,
+                self.cuts.len()
+            );
+        }
         if !self.sound {
             text +=
                 "\nFiles share clusters or break the chain rule: their bytes were not compared.\n";
         }
         text
     }
+
+    /// The same as a JSON object.
+    pub fn json(&self) -> String {
+        let rows = self.stages().into_iter().map(|(name, cuts)| {
+            let sums = sums(&cuts);
+            json::object(&[
+                ("last", &json::text(name)),
+                ("cuts", &cuts.len()),
+                ("recoveries", &sums[0]),
+                ("old", &sums[1]),
+                ("new", &sums[2]),
+                ("mismatch", &sums[3]),
+            ])
+        });
+        json::object(&[
+            ("operation", &json::text(&self.title())),
+            ("stores", &self.stores),
+            ("sound", &self.sound),
+            ("rows", &json::array(rows)),
+            (
+                "mismatch",
+                &json::optional(self.mismatch.as_deref().map(json::text)),
+            ),
+        ])
+    }
+}
+
+/// Recoveries, and sequences that ended as old, as new or otherwise.
+fn sums(cuts: &[&Cut]) -> [usize; 4] {
+    let of: [fn(&Cut) -> usize; 4] = [
+        |cut| cut.recoveries,
+        |cut| cut.old,
+        |cut| cut.new,
+        |cut| cut.mismatch,
+    ];
+    of.map(|of| cuts.iter().map(|cut| of(cut)).sum())
 }
 
 fn row(name: &str, cuts: &[&Cut]) -> String {
-    let sum = |of: fn(&Cut) -> usize| cuts.iter().map(|cut| of(cut)).sum::<usize>();
+    let [recoveries, old, new, mismatch] = sums(cuts);
     format!(
-        "{name:<16}{:>8}{:>12}{:>10}{:>10}{:>10}\n",
-        cuts.len(),
-        sum(|cut| cut.recoveries),
-        sum(|cut| cut.old),
-        sum(|cut| cut.new),
-        sum(|cut| cut.mismatch)
+        "{name:<16}{:>8}{recoveries:>12}{old:>10}{new:>10}{mismatch:>10}\n",
+        cuts.len()
     )
 }

@@ -1,16 +1,24 @@
 //! The cuts and recoveries of one operation.
 
-use super::progress::Progress;
 use super::random::Random;
 use super::report::{Cut, Report};
+use super::stage::Stage;
 use super::state::{is_sound, State};
-use crate::areas::{Areas, Snapshot};
 use crate::failure::Failure;
-use crate::layout::bytes;
-use crate::store::{Kind, Store};
-use crate::stores;
-use crate::volume::Volume;
-use lfat_card::{Answer, Operation, Refusal};
+use crate::progress::Progress;
+use lfat_card::{Answer, Refusal, NO_LIMIT};
+use lfat_disk::areas::{Areas, Snapshot};
+use lfat_disk::disk::Disk;
+use lfat_disk::layout::bytes;
+use lfat_disk::lists::{add, call, Lists};
+use lfat_disk::memory::Memory;
+use lfat_disk::volume::Volume;
+use lfat_disk::{DiskCard, Error, Operation, Program};
+use std::ops::Range;
+
+/// Longer lists are played, not run by the library anew for each cut; of longer runs of data, cuts are tried in half as many
+/// places.
+const LONG: usize = 4_096;
 
 #[derive(Clone, Copy, Debug)]
 pub struct Settings {
@@ -36,71 +44,120 @@ pub enum Swap {
 pub struct Rack<'a> {
     pub operation: &'a Operation<'a>,
     pub settings: &'a Settings,
-    /// The card as it was at the start.
-    pub start: &'a [u8],
     pub areas: Areas,
-    pub stores: Vec<Store>,
+    /// Each store's sector and bytes.
+    pub stores: Vec<(usize, &'a [u8])>,
     /// How many stores there are up to the log record's.
     pub recorded: usize,
-    pub old: State,
-    pub new: State,
-    pub card: Vec<u8>,
+    pub old: State<'a>,
+    pub new: State<'a>,
+    pub memory: &'a mut Memory,
+    /// The sectors that the operation may store.
+    known: Vec<Range<usize>>,
+    /// Tables and log as they were at the start.
+    start: &'a Snapshot,
+    /// How many stores of the list have been played, where it is.
+    played: usize,
     pub random: Random,
     /// The limits of the recoveries in the present sequence.
     pub limits: Vec<u32>,
     pub mismatch: Option<String>,
 }
 
-/// Cuts an operation after every number of stores and recovers in many ways. The card itself is left alone.
-pub fn run<'a>(
-    start: &[u8],
-    operation: &Operation<'a>,
+/// Cuts an operation after every number of stores and recovers in many ways. The disk is left alone; in memory the operation
+/// is made in the end.
+pub fn run<'d, D: Disk, L: Lists>(
+    card: &mut DiskCard<D, L>,
+    operation: &Operation<'d>,
     settings: &Settings,
-) -> Result<Report<'a>, Failure> {
-    let mut card = start.to_vec();
-    let mut stores = stores::run(&mut card, operation)?;
-    let areas = Areas::of(start).ok_or(Failure::Order)?;
-    let (before, after) = match (Volume::open(start), Volume::open(&card)) {
-        (Some(before), Some(after)) => (before, after),
-        _ => return Err(Refusal::Boot.into()),
+) -> Result<Report<'d>, Error> {
+    let start = card.memory().save();
+    let program = card.rehearse(operation)?;
+    let memory = card.memory();
+    let (Some(areas), Some(start), Some(after)) = (memory.areas.clone(), start, memory.save())
+    else {
+        return Err(Error::Disagree);
     };
-    let sound = is_sound(&before);
-    if let Some(swap) = settings.swap {
-        make_swap(&mut stores, swap)?;
+    memory.restore(&start);
+    let read = memory.loaded.clone();
+    let volume = Volume::open(&memory.window).ok_or(Refusal::Window)?;
+    let sound = is_sound(&volume);
+    let right: Vec<(usize, &[u8])> = program.sectors().collect();
+    let mut old = State::before(&volume, &start, &read);
+    let mut new = State::after(&areas, &after, &right);
+    if !sound {
+        (old, new) = (old.without_files(), new.without_files());
     }
-    let record = stores.iter().position(|store| store.kind == Kind::Record);
+    let stage = |store: &(usize, &[u8])| Stage::of(&areas, store.0, store.1);
+    let mut stores = right;
+    if let Some(swap) = settings.swap {
+        make_swap(&mut stores, swap);
+    }
+    let record = stores
+        .iter()
+        .position(|store| stage(store) == Stage::Record);
+    let places = places(&stores, |store| stage(store) == Stage::Data);
     let mut rack = Rack {
         operation,
         settings,
-        start,
-        areas,
+        areas: areas.clone(),
         recorded: record.map_or(usize::MAX, |at| at + 1),
-        old: State::of(&before, sound),
-        new: State::of(&after, sound),
+        old,
+        new,
         stores,
-        card,
+        memory,
+        known: known(&areas, &program),
+        start: &start,
+        played: 0,
         random: Random::new(settings.seed),
         limits: Vec::new(),
         mismatch: None,
     };
-    let mut progress = Progress::new(rack.stores.len());
-    let first = rack.areas.save(start);
+    rack.start_again().map_err(Error::Disk)?;
+    let mut progress = Progress::new("cut");
     let mut cuts = Vec::new();
-    for made in 0..=rack.stores.len() {
-        progress.step(made);
-        cuts.push(rack.cut(made, &first));
+    for (index, &made) in places.iter().enumerate() {
+        progress.step(index, places.len());
+        cuts.push(rack.cut(made).map_err(Error::Disk)?);
     }
     drop(progress);
+    let (count, mismatch) = (rack.stores.len(), rack.mismatch.take());
+    rack.start_again().map_err(Error::Disk)?;
+    call(&mut rack.memory.window, operation, NO_LIMIT);
     Ok(Report {
         operation: *operation,
+        stores: count,
         sound,
         cuts,
-        mismatch: rack.mismatch,
+        mismatch,
     })
 }
 
-fn make_swap(stores: &mut [Store], swap: Swap) -> Result<(), Failure> {
-    let count = stores.len();
+/// After how many stores the power goes: after every number, but in a long run of data stores only here and there.
+fn places(stores: &[(usize, &[u8])], is_data: impl Fn(&(usize, &[u8])) -> bool) -> Vec<usize> {
+    let data = stores.iter().take_while(|store| is_data(store)).count();
+    let step = if data > LONG {
+        data.div_ceil(LONG / 2)
+    } else {
+        1
+    };
+    let mut places: Vec<usize> = (0..data).step_by(step).collect();
+    places.extend(data..=stores.len());
+    places
+}
+
+/// The sectors that an operation may store.
+fn known(areas: &Areas, program: &Program) -> Vec<Range<usize>> {
+    let mut known = vec![areas.tables(), areas.log.clone()];
+    let sectors = program.sectors().map(|(sector, _)| sector);
+    sectors
+        .filter(|&sector| areas.is_data(sector))
+        .for_each(|sector| add(&mut known, sector));
+    known
+}
+
+/// Which stores a swap means, counted from 1; an error in words if they are not there.
+pub fn swapped(count: usize, swap: Swap) -> Result<(usize, usize), Failure> {
     let (one, other) = match swap {
         Swap::Last => (count.saturating_sub(1), count),
         Swap::Two(one, other) => (one, other),
@@ -110,50 +167,69 @@ fn make_swap(stores: &mut [Store], swap: Swap) -> Result<(), Failure> {
         let what = format!("--break: no two of the {count} stores are {one} and {other}");
         return Err(Failure::Usage(what));
     }
-    stores.swap(one - 1, other - 1);
-    Ok(())
+    Ok((one, other))
+}
+
+fn make_swap(stores: &mut [(usize, &[u8])], swap: Swap) {
+    if let Ok((one, other)) = swapped(stores.len(), swap) {
+        stores.swap(one - 1, other - 1);
+    }
 }
 
 impl Rack<'_> {
     /// Cuts the operation after so many stores, then recovers to the end in all the ways.
-    fn cut(&mut self, made: usize, first: &Snapshot) -> Cut {
-        let mut cut = Cut::after(made, made.checked_sub(1).map(|at| self.stores[at].kind));
-        self.areas.restore(&mut self.card, first);
-        for store in self.stores.iter().filter(|s| s.kind == Kind::Data) {
-            let sector = bytes(&(store.sector..store.sector + 1));
-            self.card[sector.clone()].copy_from_slice(&self.start[sector]);
-        }
+    fn cut(&mut self, made: usize) -> std::io::Result<Cut> {
+        let last = made.checked_sub(1).map(|at| self.stores[at]);
+        let last = last.map(|(sector, stored)| Stage::of(&self.areas, sector, stored));
+        let mut cut = Cut::after(made, last);
         self.limits.clear();
-        if let Err(what) = self.make(made) {
+        if let Err(what) = self.make(made)? {
             self.fail(&mut cut, &what);
-            return cut;
+            return Ok(cut);
         }
-        let here = self.areas.save(&self.card);
+        let here = self.areas.save(&self.memory.window);
         if let Some(needed) = self.explore(&mut cut, self.settings.depth, 0) {
             for _ in 0..self.settings.random {
-                self.areas.restore(&mut self.card, &here);
+                self.areas.restore(&mut self.memory.window, &here);
                 self.wander(&mut cut, needed + 2);
             }
         }
-        cut
+        self.areas.restore(&mut self.memory.window, &here);
+        if !self.memory.rest_is_as_read(self.known.clone())? {
+            self.fail(
+                &mut cut,
+                "a sector is touched that the operation does not store",
+            );
+        }
+        Ok(cut)
     }
 
-    /// Makes the first stores: the library does, with a limit, unless two are swapped.
-    fn make(&mut self, made: usize) -> Result<(), String> {
-        if self.settings.swap.is_some() {
-            for store in &self.stores[..made] {
-                store.make(&mut self.card);
+    /// The card as it was at the start.
+    fn start_again(&mut self) -> std::io::Result<()> {
+        self.memory.clear_data()?;
+        self.memory.restore(self.start);
+        self.played = 0;
+        Ok(())
+    }
+
+    /// Makes the first stores: the library does, with a limit, unless two are swapped or there are very many.
+    fn make(&mut self, made: usize) -> std::io::Result<Result<(), String>> {
+        if self.settings.swap.is_some() || self.stores.len() > LONG {
+            for (sector, stored) in &self.stores[self.played..made] {
+                self.memory.window[bytes(&(*sector..sector + 1))].copy_from_slice(stored);
             }
-            return Ok(());
+            self.played = made;
+            return Ok(Ok(()));
         }
-        let expected = if made < self.stores.len() {
-            Answer::Stopped(made as u32)
-        } else {
-            Answer::Done(made as u32)
+        self.start_again()?;
+        let expected = match made < self.stores.len() {
+            true => Answer::Stopped(made as u32),
+            false => Answer::Done(made as u32),
         };
-        match self.operation.run(&mut self.card, made as u32) {
-            answer if answer == expected => Ok(()),
-            answer => Err(format!("the operation answered {answer:?}")),
-        }
+        let answer = call(&mut self.memory.window, self.operation, made as u32);
+        Ok(match answer == expected {
+            true => Ok(()),
+            false => Err(format!("the operation answered {answer:?}")),
+        })
     }
 }

@@ -1,15 +1,22 @@
-//! What demand 3 compares: both FATs, the root directory and, on a sound card, every root file's bytes.
+//! What demand 3 compares: both FATs, the root directory and, on a sound card, the bytes of files.
+//!
+//! Of files, only the sectors that the operation stores can change: they are compared. That no other sector of the card is
+//! touched is seen from the window as a whole.
 
-use crate::layout::{bytes, get32, Layout};
-use crate::volume::Volume;
+use lfat_disk::areas::{Areas, Snapshot};
+use lfat_disk::layout::{bytes, get32, Layout, SECTOR};
+use lfat_disk::volume::Volume;
 use std::ops::Range;
 
-pub struct State {
+/// Where more sectors of data are stored, so many of them are compared.
+const MOST_COMPARED: usize = 2_048;
+
+pub struct State<'a> {
     layout: Layout,
     /// FAT1, FAT2 and the root directory, which follow each other.
     tables: Vec<u8>,
-    /// The files' bytes, by their places on the card.
-    files: Vec<(Range<usize>, Vec<u8>)>,
+    /// Bytes of files, by their places on the card.
+    files: Vec<(Range<usize>, &'a [u8])>,
 }
 
 /// Every root file keeps the chain rule and no two share a cluster.
@@ -24,29 +31,56 @@ pub fn is_sound(volume: &Volume) -> bool {
     })
 }
 
-impl State {
-    /// The state of a card as it stands, with its files' bytes if they are to be compared.
-    pub fn of(volume: &Volume, with_files: bool) -> State {
+impl<'a> State<'a> {
+    /// The state before an operation: of the data sectors that were read, those bytes that belong to files.
+    pub fn before(volume: &Volume, tables: &Snapshot, read: &'a [(usize, Vec<u8>)]) -> State<'a> {
         let mut files = Vec::new();
-        if with_files {
-            for slot in volume.files() {
-                for part in places(volume, slot) {
-                    files.push((part.clone(), volume.window[part].to_vec()));
+        for slot in volume.files() {
+            for place in places(volume, slot) {
+                for (sector, stored) in read {
+                    let part = bytes(&(*sector..sector + 1));
+                    let common = place.start.max(part.start)..place.end.min(part.end);
+                    if !common.is_empty() {
+                        let own = common.start - part.start..common.end - part.start;
+                        files.push((common, &stored[own]));
+                    }
                 }
             }
         }
         State {
             layout: volume.layout,
-            tables: volume.window[tables(&volume.layout)].to_vec(),
+            tables: tables.tables.clone(),
             files,
         }
+    }
+
+    /// The state after it: the data sectors that it stores.
+    pub fn after(areas: &Areas, tables: &Snapshot, stores: &[(usize, &'a [u8])]) -> State<'a> {
+        let data = stores.iter().filter(|(sector, _)| areas.is_data(*sector));
+        let count = data.clone().count();
+        let step = count.div_ceil(MOST_COMPARED).max(1);
+        let files = data.step_by(step).map(|(sector, stored)| {
+            let part = bytes(&(*sector..sector + 1));
+            (part, *stored)
+        });
+        State {
+            layout: areas.layout,
+            tables: tables.tables.clone(),
+            files: files.collect(),
+        }
+    }
+
+    /// Files are not compared.
+    pub fn without_files(mut self) -> State<'a> {
+        self.files.clear();
+        self
     }
 
     /// What is not so on a card, if anything.
     pub fn difference(&self, card: &[u8]) -> Option<&'static str> {
         let layout = &self.layout;
-        if card[tables(layout)] != self.tables[..] {
-            let start = tables(layout).start;
+        let start = layout.fat1().start * SECTOR;
+        if card[start..start + self.tables.len()] != self.tables[..] {
             let differs = |sectors: Range<usize>| {
                 let part = bytes(&sectors);
                 card[part.clone()] != self.tables[part.start - start..part.end - start]
@@ -59,13 +93,9 @@ impl State {
                 "the root directory"
             });
         }
-        let differ = |(part, file): &(Range<usize>, Vec<u8>)| card[part.clone()] != file[..];
+        let differ = |(part, file): &(Range<usize>, &[u8])| card[part.clone()] != **file;
         self.files.iter().any(differ).then_some("a file")
     }
-}
-
-fn tables(layout: &Layout) -> Range<usize> {
-    bytes(&(layout.fat1().start..layout.data_start()))
 }
 
 /// Where a file's bytes are on the card, neighbouring clusters as one part.

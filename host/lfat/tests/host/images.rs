@@ -99,7 +99,7 @@ fn blank_cards() {
         let (mut window, total) = blank.front().expect("a card");
         window.resize(total * 512, 0);
         assert_eq!(lfat_card::calls::list(&window, &mut []), Answer::Done(0));
-        let log = lfat::volume::Volume::open(&window).and_then(|volume| volume.log());
+        let log = lfat_disk::volume::Volume::open(&window).and_then(|volume| volume.log());
         assert_eq!(log.map(|log| log.len()), Some(log_sectors));
     }
     let folder = Folder::new("blank");

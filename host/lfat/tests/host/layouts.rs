@@ -2,8 +2,8 @@
 
 use crate::support::random::Random;
 use crate::support::spec;
-use lfat::layout::Layout;
 use lfat_card::{calls, Answer, Refusal};
+use lfat_disk::layout::Layout;
 use reference::CardSpec;
 
 /// Whether the library accepts a boot sector, and the layout here too.

@@ -1,17 +1,21 @@
-//! The host side: header and loader in C, the wrapper, the command line, the writing of images, the rack.
+//! The host side: header and loader in C, the wrapper, the command line, the rack.
 
 mod commands;
-mod failing_disk;
-mod fragments;
 mod header;
 mod images;
+mod json;
 mod layouts;
 mod listing;
 mod loader;
-mod prefixes;
+mod memory;
+mod odd_names;
+mod outputs;
+mod partitioned;
 mod rack;
 mod refusals;
+mod remedies;
 mod support;
+mod terminal;
 mod usage;
 mod worked_card;
 mod wrapper;

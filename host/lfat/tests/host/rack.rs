@@ -1,10 +1,12 @@
 //! The rack: passes what the library does, and notices two swapped stores.
 
 use crate::support::cli::Folder;
+use crate::support::ram::Ram;
 use crate::support::{card_with_route, points, set_fats, ALL, PANEL};
+use lfat::rack::stage::Stage;
 use lfat::rack::{run, Settings};
-use lfat::store::Kind;
-use lfat_card::{Name, Operation};
+use lfat_disk::lists::Planned;
+use lfat_disk::{Access, DiskCard, Operation};
 
 const OPERATIONS: [&str; 6] = [
     "create NEW.CUT",
@@ -147,18 +149,19 @@ fn full_log() {
     for sector in 65..73 {
         card[sector * 512] = 0xE5;
     }
-    let name = Name::parse("ROUTE.CUT").expect("a name");
+    let name = b"ROUTE   CUT";
     let settings = Settings {
         depth: 2,
         random: 8,
         seed: 3,
         swap: None,
     };
-    let report = run(&card, &Operation::Delete { name }, &settings).expect("granted");
+    let mut card = DiskCard::on(Ram(card), Planned, Access::Read).expect("opened");
+    let report = run(&mut card, &Operation::Delete { name }, &settings).expect("granted");
     let clearing = report
         .cuts
         .iter()
-        .filter(|cut| cut.last == Some(Kind::Clearing));
+        .filter(|cut| cut.last == Some(Stage::Clearing));
     assert_eq!(clearing.count(), 8);
     assert_eq!(report.mismatch, None);
     assert!(report

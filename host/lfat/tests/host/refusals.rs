@@ -15,10 +15,12 @@ pub fn folder_with(name: &str, card: &[u8]) -> Folder {
 /// Runs commands that must be refused on one ground, on a card that stays as it is.
 fn refused(name: &str, card: &[u8], refusal: Refusal, lines: &[&str]) {
     let folder = folder_with(name, card);
-    let words = format!("lfat: {}: {}.\n", refusal.name(), refusal.meaning());
+    let words = format!("lfat: {}: {}. ", refusal.name(), refusal.meaning());
     for line in lines {
         let run = folder.lfat(line).failed(1, &words);
-        assert!(run.errors().lines().count() >= 2, "{line} gives advice");
+        let errors = run.errors();
+        assert_eq!(errors.lines().count(), 1, "{line}: one line");
+        assert!(errors.len() > words.len() + 10, "{line} gives advice");
         assert!(folder.read("card") == card, "{line} changes nothing");
     }
 }

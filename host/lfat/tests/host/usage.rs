@@ -41,7 +41,8 @@ fn wrong_usage() {
         "blank", "ls", "get", "put", "append", "truncate", "rm", "mv", "recover", "log", "info",
         "rack",
     ] {
-        let run = folder.lfat(line).failed(2, "IMAGE is missing");
+        let run = folder.lfat(line).failed(2, "lfat: IMAGE ");
+        assert!(run.errors().contains("missing; usage: "), "{line}");
         assert!(run.errors().contains(&format!("usage: lfat {line} IMAGE")));
     }
     for (line, words) in [
@@ -75,6 +76,7 @@ fn wrong_usage() {
     ] {
         let run = folder.lfat(line).failed(2, words);
         assert!(run.errors().contains("usage: lfat "), "{line}");
+        assert_eq!(run.errors().lines().count(), 1, "{line}: one line");
         assert!(folder.read("card") == card, "{line}");
     }
 }

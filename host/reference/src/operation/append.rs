@@ -6,19 +6,25 @@ use crate::fat_draft::FatDraft;
 use crate::journal::{record, Record};
 use crate::lookup::File;
 use crate::name;
+use crate::program::Extent;
 use crate::root_change::RootChange;
-use crate::store::{Store, SECTOR_BYTES};
-use crate::transaction::Transaction;
+use crate::store::SECTOR_BYTES;
+use crate::transaction::{Planned, Transaction};
 use crate::volume::Volume;
+use std::borrow::Cow;
 
-pub fn plan(card: &[u8], name: &[u8], data: &[u8]) -> Result<Vec<Store>, Ground> {
+pub fn plan<'a, 'd>(
+    card: &'a [u8],
+    name: &[u8],
+    data: &'d [u8],
+) -> Result<Planned<'a, 'd>, Ground> {
     let card = check::clean(card)?;
     let volume = &card.volume;
     let file = File::find(volume, &name::parse(name)?)?;
     let mut chain = file.chain(volume)?;
     let new = new_clusters(volume, &file, chain.len(), data.len())?;
     if data.is_empty() {
-        return Ok(Vec::new());
+        return Ok(Planned { card, change: None });
     }
 
     let old_last = chain.last().copied();
@@ -32,12 +38,15 @@ pub fn plan(card: &[u8], name: &[u8], data: &[u8]) -> Result<Vec<Store>, Ground>
     };
     chain.extend(new);
     let transaction = Transaction {
-        data: data_stores(volume, &chain, file.size as usize, data),
+        data: data_extents(volume, &chain, file.size as usize, data),
         fat,
         records: vec![record],
         root,
     };
-    Ok(transaction.stores(&card))
+    Ok(Planned {
+        card,
+        change: Some(transaction),
+    })
 }
 
 /// Ground 15, NOSPACE: the lowest free clusters, as many as the new bytes need.
@@ -69,25 +78,65 @@ fn update_record(file: &File, old_last: Option<u16>, new: &[u16], added: usize) 
 }
 
 /// The data sectors that get new bytes, by rising file offset. `chain` has the
-/// new clusters too.
-fn data_stores(volume: &Volume, chain: &[u16], old_size: usize, data: &[u8]) -> Vec<Store> {
+/// new clusters too. Only the first and the last sector are copied.
+fn data_extents<'d>(
+    volume: &Volume,
+    chain: &[u16],
+    old_size: usize,
+    data: &'d [u8],
+) -> Vec<Extent<'d>> {
     let first = old_size / SECTOR_BYTES;
     let (head, tail) = data.split_at(data.len().min(SECTOR_BYTES - old_size % SECTOR_BYTES));
-    let mut stores = Vec::with_capacity(1 + tail.len().div_ceil(SECTOR_BYTES));
+    let (whole, last) = tail.split_at(tail.len() - tail.len() % SECTOR_BYTES);
 
     let mut shared = volume.draft(sector_of(volume, chain, first));
     let kept = old_size % SECTOR_BYTES;
     shared.bytes[kept..kept + head.len()].copy_from_slice(head);
     shared.bytes[kept + head.len()..].fill(0);
-    stores.push(shared);
-
-    for (index, piece) in tail.chunks(SECTOR_BYTES).enumerate() {
-        let mut bytes = [0; SECTOR_BYTES];
-        bytes[..piece.len()].copy_from_slice(piece);
-        let sector = sector_of(volume, chain, first + 1 + index) as usize;
-        stores.push(Store { sector, bytes });
+    let mut extents = vec![Extent {
+        first: shared.sector,
+        bytes: Cow::Owned(shared.bytes.to_vec()),
+    }];
+    extents.extend(whole_sectors(volume, chain, first + 1, whole));
+    if !last.is_empty() {
+        let at = first + 1 + whole.len() / SECTOR_BYTES;
+        let mut bytes = last.to_vec();
+        bytes.resize(SECTOR_BYTES, 0);
+        extents.push(Extent {
+            first: sector_of(volume, chain, at) as usize,
+            bytes: Cow::Owned(bytes),
+        });
     }
-    stores
+    extents
+}
+
+/// Whole sectors of data from a sector of the file on; neighbouring clusters share
+/// an extent.
+fn whole_sectors<'d>(
+    volume: &Volume,
+    chain: &[u16],
+    first: usize,
+    mut data: &'d [u8],
+) -> Vec<Extent<'d>> {
+    let per_cluster = volume.geometry.sectors_per_cluster as usize;
+    let mut extents = Vec::new();
+    let mut at = first;
+    while !data.is_empty() {
+        let start = sector_of(volume, chain, at) as usize;
+        let wanted = data.len() / SECTOR_BYTES;
+        let mut count = per_cluster - at % per_cluster;
+        while count < wanted && sector_of(volume, chain, at + count) as usize == start + count {
+            count += per_cluster;
+        }
+        let (piece, rest) = data.split_at(count.min(wanted) * SECTOR_BYTES);
+        extents.push(Extent {
+            first: start,
+            bytes: Cow::Borrowed(piece),
+        });
+        at += count;
+        data = rest;
+    }
+    extents
 }
 
 /// The card's sector for a sector of the file.

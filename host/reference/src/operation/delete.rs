@@ -7,10 +7,9 @@ use crate::journal::{record, Record};
 use crate::lookup::File;
 use crate::name;
 use crate::root_change::RootChange;
-use crate::store::Store;
-use crate::transaction::Transaction;
+use crate::transaction::{Planned, Transaction};
 
-pub fn plan(card: &[u8], name: &[u8]) -> Result<Vec<Store>, Ground> {
+pub fn plan<'a>(card: &'a [u8], name: &[u8]) -> Result<Planned<'a, 'static>, Ground> {
     let card = check::clean(card)?;
     let volume = &card.volume;
     let file = File::find(volume, &name::parse(name)?)?;
@@ -33,5 +32,8 @@ pub fn plan(card: &[u8], name: &[u8]) -> Result<Vec<Store>, Ground> {
         records: vec![record],
         root: RootChange::Delete { slot: file.slot },
     };
-    Ok(transaction.stores(&card))
+    Ok(Planned {
+        card,
+        change: Some(transaction),
+    })
 }

@@ -7,8 +7,10 @@ mod rename;
 mod truncate;
 
 use crate::answer::{Answer, Ground};
+use crate::program::Program;
 use crate::recovery;
 use crate::store::{self, Store};
+use crate::transaction::Planned;
 
 /// A writing call with what it was given.
 #[derive(Clone, Copy, Debug, PartialEq, Eq)]
@@ -21,16 +23,35 @@ pub enum Operation<'a> {
     Recover,
 }
 
-/// The stores that the call would make on the card as it stands, given a large
-/// enough limit.
-pub fn plan(card: &[u8], operation: &Operation) -> Result<Vec<Store>, Ground> {
-    match *operation {
+/// The call's plan, unless it is the recovery.
+fn planned<'a, 'd>(
+    card: &'a [u8],
+    operation: &Operation<'d>,
+) -> Option<Result<Planned<'a, 'd>, Ground>> {
+    Some(match *operation {
         Operation::Create { name } => create::plan(card, name),
         Operation::Append { name, data } => append::plan(card, name, data),
         Operation::Truncate { name, size } => truncate::plan(card, name, size),
         Operation::Delete { name } => delete::plan(card, name),
         Operation::Rename { old, new } => rename::plan(card, old, new),
-        Operation::Recover => recovery::plan(card),
+        Operation::Recover => return None,
+    })
+}
+
+/// The stores that the call would make on the card as it stands, given a large
+/// enough limit.
+pub fn plan(card: &[u8], operation: &Operation) -> Result<Vec<Store>, Ground> {
+    match planned(card, operation) {
+        Some(planned) => planned.map(Planned::stores),
+        None => recovery::plan(card),
+    }
+}
+
+/// The same stores in segments. Bytes of the caller's data are borrowed.
+pub fn program<'d>(card: &[u8], operation: &Operation<'d>) -> Result<Program<'d>, Ground> {
+    match planned(card, operation) {
+        Some(planned) => planned.map(Planned::program),
+        None => recovery::program(card),
     }
 }
 

@@ -8,10 +8,9 @@ use crate::lookup::File;
 use crate::name::{self, Name};
 use crate::root;
 use crate::root_change::RootChange;
-use crate::store::Store;
-use crate::transaction::Transaction;
+use crate::transaction::{Planned, Transaction};
 
-pub fn plan(card: &[u8], old: &[u8], new: &[u8]) -> Result<Vec<Store>, Ground> {
+pub fn plan<'a>(card: &'a [u8], old: &[u8], new: &[u8]) -> Result<Planned<'a, 'static>, Ground> {
     let card = check::clean(card)?;
     let volume = &card.volume;
     let old_name = name::parse(old)?;
@@ -31,7 +30,10 @@ pub fn plan(card: &[u8], old: &[u8], new: &[u8]) -> Result<Vec<Store>, Ground> {
             new_name,
         },
     };
-    Ok(transaction.stores(&card))
+    Ok(Planned {
+        card,
+        change: Some(transaction),
+    })
 }
 
 /// Record 1 is record 0 with the new name, operation 0 and the new slot.

@@ -7,10 +7,9 @@ use crate::journal::{record, Record};
 use crate::lookup::File;
 use crate::name;
 use crate::root_change::RootChange;
-use crate::store::Store;
-use crate::transaction::Transaction;
+use crate::transaction::{Planned, Transaction};
 
-pub fn plan(card: &[u8], name: &[u8], size: u64) -> Result<Vec<Store>, Ground> {
+pub fn plan<'a>(card: &'a [u8], name: &[u8], size: u64) -> Result<Planned<'a, 'static>, Ground> {
     let card = check::clean(card)?;
     let volume = &card.volume;
     let file = File::find(volume, &name::parse(name)?)?;
@@ -20,7 +19,7 @@ pub fn plan(card: &[u8], name: &[u8], size: u64) -> Result<Vec<Store>, Ground> {
     }
     let size = size as u32;
     if size == file.size {
-        return Ok(Vec::new());
+        return Ok(Planned { card, change: None });
     }
 
     let kept = size.div_ceil(volume.geometry.cluster_bytes()) as usize;
@@ -44,5 +43,8 @@ pub fn plan(card: &[u8], name: &[u8], size: u64) -> Result<Vec<Store>, Ground> {
             size,
         },
     };
-    Ok(transaction.stores(&card))
+    Ok(Planned {
+        card,
+        change: Some(transaction),
+    })
 }

@@ -1,7 +1,9 @@
 //! Running the command line in a folder of its own.
 
+use std::ffi::OsStr;
 use std::path::{Path, PathBuf};
 use std::process::{Command, Output, Stdio};
+use std::sync::OnceLock;
 use std::{env, fs};
 
 /// A folder that goes when the test ends.
@@ -37,7 +39,47 @@ impl Folder {
         self.run(env!("CARGO_BIN_EXE_lfat"), line, input.into())
     }
 
-    pub fn run(&self, program: impl AsRef<std::ffi::OsStr>, line: &str, input: Stdio) -> Run {
+    /// The same with words that need not be text.
+    pub fn lfat_words(&self, words: &[&OsStr]) -> Run {
+        let mut command = Command::new(env!("CARGO_BIN_EXE_lfat"));
+        let output = command
+            .args(words)
+            .current_dir(&self.0)
+            .stdin(Stdio::null())
+            .output();
+        Run {
+            line: format!("{words:?}"),
+            output: output.expect("the program runs"),
+        }
+    }
+
+    /// Runs lfat on a machine whose disks take so many writes and no more.
+    pub fn lfat_with_writes(&self, writes: usize, line: &str) -> Run {
+        let output = Command::new(env!("CARGO_BIN_EXE_lfat"))
+            .args(line.split_whitespace())
+            .current_dir(&self.0)
+            .stdin(Stdio::null())
+            .env("LD_PRELOAD", full_disk())
+            .env("WRITES", writes.to_string())
+            .output();
+        Run {
+            line: format!("{line}, {writes} writes"),
+            output: output.expect("the program runs"),
+        }
+    }
+
+    /// The names of all files here, sorted.
+    pub fn names(&self) -> Vec<String> {
+        let entries = fs::read_dir(&self.0).expect("the folder is there");
+        let names = entries.map(|entry| entry.expect("an entry").file_name());
+        let mut names: Vec<String> = names
+            .map(|name| name.to_string_lossy().into_owned())
+            .collect();
+        names.sort();
+        names
+    }
+
+    pub fn run(&self, program: impl AsRef<OsStr>, line: &str, input: Stdio) -> Run {
         let output = Command::new(program)
             .args(line.split_whitespace())
             .current_dir(&self.0)
@@ -94,4 +136,47 @@ impl Run {
         assert!(errors.contains(words), "{}: {errors}", self.line);
         self
     }
+}
+
+/// A library that lets the writes to files fail after so many.
+const FULL_DISK: &str = r#"
+#define _GNU_SOURCE
+#include <errno.h>
+#include <stdlib.h>
+#include <sys/syscall.h>
+#include <unistd.h>
+static int is_full(int fd)
+{
+    static long left = -1;
+    if (left < 0)
+        left = atol(getenv("WRITES"));
+    if (fd <= 2 || left-- > 0)
+        return 0;
+    left = 0;
+    errno = ENOSPC;
+    return 1;
+}
+ssize_t write(int fd, const void *bytes, size_t count)
+{
+    return is_full(fd) ? -1 : syscall(SYS_write, fd, bytes, count);
+}
+ssize_t pwrite64(int fd, const void *bytes, size_t count, off64_t at)
+{
+    return is_full(fd) ? -1 : syscall(SYS_pwrite64, fd, bytes, count, at);
+}
+"#;
+
+fn full_disk() -> &'static Path {
+    static BUILT: OnceLock<PathBuf> = OnceLock::new();
+    BUILT.get_or_init(|| {
+        let path = Path::new(env!("CARGO_TARGET_TMPDIR")).join("full_disk.so");
+        let source = path.with_extension("c");
+        fs::write(&source, FULL_DISK).expect("a source");
+        let built = Command::new("gcc")
+            .args(["-shared", "-fPIC", "-O1", "-o"])
+            .args([&path, &source])
+            .status();
+        assert!(built.expect("gcc is there").success());
+        path
+    })
 }

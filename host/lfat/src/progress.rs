@@ -1,36 +1,44 @@
-//! A progress bar, on a terminal only.
+//! A progress bar: on a terminal only, and only for what takes more than a second.
 
 use std::io::{stderr, IsTerminal, Write};
+use std::time::{Duration, Instant};
 
 const WIDTH: usize = 40;
+const QUIET: Duration = Duration::from_secs(1);
 
 pub struct Progress {
-    total: usize,
+    /// What is counted, in words.
+    what: &'static str,
+    began: Instant,
     shown: Option<usize>,
     is_terminal: bool,
 }
 
 impl Progress {
-    pub fn new(total: usize) -> Progress {
+    pub fn new(what: &'static str) -> Progress {
         Progress {
-            total,
+            what,
+            began: Instant::now(),
             shown: None,
             is_terminal: stderr().is_terminal(),
         }
     }
 
     /// Draws the bar anew when its percentage has changed.
-    pub fn step(&mut self, done: usize) {
-        let percent = done * 100 / self.total.max(1);
-        if self.is_terminal && self.shown != Some(percent) {
+    pub fn step(&mut self, done: usize, total: usize) {
+        if !self.is_terminal || self.began.elapsed() < QUIET {
+            return;
+        }
+        let percent = (done as u128 * 100 / total.max(1) as u128) as usize;
+        if self.shown != Some(percent) {
             self.shown = Some(percent);
             let filled = percent * WIDTH / 100;
             let _ = write!(
                 stderr(),
-                "\r[{}{}] {percent:>3} %  cut {done} of {}",
+                "\r[{}{}] {percent:>3} %  {} {done} of {total}",
                 "#".repeat(filled),
                 ".".repeat(WIDTH - filled),
-                self.total
+                self.what,
             );
         }
     }

@@ -2,6 +2,7 @@
 
 use std::ops::Range;
 
+/// The bytes of a sector.
 pub const SECTOR: usize = 512;
 
 /// The fewest and the most clusters of a FAT16 card.
@@ -10,18 +11,26 @@ pub const CLUSTERS: Range<usize> = 4_085..65_525;
 /// The numbers of a boot sector that keeps the rules.
 #[derive(Clone, Copy, Debug, PartialEq, Eq)]
 pub struct Layout {
+    /// A power of two, at most 64.
     pub sectors_per_cluster: usize,
+    /// Sectors before FAT1, the boot sector too.
     pub reserved: usize,
+    /// Slots of the root directory.
     pub root_entries: usize,
+    /// Sectors of each FAT.
     pub sectors_per_fat: usize,
+    /// Sectors of the card.
     pub total_sectors: usize,
+    /// Whole clusters of the data.
     pub clusters: usize,
 }
 
+/// A little-endian number of 2 bytes.
 pub fn get16(bytes: &[u8], at: usize) -> usize {
     usize::from(u16::from_le_bytes([bytes[at], bytes[at + 1]]))
 }
 
+/// A little-endian number of 4 bytes.
 pub fn get32(bytes: &[u8], at: usize) -> usize {
     get16(bytes, at) | get16(bytes, at + 2) << 16
 }
@@ -65,20 +74,24 @@ impl Layout {
             && self.sectors_per_fat > 0
     }
 
+    /// The sectors of FAT1.
     pub fn fat1(&self) -> Range<usize> {
         self.reserved..self.reserved + self.sectors_per_fat
     }
 
+    /// The sectors of FAT2.
     pub fn fat2(&self) -> Range<usize> {
         let start = self.fat1().end;
         start..start + self.sectors_per_fat
     }
 
+    /// The sectors of the root directory.
     pub fn root(&self) -> Range<usize> {
         let start = self.fat2().end;
         start..start + self.root_entries / 16
     }
 
+    /// The first sector of the data.
     pub fn data_start(&self) -> usize {
         self.root().end
     }
@@ -89,10 +102,12 @@ impl Layout {
         start..start + self.sectors_per_cluster
     }
 
+    /// Whether there is a cluster of that number.
     pub fn is_cluster(&self, number: usize) -> bool {
         (2..self.clusters + 2).contains(&number)
     }
 
+    /// The bytes of a cluster.
     pub fn cluster_bytes(&self) -> usize {
         self.sectors_per_cluster * SECTOR
     }

@@ -14,11 +14,14 @@ const DIRECTORY: u8 = 0x10;
 /// A window that is as long as its boot sector says.
 #[derive(Clone, Copy)]
 pub struct Volume<'a> {
+    /// The card, from its boot sector on.
     pub window: &'a [u8],
+    /// Where its areas are.
     pub layout: Layout,
 }
 
 impl<'a> Volume<'a> {
+    /// `None` if the boot sector is refused or the window is too short.
     pub fn open(window: &'a [u8]) -> Option<Volume<'a>> {
         let layout = Layout::parse(window)?;
         let whole = window.len() / SECTOR >= layout.total_sectors;
@@ -34,6 +37,7 @@ impl<'a> Volume<'a> {
         (2..self.layout.clusters + 2).filter(move |&cluster| self.entry(cluster) == value)
     }
 
+    /// How many clusters FAT1 has free.
     pub fn free_clusters(&self) -> usize {
         self.clusters_holding(FREE).count()
     }
@@ -63,13 +67,13 @@ impl<'a> Volume<'a> {
     /// The lowest slot that bears the name.
     pub fn find(&self, name: &[u8]) -> Option<&'a [u8]> {
         self.slots()
-            .find(|slot| is_live(slot) && slot[11] & LABEL == 0 && slot.starts_with(name))
+            .find(|slot| is_entry(slot) && slot.starts_with(name))
     }
 
     /// The root files: live, neither labels nor directories.
     pub fn files(&self) -> impl Iterator<Item = &'a [u8]> {
         self.slots()
-            .filter(|slot| is_live(slot) && slot[11] & (LABEL | DIRECTORY) == 0)
+            .filter(|slot| is_entry(slot) && slot[11] & DIRECTORY == 0)
     }
 
     /// The clusters of a file, if it keeps the chain rule.
@@ -105,4 +109,9 @@ impl<'a> Volume<'a> {
 /// A slot's or a record's first byte says that it is neither free nor deleted.
 pub fn is_live(bytes: &[u8]) -> bool {
     !matches!(bytes[0], 0 | 0xE5)
+}
+
+/// A slot that is a file or a directory: live, and neither a label nor part of a long name.
+pub fn is_entry(slot: &[u8]) -> bool {
+    is_live(slot) && slot[11] & LABEL == 0
 }

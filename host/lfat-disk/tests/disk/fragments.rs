@@ -1,11 +1,17 @@
 //! Lists of stores that are not one run of sectors: fragments of a file, many FAT sectors, two root sectors.
 
-use crate::prefixes::check_with_recoveries;
-use crate::support::{points, set_fats, ALL};
-use lfat::store::Kind;
-use lfat::stores;
-use lfat_card::{Name, Operation};
+use crate::prefixes::{check_with_recoveries, writes};
+use crate::support::cards::{points, ALL, ROUTE};
+use lfat_disk::Operation;
 use reference::CardSpec;
+use std::ops::Range;
+
+/// The sectors that a call writes within a part of card K.
+fn sectors(card: &[u8], operation: &Operation, part: Range<usize>) -> Vec<usize> {
+    let writes = writes(card, operation).expect("granted");
+    let sectors = writes.into_iter().map(|(sector, _)| sector);
+    sectors.filter(|sector| part.contains(sector)).collect()
+}
 
 /// Fragments: data sectors by file offset, which fall on the card.
 #[test]
@@ -19,20 +25,14 @@ fn file_in_fragments() {
         reference::create(&mut card, name, ALL);
         reference::append(&mut card, name, &data[..1_000], ALL);
     }
-    let grown = Name::parse("F5").expect("a name");
     for gone in [0, 2, 4] {
         reference::delete(&mut card, &names[gone], ALL);
     }
     let operation = Operation::Append {
-        name: grown,
+        name: b"F5         ",
         data: &data,
     };
-    let stores = stores::run(&mut card.clone(), &operation).expect("granted");
-    let sectors: Vec<usize> = stores
-        .iter()
-        .filter(|store| store.kind == Kind::Data)
-        .map(|store| store.sector)
-        .collect();
+    let sectors = sectors(&card, &operation, 73..4_150);
     assert_eq!(sectors.len(), 21);
     assert_eq!(sectors[..8], [84, 73, 74, 77, 78, 81, 82, 85]);
     check_with_recoveries(&mut card, &operation);
@@ -43,9 +43,11 @@ fn file_in_fragments() {
 fn many_fat_sectors() {
     let mut card = CardSpec::K.build();
     for cluster in (10..4_087).filter(|cluster| cluster % 200 != 0) {
-        set_fats(&mut card, cluster, 0xFFF7);
+        for fat in [1, 17] {
+            card[fat * 512 + cluster * 2..][..2].copy_from_slice(&0xFFF7_u16.to_le_bytes());
+        }
     }
-    let name = Name::parse("ROUTE.CUT").expect("a name");
+    let name = ROUTE;
     let data = points(18 * 512);
     let create = Operation::Create { name };
     let append = Operation::Append { name, data: &data };
@@ -56,9 +58,8 @@ fn many_fat_sectors() {
         (truncate, 9),
         (Operation::Delete { name }, 7),
     ] {
-        let stores = stores::run(&mut card.clone(), &operation).expect("granted");
-        for kind in [Kind::Fat1, Kind::Fat2] {
-            let count = stores.iter().filter(|store| store.kind == kind).count();
+        for fat in [1..17, 17..33] {
+            let count = sectors(&card, &operation, fat).len();
             assert_eq!(count, fat_sectors, "{operation:?}");
         }
         check_with_recoveries(&mut card, &operation);
@@ -73,11 +74,8 @@ fn rename_across_root_sectors() {
         reference::create(&mut card, format!("F{slot:07}   ").as_bytes(), ALL);
     }
     reference::delete(&mut card, b"F0000003   ", ALL);
-    let old = Name::parse("F0000030").expect("a name");
-    let new = Name::parse("KEEL.CUT").expect("a name");
+    let (old, new) = (b"F0000030   ", b"KEEL    CUT");
     let operation = Operation::Rename { old, new };
-    let stores = stores::run(&mut card.clone(), &operation).expect("granted");
-    let root = stores.iter().filter(|store| store.kind == Kind::Root);
-    assert_eq!(root.map(|store| store.sector).collect::<Vec<_>>(), [33, 34]);
+    assert_eq!(sectors(&card, &operation, 33..65), [33, 34]);
     check_with_recoveries(&mut card, &operation);
 }

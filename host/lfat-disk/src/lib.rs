@@ -1,0 +1,47 @@
+//! Files on FAT16 cards with a TI-LFAT journal, on real disks: images, block devices and their partitions.
+//!
+//! A call is made by the proved library on the card in memory; the stores that it makes there are then written to the disk in an
+//! order that keeps the library's promise: a power cut at any moment, of the card or of this machine, leaves each file as it was
+//! or as it was to be, once the card is recovered.
+//!
+//! ```no_run
+//! use lfat_disk::{Access, DiskCard};
+//!
+//! let mut card = DiskCard::open("/dev/sdX".as_ref(), Access::Write)?;
+//! card.recover()?;
+//! card.create(b"ROUTE   CUT")?;
+//! card.append(b"ROUTE   CUT", b"G0\n")?;
+//! # Ok::<(), lfat_disk::Error>(())
+//! ```
+//!
+//! Where to look:
+//! - `card`: the calls;
+//! - `lists`: the list of stores of a call, held against the library; `writer`: writing it by segments;
+//! - `disk`, `partition`: images, block devices, partitions;
+//! - `window`, `memory`, `areas`: the card in memory, of which only a part is read;
+//! - `layout`, `volume`, `entry`: looking into a card;
+//! - `c`: the C interface, `include/lfat_disk.h`.
+
+#![deny(missing_docs)]
+
+pub mod areas;
+mod c;
+mod card;
+pub mod disk;
+pub mod entry;
+mod error;
+pub mod layout;
+pub mod lists;
+pub mod memory;
+pub mod partition;
+mod slot;
+pub mod sys;
+pub mod volume;
+pub mod window;
+pub mod writer;
+
+pub use card::{DiskCard, Opening};
+pub use disk::{Access, Disk, Wait};
+pub use entry::Entry;
+pub use error::Error;
+pub use reference::{Extent, Operation, Program, Segment};

@@ -1,0 +1,85 @@
+//! Files by their slot: other systems write names that the rule for names does not allow, and no call finds these.
+//!
+//! In memory such a slot gets a name that no other has, and the call is made by that name. Reading changes nothing on the disk.
+//! Delete and rename mark the slot as deleted, so that the name does not last; in the log it stands in the record. Recovery goes
+//! by the record's slot and not by its name, so a cut is as safe as that of any other delete or rename.
+
+use crate::card::DiskCard;
+use crate::disk::Disk;
+use crate::error::Error;
+use crate::layout::bytes;
+use crate::lists::Lists;
+use crate::volume::{is_entry, Volume};
+use lfat_card::Refusal;
+use reference::Operation;
+
+const NAME: usize = 11;
+
+impl<D: Disk, L: Lists> DiskCard<D, L> {
+    /// Copies the bytes of the file in a slot from an offset on into the buffer; gives how many there were.
+    pub fn read_slot(
+        &mut self,
+        slot: usize,
+        offset: u64,
+        buffer: &mut [u8],
+    ) -> Result<usize, Error> {
+        let (name, own) = self.lend_name(slot, &[])?;
+        let read = self.read(&name, offset, buffer);
+        self.set_name(slot, &own);
+        read
+    }
+
+    /// Removes the file in a slot and frees its clusters.
+    pub fn delete_slot(&mut self, slot: usize, limit: u32) -> Result<u32, Error> {
+        let (name, own) = self.lend_name(slot, &[])?;
+        let made = self.save(&[Operation::Delete { name: &name }], limit);
+        self.take_back(slot, &own, made)
+    }
+
+    /// Gives the file in a slot another name.
+    pub fn rename_slot(&mut self, slot: usize, new: &[u8], limit: u32) -> Result<u32, Error> {
+        let (old, own) = self.lend_name(slot, new)?;
+        let made = self.save(&[Operation::Rename { old: &old, new }], limit);
+        self.take_back(slot, &own, made)
+    }
+
+    /// A slot that was not changed has its own name again.
+    fn take_back(
+        &mut self,
+        slot: usize,
+        own: &[u8; NAME],
+        made: Result<u32, Error>,
+    ) -> Result<u32, Error> {
+        if made.is_err() {
+            self.set_name(slot, own);
+        }
+        made
+    }
+
+    /// Gives a slot a name in memory that no other slot has, nor will have; gives that and its own.
+    fn lend_name(&mut self, slot: usize, new: &[u8]) -> Result<([u8; NAME], [u8; NAME]), Error> {
+        self.list()?;
+        let volume = Volume::open(self.window()).ok_or(Refusal::Window)?;
+        let found = volume.slots().nth(slot).filter(|bytes| is_entry(bytes));
+        let found = found.ok_or(Refusal::Absent)?;
+        let mut own = [0; NAME];
+        own.copy_from_slice(&found[..NAME]);
+        // There are fewer slots than such names.
+        let names = (0..=999_999).map(|number| format!("LF{number:06}LFT"));
+        let mut names = names.filter(|name| name.as_bytes() != new);
+        let free = names.find(|name| volume.find(name.as_bytes()).is_none());
+        let mut name = [0; NAME];
+        name.copy_from_slice(free.ok_or(Refusal::Rootfull)?.as_bytes());
+        self.set_name(slot, &name);
+        Ok((name, own))
+    }
+
+    fn set_name(&mut self, slot: usize, name: &[u8; NAME]) {
+        let Some(areas) = self.memory().areas.clone() else {
+            return;
+        };
+        let root = bytes(&areas.layout.root());
+        let at = root.start + slot * 32;
+        self.memory().window[at..at + NAME].copy_from_slice(name);
+    }
+}

@@ -1,0 +1,13 @@
+//! The disk layer: on a disk that lies, on one that fails, on files and devices, on partitions; and in C.
+
+mod broken;
+mod c;
+mod devices;
+mod faults;
+mod files;
+mod fragments;
+mod killed;
+mod partitions;
+mod prefixes;
+mod support;
+mod verbs;

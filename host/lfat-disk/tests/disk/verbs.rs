@@ -1,0 +1,166 @@
+//! Every verb on a disk that lies: cut after every disk operation, recovered, cut in recovery, recovered again.
+
+use crate::support::cards::{
+    full_log, odd_name, points, scattered, state, two_files, verbs, wide, Verb, NEW, PANEL, ROUTE,
+};
+use crate::support::cuts::{examine, run, Depth, Ships, Tried};
+use crate::support::lying::{Event, Lying};
+use crate::support::random::Random;
+use lfat_disk::lists::Planned;
+use lfat_disk::{Access, DiskCard, Operation};
+
+const THOROUGH: Depth = Depth {
+    all_below: 5,
+    recoveries: true,
+};
+const QUICK: Depth = Depth {
+    all_below: 3,
+    recoveries: false,
+};
+
+#[test]
+fn every_verb() {
+    let mut all = 0;
+    for card in [two_files(), full_log(), odd_name()] {
+        for verb in verbs() {
+            let tried = found_nothing(examine(&Ships, &card, &verb, THOROUGH));
+            let is_odd = card == odd_name();
+            assert!(
+                is_odd || tried.old > 3 && tried.new > 3,
+                "{verb:?}: {tried:?}"
+            );
+            all += tried.cuts;
+        }
+    }
+    println!("{all} cuts, each recovered");
+}
+
+fn found_nothing(tried: Result<Tried, String>) -> Tried {
+    tried.unwrap_or_else(|what| panic!("{what}"))
+}
+
+#[test]
+fn larger_clusters_and_scattered_files() {
+    for card in [scattered(), wide()] {
+        for verb in verbs() {
+            found_nothing(examine(&Ships, &card, &verb, QUICK));
+        }
+    }
+}
+
+/// Histories: each verb of a random row is cut everywhere, then made.
+#[test]
+fn random_histories() {
+    let data: &'static [u8] = points(6_000).leak();
+    let mut random = Random::new(0xBB67_AE85_84CA_A73B);
+    let mut card = two_files();
+    for _ in 0..60 {
+        let (name, other) = (
+            random.pick(&[ROUTE, PANEL, NEW]),
+            random.pick(&[ROUTE, NEW]),
+        );
+        let data = &data[..random.pick(&[1, 100, 512, 1_700])];
+        let size = random.below(2_000) as u64;
+        let operation = match random.below(8) {
+            0 | 1 => Operation::Create { name },
+            2..=4 => Operation::Append { name, data },
+            5 => Operation::Truncate { name, size },
+            6 => Operation::Delete { name },
+            _ => Operation::Rename {
+                old: name,
+                new: other,
+            },
+        };
+        let verb = Verb::Calls(vec![operation]);
+        found_nothing(examine(&Ships, &card, &verb, QUICK));
+        card = run(&Ships, &Lying::new(&card), &verb).0.kept.to_vec();
+    }
+}
+
+/// A flush before and after each log record and commit mark, at the end, and before anything is read; no write else than the
+/// list's stores.
+#[test]
+fn where_the_flushes_stand() {
+    let card = two_files();
+    let operation = Operation::Append {
+        name: ROUTE,
+        data: &points(1_300),
+    };
+    let stores = reference::plan(&card, &operation).expect("granted");
+    let words: Vec<String> = stores
+        .iter()
+        .map(|store| store.sector.to_string())
+        .collect();
+    let mut wanted = vec!["flush".to_string()];
+    let record = stores.len() - 4;
+    for (index, sector) in words.into_iter().enumerate() {
+        let is_barrier = index == record || index == stores.len() - 1;
+        let flush = || is_barrier.then(|| "flush".to_string());
+        wanted.extend(flush());
+        wanted.push(sector);
+        wanted.extend(flush());
+    }
+    let mut disk = Lying::new(&card);
+    DiskCard::on(&mut disk, Planned, Access::Write)
+        .and_then(|mut card| card.append(ROUTE, &points(1_300)))
+        .expect("granted");
+    let events = disk.events.iter().map(|event| match event {
+        Event::Write(sector, _) => sector.to_string(),
+        Event::Flush => "flush".to_string(),
+    });
+    assert_eq!(events.collect::<Vec<_>>(), wanted);
+}
+
+/// A card that is only read is not written to, flushes included; one that is opened to be read refuses to be changed.
+#[test]
+fn reading() {
+    let mut disk = Lying::new(&two_files());
+    let mut card = DiskCard::on(&mut disk, Planned, Access::Read).expect("opened");
+    let entries = card.list().expect("clean");
+    assert_eq!(entries.len(), 2);
+    assert_eq!(
+        (
+            entries[1].slot,
+            entries[1].name().as_str(),
+            entries[1].size()
+        ),
+        (1, "PANEL.CUT", 5_000)
+    );
+    let mut buffer = vec![7; 6_000];
+    assert_eq!(card.read(PANEL, 100, &mut buffer).expect("read"), 4_900);
+    assert!(
+        buffer[..4_900] == points(5_000)[100..] && buffer[4_900..].iter().all(|&byte| byte == 7)
+    );
+    assert_eq!(card.read(PANEL, 5_000, &mut buffer).expect("read"), 0);
+    assert_eq!(card.read(PANEL, u64::MAX, &mut buffer).expect("read"), 0);
+    assert!(matches!(
+        card.delete(PANEL),
+        Err(lfat_disk::Error::ReadOnly)
+    ));
+    assert!(matches!(card.recover(), Err(lfat_disk::Error::ReadOnly)));
+    drop(card);
+    assert!(disk.events.is_empty());
+}
+
+/// A file whose name no rule allows: read, renamed and removed by its slot.
+#[test]
+fn by_slot() {
+    let mut disk = Lying::new(&odd_name());
+    let mut card = DiskCard::on(&mut disk, Planned, Access::Write).expect("opened");
+    let odd = card.list().expect("clean")[1];
+    assert!(!odd.has_name() && odd.name() == "??NEL.CUT");
+    let mut buffer = vec![0; 5_000];
+    assert_eq!(card.read_slot(1, 0, &mut buffer).expect("read"), 5_000);
+    assert!(buffer == points(5_000));
+    assert_eq!(card.list().expect("clean")[1], odd);
+    assert_eq!(card.rename_slot(1, NEW, u32::MAX).expect("granted"), 3);
+    assert_eq!(card.list().expect("clean")[1].name(), "NEW.CUT");
+    assert_eq!(card.delete_slot(2, u32::MAX).expect("granted"), 5);
+    for slot in [1, 2, 511, 512, usize::MAX] {
+        let refused = card.delete_slot(slot, u32::MAX);
+        assert!(matches!(refused, Err(lfat_disk::Error::Refused(_))));
+    }
+    drop(card);
+    let after = disk.kept.with(state).expect("clean");
+    assert_eq!(after.len(), 1);
+}

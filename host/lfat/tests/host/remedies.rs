@@ -1,0 +1,140 @@
+//! What a refusal or a recovery tells the user to do, and that it can be done.
+
+use crate::refusals::folder_with;
+use crate::support::{card_with_route, points, set_fats};
+use reference::card_k;
+use std::fs::OpenOptions;
+use std::io::{BufRead, BufReader};
+use std::process::{Command, Stdio};
+
+#[test]
+fn what_is_missing() {
+    let folder = folder_with("missing", &card_k());
+    for (line, words) in [
+        (
+            "put card NOTES.TXT",
+            "lfat: FILE is missing; usage: lfat put IMAGE NAME FILE [--limit N]\n",
+        ),
+        ("put card notes.txt", "lfat: FILE is missing; "),
+        ("put card", "lfat: NAME and FILE are missing; "),
+        ("put", "lfat: IMAGE and NAME and FILE are missing; "),
+        ("mv card A", "lfat: NEW is missing; "),
+    ] {
+        let run = folder.lfat(line).failed(2, words);
+        assert_eq!(run.errors().lines().count(), 1);
+    }
+    folder
+        .lfat("")
+        .failed(2, "COMMAND is missing; 'lfat --help'");
+    folder
+        .lfat("format card")
+        .failed(2, "there is no command 'format'; 'lfat --help'");
+}
+
+/// A put that is cut between its two calls leaves an empty file; what the next put says helps.
+#[test]
+fn a_put_that_was_cut() {
+    let folder = folder_with("cut-put", &card_k());
+    folder
+        .lfat("put card ROUTE.CUT path --limit 4")
+        .failed(1, "STOPPED");
+    folder.lfat("recover card").done();
+    folder.lfat("put card ROUTE.CUT path").failed(
+        1,
+        "ROUTE.CUT is there and empty, as a put that was cut leaves it: fill it with 'lfat append'",
+    );
+    folder.lfat("append card ROUTE.CUT path").done();
+    assert_eq!(
+        folder.lfat("get card ROUTE.CUT").done().bytes(),
+        points(1_300)
+    );
+    folder.lfat("put card ROUTE.CUT path").failed(
+        1,
+        "Add to ROUTE.CUT with 'lfat append', or remove it first with 'lfat rm'",
+    );
+}
+
+/// A card without a log: what the refusal says leads to one that has it.
+#[test]
+fn a_card_without_a_log() {
+    let folder = folder_with("no-log", &[]);
+    folder.lfat("blank made").done();
+    folder.lfat("put made ROUTE.CUT path").done();
+    let mut card = folder.read("made");
+    (2..10).for_each(|cluster| set_fats(&mut card, cluster, 0));
+    folder.write("card", &card);
+    folder
+        .lfat("ls card")
+        .failed(1, "'lfat blank NEW.IMG' makes a card that is");
+    folder.lfat("blank NEW.IMG").done();
+    let status = Command::new("mcopy")
+        .args(["-i", "card", "::ROUTE.CUT", "off"])
+        .current_dir(folder.path())
+        .status();
+    assert!(status.expect("mtools is there").success());
+    folder.lfat("put NEW.IMG ROUTE.CUT off").done();
+    assert_eq!(
+        folder.lfat("get NEW.IMG ROUTE.CUT").done().bytes(),
+        points(1_300)
+    );
+}
+
+/// What recovery did, in words: dropped, finished, nothing.
+#[test]
+fn what_recovery_did() {
+    let folder = folder_with("recovered", &[]);
+    for (limit, words) in [
+        (4, "nothing to recover\n"),
+        (5, "recovered: a half-made save was dropped, every file is as before it, 1 sector written\n"),
+        (6, "recovered: the save that was cut is finished (update ROUTE.CUT), 3 sectors written\n"),
+        (8, "recovered: the save that was cut is finished (update ROUTE.CUT), 2 sectors written\n"),
+    ] {
+        folder.write("card", &card_with_route(1_300));
+        folder.lfat(&format!("append card ROUTE.CUT path --limit {limit}")).failed(1, "STOPPED");
+        assert_eq!(folder.lfat("recover card").done().text(), words, "{limit}");
+    }
+}
+
+#[test]
+fn version_and_the_end_of_options() {
+    let folder = folder_with("version", &card_k());
+    assert_eq!(
+        folder.lfat("--version").done().text(),
+        concat!("lfat ", env!("CARGO_PKG_VERSION"), "\n")
+    );
+    folder.lfat("put card -- --help path").failed(1, "NAME");
+    folder.lfat("put card -- -A path").done();
+    folder
+        .lfat("rm --partition 1 -- card -A")
+        .failed(2, "no partition table");
+    folder.lfat("rm -- card -A").done();
+}
+
+/// With --wait a command waits for the other program, and says so.
+#[test]
+fn waiting() {
+    let folder = folder_with("wait", &card_with_route(10));
+    let file = OpenOptions::new()
+        .write(true)
+        .open(folder.path().join("card"))
+        .expect("the card");
+    file.lock().expect("a lock");
+    folder.lfat("ls card").failed(
+        3,
+        "card: in use by another program, or mounted. Unmount it, or wait with --wait.",
+    );
+    let mut child = Command::new(env!("CARGO_BIN_EXE_lfat"))
+        .args(["ls", "card", "--wait"])
+        .current_dir(folder.path())
+        .stdout(Stdio::piped())
+        .stderr(Stdio::piped())
+        .spawn()
+        .expect("the program runs");
+    let mut told = String::new();
+    let mut errors = BufReader::new(child.stderr.take().expect("piped"));
+    errors.read_line(&mut told).expect("a line");
+    assert_eq!(told, "lfat: waiting for card, which another program has\n");
+    drop(file);
+    let output = child.wait_with_output().expect("it ends");
+    assert_eq!(output.stdout, b"        10  ROUTE.CUT\n");
+}

@@ -1,0 +1,126 @@
+/*
+ * lfat_disk.h: files on FAT16 cards with a TI-LFAT journal, on real disks.
+ *
+ * lfat.h works on a card in memory. Here a card is on a disk: an image file, a block device such as /dev/sdX, or a partition of
+ * either. Each call is made by the proved library on the card in memory; its stores are then written to the disk in an order
+ * that keeps the library's promise, with flushes where they must stand. So a power cut at any moment, of the card or of this
+ * machine, leaves each file as it was or as it was to be, once the card is recovered.
+ *
+ * Example: save 3 bytes under a new name, on a card that may have been cut.
+ *
+ *     const uint8_t name[] = "ROUTE   CUT", data[] = "G0\n";
+ *     lfat_disk *disk;
+ *     uint64_t answer = lfat_disk_open("/dev/sdX", 0, 0, &disk);
+ *     if (LFAT_CODE(answer) == LFAT_DONE)
+ *         answer = lfat_disk_recover(disk);
+ *     if (LFAT_CODE(answer) == LFAT_DONE)
+ *         answer = lfat_disk_create(disk, name, LFAT_NAME_BYTES);
+ *     if (LFAT_CODE(answer) == LFAT_DONE)
+ *         answer = lfat_disk_append(disk, name, LFAT_NAME_BYTES, data, 3);
+ *     if (LFAT_CODE(answer) != LFAT_DONE)
+ *         puts(lfat_disk_message());
+ *     lfat_disk_close(disk);
+ *
+ * Link with liblfat_disk.a alone, which has the proved library in it (with a glibc before 2.34 also -lpthread -ldl). Linux on
+ * x86-64. examples/save.c is a whole program.
+ *
+ * A call answers code * 2^32 + count, as in lfat.h: LFAT_CODE and LFAT_COUNT take it apart, and the codes up to 255 are those of
+ * enum lfat_code. The codes of enum lfat_disk_code are the disk's. A call with any code but LFAT_DONE and LFAT_DISK_CUT has
+ * written nothing.
+ *
+ * Memory: a call needs little more than the card's tables. An append of more than 16 MB works in a file without a name, in TMPDIR
+ * or /var/tmp, of the size of its data; where there is no room for it, in memory.
+ *
+ * Handles: one card has one handle, in one program. Calls on one handle must not run at the same time; calls on different ones
+ * may. A handle of NULL is answered with LFAT_DISK_ARGUMENT.
+ */
+#ifndef LFAT_DISK_H
+#define LFAT_DISK_H
+
+#include "lfat.h"
+
+#ifdef __cplusplus
+extern "C" {
+#endif
+
+/* An open card. */
+typedef struct lfat_disk lfat_disk;
+
+/* What a call answers beside the library's own codes; lfat_disk_message says more. */
+enum lfat_disk_code {
+    LFAT_DISK_ERROR = 256,     /* the disk could not be opened, locked or read; lfat_disk_errno has the reason */
+    LFAT_DISK_CUT = 257,       /* a write or a flush failed in mid-save: close, open again, recover */
+    LFAT_DISK_IN_USE = 258,    /* another program has the card, or it is mounted */
+    LFAT_DISK_PARTITION = 259, /* there is no such partition, or none that holds a FAT16 card */
+    LFAT_DISK_DISAGREE = 260,  /* the list of stores does not agree with the library's card: report this */
+    LFAT_DISK_ENDED = 261,     /* an earlier call answered LFAT_DISK_CUT: close, open again, recover */
+    LFAT_DISK_READ_ONLY = 262, /* the card was opened to be read */
+    LFAT_DISK_ARGUMENT = 263,  /* a pointer is NULL that must not be, or a flag is not known */
+    LFAT_DISK_INTERNAL = 264   /* a fault of this library: report it; the handle answers LFAT_DISK_ENDED from now on */
+};
+
+/* Flags of lfat_disk_open. */
+#define LFAT_DISK_TO_READ 1u /* to be read only; programs that read may share an image */
+#define LFAT_DISK_WAIT 2u    /* wait while another program has the card, instead of answering LFAT_DISK_IN_USE */
+
+/*
+ * Opens a card. `path` is an image or a block device. `partition` is the number of a partition (MBR: 1 to 4, logical ones from
+ * 5 on; GPT: the entry's number), or 0: then the whole disk is taken if it begins with the boot sector of a FAT16 card, else the
+ * first partition that does. On LFAT_DONE `*disk` is the handle; on any other code it is NULL.
+ * A block device is opened past the page cache and exclusively: one that is mounted is LFAT_DISK_IN_USE. An image is locked
+ * (flock). What an earlier program has left in caches is flushed before the card is read.
+ * What is no card is opened all the same: every call then answers the library's ground, such as LFAT_BOOT.
+ */
+uint64_t lfat_disk_open(const char *path, uint32_t partition, uint32_t flags, lfat_disk **disk);
+
+/* Closes a card and frees the handle. NULL is allowed. Nothing is left to be written: each call has written all it had to. */
+void lfat_disk_close(lfat_disk *disk);
+
+/*
+ * Calls that store. They answer as the calls of lfat.h do, and the count is the number of stores made. All but
+ * lfat_disk_recover ask for a clean card. When they answer LFAT_DONE, all is on the disk.
+ */
+
+/* Finishes what a power cut left behind, or takes it back. Call it after lfat_disk_open. */
+uint64_t lfat_disk_recover(lfat_disk *disk);
+
+/* Makes an empty file in the root directory. `name` is 8 and 3 bytes, filled up with spaces; name_len is 11. */
+uint64_t lfat_disk_create(lfat_disk *disk, const uint8_t *name, size_t name_len);
+
+/* Adds bytes at the end of a file, in one operation: after a cut and a recovery all of them are there, or none. */
+uint64_t lfat_disk_append(lfat_disk *disk, const uint8_t *name, size_t name_len, const uint8_t *data, size_t data_len);
+
+/* Shortens a file to a size. One over the file's is refused (LFAT_LENGTH). */
+uint64_t lfat_disk_truncate(lfat_disk *disk, const uint8_t *name, size_t name_len, uint64_t size);
+
+/* Removes a file and frees its clusters. */
+uint64_t lfat_disk_delete(lfat_disk *disk, const uint8_t *name, size_t name_len);
+
+/* Gives a file another name. */
+uint64_t lfat_disk_rename(lfat_disk *disk, const uint8_t *old_name, size_t old_len, const uint8_t *new_name, size_t new_len);
+
+/* Calls that read. They touch no byte of the buffer but those that they fill. */
+
+/*
+ * Copies a file's bytes from an offset on, as many as there are and fit. The count is the bytes copied, 0 past the end. A count
+ * below buffer_len is the end of the file; with a full buffer there may be more: read on from offset + count.
+ */
+uint64_t lfat_disk_read(lfat_disk *disk, const uint8_t *name, size_t name_len, uint64_t offset, uint8_t *buffer,
+                        size_t buffer_len);
+
+/* Copies the root directory's entries, 32 bytes each, as lfat_list does. The count is how many there are. */
+uint64_t lfat_disk_list(lfat_disk *disk, uint8_t *buffer, size_t buffer_len);
+
+/* About the last call of this thread that did not answer LFAT_DONE. */
+
+/* The system's error number, as errno; 0 if there is none. */
+int lfat_disk_errno(void);
+
+/* What went wrong, in one line of English without a newline. It lasts until the next call of this thread. */
+const char *lfat_disk_message(void);
+
+#ifdef __cplusplus
+}
+#endif
+
+#endif
