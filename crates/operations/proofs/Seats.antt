@@ -14,6 +14,7 @@ use Rattle.operations.specs.Finish.{Edit, operation-edits, edits, Slots}
 use Rattle.model.proofs.All.{All, all-map}
 use Rattle.model.proofs.Records.{listed, told-slot}
 use Rattle.model.proofs.Pendings.{Seat, seat-at}
+use Rattle.model.specs.declared.Change.{Change}
 
 -- A slot that a record of a list names; an edit of such a slot, made of such a slot.
 abbrev Named : List Record → ℕ → Type 0

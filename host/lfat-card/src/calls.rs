@@ -82,7 +82,7 @@ impl Answer {
         match (answer >> 32) as u32 {
             0 => Answer::Done(count),
             255 => Answer::Stopped(count),
-            code => Answer::Refused(Refusal::with_number(code).expect("a ground's number")),
+            code => Answer::Refused(Refusal::with_number(code).unwrap_or(Refusal::Unknown(code))),
         }
     }
 

@@ -5,8 +5,9 @@ use crate::{calls, Answer, Name};
 /// The limit that cuts nothing.
 pub const NO_LIMIT: u32 = u32::MAX;
 
-/// A call that stores, with what it is given.
+/// A call that stores, with what it is given. There may be more of them later.
 #[derive(Clone, Copy, Debug, PartialEq, Eq)]
+#[non_exhaustive]
 pub enum Operation<'a> {
     /// Makes an empty file.
     Create {

@@ -4,8 +4,9 @@ use std::error::Error;
 use std::fmt;
 use std::io::{self, ErrorKind};
 
-/// The grounds on which a call refuses, in checking order.
+/// The grounds on which a call refuses, in checking order. There may be more of them later.
 #[derive(Clone, Copy, Debug, PartialEq, Eq)]
+#[non_exhaustive]
 pub enum Refusal {
     /// The window has fewer than 512 bytes, less than a boot sector.
     Short,
@@ -37,6 +38,8 @@ pub enum Refusal {
     Length,
     /// The card has too few free clusters.
     Nospace,
+    /// A ground with a number that is not known here, of a newer library.
+    Unknown(u32),
 }
 
 /// The refusals by number, from 1 on.
@@ -59,7 +62,7 @@ const BY_NUMBER: [Refusal; 15] = [
 ];
 
 impl Refusal {
-    /// The refusal with a ground's number, from 1 on.
+    /// The refusal with a ground's number, from 1 on, if it is known here.
     pub fn with_number(number: u32) -> Option<Refusal> {
         let index = (number as usize).checked_sub(1)?;
         BY_NUMBER.get(index).copied()
@@ -70,7 +73,7 @@ impl Refusal {
         self.ground().0
     }
 
-    /// The ground's name, as the requirements have it.
+    /// The ground's name, as the requirements have it; `unknown` for one that is not known here.
     pub fn name(self) -> &'static str {
         self.ground().1
     }
@@ -118,6 +121,7 @@ impl Refusal {
             Refusal::Chain => (13, "CHAIN", "the file's clusters do not fit its size"),
             Refusal::Length => (14, "LENGTH", "the file is shorter than the size asked for"),
             Refusal::Nospace => (15, "NOSPACE", "the card has too few free clusters"),
+            Refusal::Unknown(number) => (number, "unknown", "a ground of a newer library"),
         }
     }
 }

@@ -1,6 +1,7 @@
 //! The safe wrapper: names from entries, cards that are only read, files being read, where the library is linked from.
 //! `host/lfat/tests/host/wrapper.rs` has a card's whole life.
 
+mod answers;
 mod files;
 mod library_folder;
 mod names;
