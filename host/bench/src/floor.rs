@@ -2,7 +2,7 @@
 
 use crate::call::Call;
 use crate::cards::{Card, Layout, Shape, NAME, SHAPES};
-use crate::timing::{compare_copy, time};
+use crate::timing::{compare_copy, compare_runs};
 use std::hint::black_box;
 
 const BYTES: usize = 1 << 20;
@@ -16,23 +16,22 @@ fn clean_check() {
     println!("## The clean check\n");
     println!(
         "List on an empty root directory asks every ground of the card; its time is set against one memcmp of the two FATs, the least\n\
-         that any check could do. In microseconds. To be at most 5 on the largest card.\n"
+         that any check could do, by turns. In microseconds. To be at most 5 on the largest card.\n"
     );
-    println!("| clusters | bytes of a FAT | library | memcmp | ratio |");
-    println!("|---|---|---|---|---|");
+    println!("| clusters | bytes of a FAT | library / memcmp = ratio |");
+    println!("|---|---|---|");
     for clusters in [4_085, 16_384, 65_524] {
         let shape = Shape::new(clusters, 1);
         let card = Card::empty(shape);
-        let library = time(|| {
+        let list = || {
             black_box(lfat_card::calls::list(black_box(&card.bytes), &mut []));
-        });
-        let memcmp = time(|| {
+        };
+        let memcmp = || {
             let (fat1, fat2) = black_box(card.fats());
             black_box(fat1 == fat2);
-        });
-        let bytes = 512 * shape.fat_sectors();
-        let ratio = library / memcmp;
-        println!("| {clusters} | {bytes} | {library:.1} | {memcmp:.1} | {ratio:.1} |");
+        };
+        let times = compare_runs(list, memcmp);
+        println!("| {clusters} | {} | {times} |", 512 * shape.fat_sectors());
     }
     println!();
 }

@@ -106,14 +106,15 @@ fn by_turns(mut turn: impl FnMut() -> (Duration, Duration)) -> Times {
     }
 }
 
-/// The median time of one function, in microseconds.
-pub fn time(mut run: impl FnMut()) -> f64 {
-    let times = (0..MOST_RUNS).map(|_| {
-        let start = Instant::now();
-        run();
-        start.elapsed()
-    });
-    median(times.collect())
+/// Runs two functions by turns.
+pub fn compare_runs(mut library: impl FnMut(), mut plain: impl FnMut()) -> Times {
+    by_turns(|| (elapsed(&mut library), elapsed(&mut plain)))
+}
+
+fn elapsed(run: &mut impl FnMut()) -> Duration {
+    let start = Instant::now();
+    run();
+    start.elapsed()
 }
 
 fn sector(card: &[u8], number: usize) -> &[u8] {
