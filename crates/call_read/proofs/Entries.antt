@@ -13,15 +13,19 @@ use Rattle.model.specs.Bytes.{pick, overlay, bytes-of}
 use Rattle.model.specs.Sector.{Card}
 use Rattle.model.specs.Root.{slot-at, listed}
 use Rattle.operations.specs.Reading.{Filled, directory-listing}
-use Rattle.call_read.specs.Filled.{Fills, Listed, shown-to}
+use Rattle.operations.specs.Promises.{Fills}
+use Rattle.call_read.specs.Filled.{Listed, shown-to}
 use Rattle.model.specs.declared.Layout.{Layout}
 use Rattle.model.proofs.Scan.{indices-step}
 use Rattle.model.proofs.Tests.{less?}
-use Rattle.model.proofs.Overlays.{overlay-in, overlay-below, overlay-above}
+use Rattle.model.proofs.Overlays.{overlay-in, overlay-below, overlay-above, over-first}
 
 pub listing-none : (l : Layout) (c : Card) (room : ℕ) (e : List ℕ) → Fills (directory-listing l c [] room) e e 0
 unfolding directory-listing
-listing-none l c room e = record { counted = refl; bytes = λ i. rw (le-ltb i (32 * min 0 (room / 32)) (omega arith)) }
+listing-none l c room e = record { counted = refl; bytes = λ i. none i ∙ sym (over-first _ _ (bytes-of e) i) }
+  where
+    none : (i : ℕ) → getD e i 0 ≡ pick (ltb i (32 * min 0 (room / 32))) (slot-at l c (getD [] (i / 32) 0) (i % 32)) (getD e i 0)
+    none i = rw (le-ltb i (32 * min 0 (room / 32)) (omega arith))
 
 module _ (l : Layout) (c : Card) (ss : List ℕ) (room : ℕ) (e x y : List ℕ) (n k : ℕ) (so : Fills (directory-listing l c ss room) e x n) where
   more : List ℕ
@@ -43,7 +47,7 @@ module _ (l : Layout) (c : Card) (ss : List ℕ) (room : ℕ) (e x y : List ℕ)
 
   was : (i : ℕ) → getD x i 0 ≡ pick (ltb i (32 * min n (room / 32))) (slots ss i) (getD e i 0)
   unfolding directory-listing
-  was i = rw counts (so .bytes i)
+  was i = rw counts (so .bytes i ∙ over-first _ _ (bytes-of e) i)
 
   new : (i : ℕ) → i / 32 ≡ n → slots (ss ++ (k ∷ [])) i ≡ slot-at l c k (i % 32)
   new i h =
@@ -54,7 +58,7 @@ module _ (l : Layout) (c : Card) (ss : List ℕ) (room : ℕ) (e x y : List ℕ)
   pub listing-more : 32 * n + 32 ≤ room → ((i : ℕ) → getD y i 0 ≡ overlay 32 (slot-at l c k) (32 * n) (bytes-of x) i)
       → Fills (directory-listing l c (ss ++ (k ∷ [])) room) e y (n + 1)
   unfolding directory-listing
-  listing-more fits step = record { counted = sym long; bytes = λ i. rw long (step i ∙ byte i) }
+  listing-more fits step = record { counted = sym long; bytes = λ i. rw long (step i ∙ byte i ∙ sym (over-first _ _ (bytes-of e) i)) }
     where
       byte : (i : ℕ) → overlay 32 (slot-at l c k) (32 * n) (bytes-of x) i ≡ pick (ltb i (32 * min (n + 1) (room / 32))) (slots (ss ++ (k ∷ [])) i) (getD e i 0)
       byte i = ⊎-elim low (λ u. ⊎-elim (mid u) high (less? i (32 * n + 32))) (less? i (32 * n))
@@ -78,7 +82,7 @@ module _ (l : Layout) (c : Card) (ss : List ℕ) (room : ℕ) (e x y : List ℕ)
   -- a slot that does not
   pub listing-full : room < 32 * n + 32 → Fills (directory-listing l c (ss ++ (k ∷ [])) room) e x (n + 1)
   unfolding directory-listing
-  listing-full full = record { counted = sym long; bytes = λ i. rw long (was i ∙ byte i) }
+  listing-full full = record { counted = sym long; bytes = λ i. rw long (was i ∙ byte i ∙ sym (over-first _ _ (bytes-of e) i)) }
     where
       byte : (i : ℕ) → pick (ltb i (32 * min n (room / 32))) (slots ss i) (getD e i 0) ≡ pick (ltb i (32 * min (n + 1) (room / 32)))
           (slots (ss ++ (k ∷ [])) i) (getD e i 0)

@@ -3,19 +3,13 @@ use Prim.Native.Nat.{ℕ, _+_, _*_}
 use mathlib.Core.Path.{_≡_}
 use mathlib.Core.List.{List}
 use mathlib.Core.Bool.{_&&_}
-use lib.Dec.{leb, ltb}
+use lib.Dec.{leb}
 use lib.ListN.{getD, length}
 use Rattle.model.specs.Bytes.{pick, bytes-of, overlay}
 use Rattle.model.specs.Sector.{Card}
 use Rattle.model.specs.Root.{slot-at, listed}
 use Rattle.model.specs.Scan.{indices}
 use Rattle.model.specs.declared.Layout.{Layout}
-use Rattle.operations.specs.Reading.{Filled}
-
--- The buffer `entry` has become `exit`: filled as f says, with no byte after touched.
-pub record Fills (f : Filled) (entry exit : List ℕ) (count : ℕ) : Type 0 where
-  pub counted : count ≡ f .count
-  pub bytes : (i : ℕ) → getD exit i 0 ≡ pick (ltb i (f .bytes .size)) (f .bytes .byte i) (getD entry i 0)
 
 -- The listed ones among the first n slots.
 abbrev pub shown-to : Layout → Card → ℕ → List ℕ

@@ -13,14 +13,15 @@ ghost use Rattle.call_read.specs.Gave.{Gave, read-on};
 ghost use mathlib.Core.Path.{_≡_};
 ghost use Prim.Native.Nat.{ℕ, _+_, _≤_, _<_};
 ghost use Rattle.model.specs.Root.{slot-at};
-ghost use Rattle.call_read.specs.Filled.{Fills, Listed};
+ghost use Rattle.operations.specs.Promises.{Fills};
+ghost use Rattle.call_read.specs.Filled.{Listed};
 
 // Slot k into the 32 bytes of the buffer from at on.
 fn copy_slot(out: &mut [u8], at: usize, w: &[u8], l: Layout, k: u32)
     requires { ⌜ Held l (now w) × (k < l .entries) × (at + 32 ≤ length (now out)) ⌝ }
     ensures { λ _. ⌜ ((i : ℕ) → getD (now (out .exit)) i 0 ≡ overlay 32 (slot-at l (card-of (now (w .entry))) k) at (bytes-of (now (out .entry))) i) ⌝ }
 {
-    let from = 512 * sector::index(l.root + k / 16) + 32 * sector::index(k % 16);
+    let from = 512 * sector::index(root_read::root_place(l, k / 16)) + 32 * sector::index(k % 16);
     let mut j = 0;
     while j < 32 {
         out[at + j] = w[from + j];
@@ -45,7 +46,7 @@ fn list_slot(out: &mut [u8], w: &[u8], l: Layout, k: u32, n: u32) -> u32
 }
 
 // The listed slots, as many as fit whole, and how many there are.
-pub fn copy_listed(out: &mut [u8], w: &[u8], l: Layout) -> u32
+fn copy_listed(out: &mut [u8], w: &[u8], l: Layout) -> u32
     requires { ⌜ Held l (now w) ⌝ }
     ensures { λ r. ⌜
         Fills (directory-listing l (card-of (now (w .entry))) (shown l (card-of (now (w .entry)))) (length (now (out .entry)))) (now (out .entry))

@@ -12,7 +12,7 @@ ghost use Rattle.model.specs.Promises.{Fits, Held};
 ghost use Rattle.fat_read.specs.Located.{holds};
 
 // A cluster of the card.
-pub fn is_inside(l: Layout, k: u32) -> bool
+fn is_inside(l: Layout, k: u32) -> bool
     requires { ⌜ l .clusters ≤ 65524 ⌝ }
     ensures { λ r. ⌜ r ≡ in-range l k ⌝ }
 {
@@ -24,7 +24,7 @@ pub fn is_inside(l: Layout, k: u32) -> bool
 }
 
 // A value that ends a chain.
-pub fn is_end(l: Layout, v: u32) -> bool
+fn is_end(l: Layout, v: u32) -> bool
     requires { ⌜ l .clusters ≤ 65524 ⌝ }
     ensures { λ r. ⌜ r ≡ is-end v ⌝ }
 {

@@ -78,7 +78,7 @@ pub fn copy_changed(w: &mut [u8], from: u32, to: u32, limit: u32) -> Progress
 }
 
 // n sectors onto n others, rising. The two ranges have no sector in common.
-pub fn copy_fat(w: &mut [u8], from: u32, to: u32, n: u32, limit: u32) -> Progress
+fn copy_fat(w: &mut [u8], from: u32, to: u32, n: u32, limit: u32) -> Progress
     requires { ⌜ (512 * (from + n) ≤ length (now w)) × (512 * (to + n) ≤ length (now w)) ⌝ }
     requires { ⌜ (from + n < 4294967296) × (to + n < 4294967296) × (n ≤ (from - to) + (to - from)) ⌝ }
     ensures { λ r. ⌜ Ran limit (copies (card-of (now (w .entry))) from to n) (now (w .entry)) (now (w .exit)) (r .made) (r .whole) ⌝ }

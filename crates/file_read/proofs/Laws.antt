@@ -22,7 +22,8 @@ use Rattle.model.proofs.Walks.{chain-length}
 use Rattle.model.proofs.Needed.{needed-none, needed-some}
 use Rattle.operations.specs.Plan.{clusters-of, last-cluster}
 use Rattle.operations.specs.Reading.{file-byte, reading}
-use Rattle.file_read.specs.Files.{links, bytes-from, Read, Fills}
+use Rattle.file_read.specs.Files.{links, bytes-from, Read}
+use Rattle.operations.specs.Promises.{Fills}
 
 -- ---- links
 

@@ -10,7 +10,6 @@ use Rattle.model.specs.Fat.{entry, fat1-of}
 use Rattle.model.specs.Chain.{keeps-chain}
 use Rattle.model.specs.declared.Layout.{Layout}
 use Rattle.model.specs.declared.File.{File}
-use Rattle.operations.specs.Reading.{Filled}
 
 -- The file keeps the chain rule.
 abbrev pub Proper : Layout → Card → File → Type 0
@@ -29,8 +28,3 @@ bytes-from c s j = c (s + j / 512) (j % 512)
 pub record Read (b : Bytes) (size from done count : ℕ) (entry exit : List ℕ) (r : ℕ) : Type 0 where
   pub reached : r ≡ done + min (size - from) (count - done)
   pub bytes : (i : ℕ) → getD exit i 0 ≡ overlay (r - done) (part b from) done (bytes-of entry) i
-
--- A buffer has been filled as f says; `count` is f's.
-pub record Fills (f : Filled) (entry exit : List ℕ) (count : ℕ) : Type 0 where
-  pub counted : count ≡ f .count
-  pub bytes : (i : ℕ) → getD exit i 0 ≡ overlay (f .bytes .size) (f .bytes .byte) 0 (bytes-of entry) i

@@ -11,7 +11,8 @@ ghost use Rattle.model.specs.Chain.{cluster-sector};
 ghost use Rattle.model.specs.Promises.{Fits, Held};
 ghost use Rattle.operations.specs.Plan.{clusters-of, last-cluster};
 ghost use Rattle.operations.specs.Reading.{reading};
-ghost use Rattle.file_read.specs.Files.{Proper, links, bytes-from, Read, Fills};
+ghost use Rattle.file_read.specs.Files.{Proper, links, bytes-from, Read};
+ghost use Rattle.operations.specs.Promises.{Fills};
 
 // n, but no more than the room.
 fn least(room: usize, n: u32) -> u32
@@ -65,7 +66,7 @@ pub fn sector_in(l: Layout, k: u32, q: u32) -> u32
     requires { ⌜ Fits l × (2 ≤ k) × (k < 2 + l .clusters) ⌝ }
     ensures { λ r. ⌜ (r ≡ cluster-sector l k + q % l .factor) × (l .start ≤ r) × (r < l .total) × (r + (l .factor - q % l .factor) ≤ l .total) ⌝ }
 {
-    l.start + (k - 2) * l.factor + q % l.factor
+    fat_read::cluster_sector(l, k) + q % l.factor
 }
 
 // The bytes of the m sectors from s on, from an offset on, into the buffer from `done` on, up to `count`; and how far the buffer

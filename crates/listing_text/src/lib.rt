@@ -36,7 +36,7 @@ fn digit(n: u32) -> u8
 }
 
 // A number in decimal: the digits before its last, then that one.
-pub fn put_decimal(out: &mut [u8], at: usize, n: u32) -> usize
+fn put_decimal(out: &mut [u8], at: usize, n: u32) -> usize
     requires { ⌜ at + length (decimal n) ≤ length (now out) ⌝ }
     ensures { λ r. ⌜ Wrote (decimal n) (now (out .entry)) (now (out .exit)) at r ⌝ }
 {

@@ -30,7 +30,7 @@ fn mark(buf: [u8; 512], n: u32) -> [u8; 512]
 }
 
 // The group's log sector again, its records committed.
-pub fn commit(w: &mut [u8], g: Group, limit: u32) -> Progress
+fn commit(w: &mut [u8], g: Group, limit: u32) -> Progress
     requires { ⌜ (512 * g .sector + 512 ≤ length (now w)) × (g .records ≤ 16) ⌝ }
     ensures { λ r. ⌜ Ran limit (commit (card-of (now (w .entry))) g ∷ []) (now (w .entry)) (now (w .exit)) (r .made) (r .whole) ⌝ }
 {
@@ -40,7 +40,7 @@ pub fn commit(w: &mut [u8], g: Group, limit: u32) -> Progress
 }
 
 // FAT2's sectors into FAT1, then the root sectors.
-pub fn finish(w: &mut [u8], l: Layout, x: Change, limit: u32) -> Progress
+fn finish(w: &mut [u8], l: Layout, x: Change, limit: u32) -> Progress
     requires { ⌜ Held l (now w) ⌝ }
     requires { ⌜ Slots (l .entries) x ⌝ }
     ensures { λ r. ⌜ Ran limit (finish l x (card-of (now (w .entry)))) (now (w .entry)) (now (w .exit)) (r .made) (r .whole) ⌝ }

@@ -26,7 +26,7 @@ fn sectors_of(log: &[u8]) -> u32
 }
 
 // The first pending record of a log table.
-pub fn scan(log: &[u8]) -> Place
+fn scan(log: &[u8]) -> Place
     requires { ⌜ length (now log) ≤ 65536 ⌝ }
     ensures { λ p. ⌜
         p ≡ place-of (first-pending (length (now (log .entry)) / 512) (card-of (now (log .entry)))) (length (now (log .entry)) / 512) ⌝ }
@@ -93,7 +93,7 @@ fn judge(log: &[u8], entries: u32, z: u32, a: Area, s: u32, r: u32) -> Pending
 }
 
 // What is pending in a log table that lies at `a` and has its first pending record at `place`; z is the lowest root slot beginning 0.
-pub fn pending_in(log: &[u8], entries: u32, z: u32, a: Area, place: Place) -> Pending
+fn pending_in(log: &[u8], entries: u32, z: u32, a: Area, place: Place) -> Pending
     requires { ⌜ Lent a (now log) × (place ≡ place-of (first-pending (a .sectors) (card-of (now log))) (a .sectors)) ⌝ }
     ensures { λ p. ⌜ p ≡ pending-in entries z a (card-of (now (log .entry))) ⌝ }
 {

@@ -164,7 +164,7 @@ fn record_of(x: Change, k: u32) -> Record
 }
 
 // The group of a change, as its log sector: its records from record 0 on, the rest zero.
-pub fn encode_group(x: Change) -> [u8; 512]
+fn encode_group(x: Change) -> [u8; 512]
     ensures { λ r. ⌜ bytes-of r ≡ encode x ⌝ }
 {
     let n = log_group::records_of(x);

@@ -6,9 +6,10 @@ use mathlib.Core.List.{List}
 use Prim.Native.Nat.{ℕ, _+_, _-_, _<_, _≤_}
 use native.Mathlib.Omega.{arith}
 use lib.ListN.{length, getD, set}
+use lib.Dec.{ltb}
 use lib.Seq.{getD-set-same, getD-set-other}
 use borrow.Author.Tests.{le-leb, lt-leb, lt-ltb, le-ltb}
-use Rattle.model.specs.Bytes.{Bytes, overlay, bytes-of}
+use Rattle.model.specs.Bytes.{Bytes, overlay, bytes-of, pick}
 use Rattle.model.proofs.Tests.{same?, less?}
 
 module _ (p : Bytes) (at : ℕ) (b : Bytes) where
@@ -48,3 +49,19 @@ overlay-more p e out at k v l is inv i =
     rw q (getD-set-same out (at + k) v 0 l) ∙ is ∙ ap p z ∙ sym (overlay-in p at (bytes-of e) (k + 1) i (omega arith) (omega arith)))
     (λ q. getD-set-other out (at + k) i v 0 q ∙ inv i ∙ overlay-other p at (bytes-of e) k i q)
     (same? i (at + k))
+
+-- Bytes laid over the first n.
+pub over-first : (n : ℕ) (p b : Bytes) (i : ℕ) → overlay n p 0 b i ≡ pick (ltb i n) (p i) (b i)
+over-first n p b i = ⊎-elim inside past (less? i n)
+  where
+    inside : i < n → overlay n p 0 b i ≡ pick (ltb i n) (p i) (b i)
+    inside h =
+        let lo : 0 ≤ i = omega arith in
+        let hi : i < 0 + n = omega arith in
+        let z : i - 0 ≡ i = omega arith in
+        rw (lt-ltb i n h) (overlay-in p 0 b n i lo hi ∙ ap p z)
+
+    past : n ≤ i → overlay n p 0 b i ≡ pick (ltb i n) (p i) (b i)
+    past h =
+        let lo : 0 + n ≤ i = omega arith in
+        rw (le-ltb i n h) (overlay-above p 0 b n i lo)

@@ -8,7 +8,7 @@ ghost use Rattle.model.specs.Sector.{card-of};
 ghost use Rattle.model.specs.Root.{name-byte, stem-length, padded, name-ok, name-in};
 
 // Capital letters, digits and ! # $ % & ' ( ) - @ ^ _ ` { } ~
-pub fn name_byte(b: u8) -> bool
+fn name_byte(b: u8) -> bool
     ensures { λ r. ⌜ r ≡ name-byte b ⌝ }
 {
     match b {

@@ -18,7 +18,7 @@ fn load_slot(w: &[u8], l: Layout, k: u32) -> [u8; 32]
     requires { ⌜ Held l (now w) × (k < l .entries) ⌝ }
     ensures { λ r. ⌜ ((j : ℕ) → j < 32 → getD r j 0 ≡ slot-at l (card-of (now (w .entry))) k j) ⌝ }
 {
-    let a = 512 * sector::index(l.root + k / 16) + 32 * sector::index(k % 16);
+    let a = 512 * sector::index(root_read::root_place(l, k / 16)) + 32 * sector::index(k % 16);
     let mut b = [0u8; 32];
     let mut j = 0;
     while j < 32 {
@@ -180,7 +180,7 @@ fn store_concerned(w: &mut [u8], l: Layout, x: Change, r: u32, limit: u32) -> Pr
         };
     }
     let buf = sector_after(w, l, x, r);
-    sector::store_sector(w, l.root + r, &buf, limit)
+    sector::store_sector(w, root_read::root_place(l, r), &buf, limit)
 }
 
 // The root sectors that a change concerns, rising.

@@ -5,7 +5,8 @@ use lib.ListN.{length}
 use Rattle.model.specs.Sector.{card-of}
 use Rattle.model.specs.Root.{slot-at, listed}
 use Rattle.operations.specs.Reading.{shown, directory-listing}
-use Rattle.call_read.specs.Filled.{Fills, shown-to}
+use Rattle.operations.specs.Promises.{Fills}
+use Rattle.call_read.specs.Filled.{shown-to}
 use Rattle.model.proofs.Scan.{indices-none}
 use Rattle.call_read.proofs.Entries.{listed-le, listing-none, listing-step}
 use borrow.Author.Needs.{needs}

@@ -1,11 +1,10 @@
 use mathlib.Core.Path.{refl, sym, ap, _∙_}
 use lib.ListN.{length}
-use Rattle.model.specs.Bytes.{bytes-of}
 use Rattle.model.specs.Sector.{window-of}
 use Rattle.model.specs.declared.Outcome.the-variants.{Done}
 use Rattle.operations.specs.Reading.{buffer-after, filled-outcome, directory-listing}
 use Rattle.volume.specs.Examined.{examined-of}
-use Rattle.call_read.proofs.Laws.{over-first, list-refused, list-granted}
+use Rattle.call_read.proofs.Laws.{list-refused, list-granted}
 use borrow.Author.Needs.{needs}
 use Rattle.call_read.proofs.list.Statement.{statement}
 use Rattle.call_read.proofs.list.Tie as tie
@@ -35,7 +34,7 @@ returns-2 c =
     let e = list-granted (window-of (a .w .now)) (length (a .buffer .now)) _ (sym (clean .ensures .0) ∙ ap examined-of (e2 .given .1)) in record {
       answer = rw e (ap Done (copy-listed .ensures .counted));
       bytes = λ i. rw e
-          (copy-listed .ensures .bytes i ∙ sym (over-first _ _ (bytes-of (a .buffer .now)) i));
+          (copy-listed .ensures .bytes i);
     }
 
 pub list-spec : {M : Type 1} → statement M

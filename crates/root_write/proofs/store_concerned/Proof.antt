@@ -1,9 +1,8 @@
 use mathlib.Core.Path.{sym, _∙_}
-use Prim.Native.Nat.{_+_}
 use borrow.Author.Tests.{not-true, not-false}
 use Rattle.model.specs.Bytes.{bytes-of}
 use Rattle.model.specs.Sector.{card-of}
-use Rattle.model.specs.Root.{slot-at}
+use Rattle.model.specs.Root.{root-place, slot-at}
 use Rattle.model.proofs.Cards.{store-same}
 use Rattle.model.proofs.Runs.{ran-none}
 use Rattle.operations.specs.Finish.{effect, root-sector}
@@ -21,17 +20,16 @@ returns c = rw (sym (c .before .concerns .ensures) ∙ not-true _ (c .if1 .taken
 
 returns-2 : tie.Need-returns-2
 returns-2 c =
-    let s = c .before .before in
-    let sect = s .before .before .before .before in
-    let if = sect .before .before in
-    let conc = if .before in
-    let b = conc .before .before in
-    let a = b .args in
+    let store-sector = c .before .before .store-sector in
+    let place = c .before .before .before .before .root-place in
+    let after = c .before .before .before .before .before .before .sector-after in
+    let is = sym (c .before .before .before .before .before .before .before .before .before .concerns .ensures) ∙ not-false _ (c .before .before .before .before .before .before .before .before .if1 .left) in
+    let a = c .before .before .before .before .before .before .before .before .before .before .before .args in
     rw (
-      sym (conc .concerns .ensures) ∙ not-false _ (if .if1 .left),
-      ← store-same (a .l .root + a .r) (bytes-of (sect .sector-after .result))
-          (root-sector (effect (a .x) (slot-at (a .l) (card-of (a .w .now)))) (a .r)) (sect .sector-after .ensures),
-    ) (s .store-sector .ensures)
+      is,
+      ← store-same (root-place (a .l) (a .r)) (bytes-of (after .result))
+          (root-sector (effect (a .x) (slot-at (a .l) (card-of (a .w .now)))) (a .r)) (after .ensures),
+    ) (rw (place .ensures .0) at (store-sector .ensures))
 
 pub store-concerned-spec : {M : Type 1} → statement M
 store-concerned-spec =
