@@ -19,7 +19,7 @@ ghost use Rattle.operations.specs.Program.{stores};
 ghost use Rattle.operations.specs.Plan.{clusters-of, last-cluster, added, append-stores};
 ghost use Rattle.operations.specs.Calls.{append};
 ghost use Rattle.volume.specs.Opened.{Ready};
-ghost use Rattle.root_lookup.specs.Found.{Proper};
+ghost use Rattle.root_lookup.specs.Found.{Chained};
 ghost use Rattle.file_append.specs.Extents.{Room};
 ghost use Rattle.log_steps.specs.Did.{Did};
 ghost use Rattle.call_append.specs.Append.{append-to, append-on, chain-stores, first-of};
@@ -93,7 +93,7 @@ fn store_append(
 
 // NOSPACE; then the stores, none where there are no bytes to append.
 fn append_to(w: &mut [u8], v: Volume, f: File, bytes: &[u8], limit: u32) -> Outcome
-    requires { ⌜ Ready v (now w) × Proper v (card-of (now w)) f ⌝ }
+    requires { ⌜ Ready v (now w) × Chained v (card-of (now w)) f ⌝ }
     ensures { λ r. ⌜ Did limit (append-to (card-of (now (w .entry))) v f (view (now (bytes .entry)))) (now (w .entry)) (now (w .exit)) r ⌝ }
 {
     let l = v.layout;

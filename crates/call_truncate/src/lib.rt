@@ -21,7 +21,7 @@ ghost use Rattle.operations.specs.Program.{stores};
 ghost use Rattle.operations.specs.Plan.{operate, old-fat, truncate-stores, delete-stores};
 ghost use Rattle.operations.specs.Calls.{truncate, delete};
 ghost use Rattle.fat_read.specs.Located.{Lies};
-ghost use Rattle.root_lookup.specs.Found.{Proper};
+ghost use Rattle.root_lookup.specs.Found.{Chained};
 ghost use Rattle.file_read.specs.Files as files;
 ghost use Rattle.fat_release.specs.Release.{cut, Inside};
 ghost use Rattle.log_steps.specs.Did.{Did};
@@ -55,7 +55,7 @@ fn shorten(w: &mut [u8], v: Volume, c: Cut, x: Change, limit: u32) -> Progress
 // Delete of a file that keeps the chain rule.
 fn delete_file(w: &mut [u8], v: Volume, f: File, limit: u32) -> Progress
     requires { ⌜ Held (v .layout) (now w) × Lies (v .layout) (v .log) ⌝ }
-    requires { ⌜ Proper v (card-of (now w)) f ⌝ }
+    requires { ⌜ Chained v (card-of (now w)) f ⌝ }
     ensures { λ r. ⌜ Ran limit (stores (delete-stores v (card-of (now (w .entry))) f)) (now (w .entry)) (now (w .exit)) (r .made) (r .whole) ⌝ }
 {
     let l = v.layout;
@@ -127,7 +127,7 @@ fn cut_at(w: &[u8], l: Layout, f: File, size: u32) -> Cut
 // Truncate of a file that keeps the chain rule, to a smaller size.
 fn truncate_file(w: &mut [u8], v: Volume, f: File, size: u32, limit: u32) -> Progress
     requires { ⌜ Held (v .layout) (now w) × Lies (v .layout) (v .log) ⌝ }
-    requires { ⌜ Proper v (card-of (now w)) f × (size < f .size) ⌝ }
+    requires { ⌜ Chained v (card-of (now w)) f × (size < f .size) ⌝ }
     ensures { λ r. ⌜ Ran limit (stores (truncate-stores v (card-of (now (w .entry))) f size)) (now (w .entry)) (now (w .exit)) (r .made) (r .whole) ⌝ }
 {
     let l = v.layout;
@@ -145,7 +145,7 @@ fn truncate_file(w: &mut [u8], v: Volume, f: File, size: u32, limit: u32) -> Pro
 // LENGTH, and a size that is the present one. Any other fits 32 bits.
 fn truncate_as(w: &mut [u8], v: Volume, f: File, size: u64, limit: u32) -> Outcome
     requires { ⌜ Held (v .layout) (now w) × Lies (v .layout) (v .log) ⌝ }
-    requires { ⌜ Proper v (card-of (now w)) f ⌝ }
+    requires { ⌜ Chained v (card-of (now w)) f ⌝ }
     ensures { λ r. ⌜ Did limit (truncate-as (card-of (now (w .entry))) v f size) (now (w .entry)) (now (w .exit)) r ⌝ }
 {
     let present = sector::wider(f.size);

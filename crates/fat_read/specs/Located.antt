@@ -27,6 +27,6 @@ pub record Lies (l : Layout) (a : Area) : Type 0 where
   pub few : a .sectors ≤ 128
   pub inside : a .sector + a .sectors ≤ l .total
 
-abbrev pub Within : Layout → Located → Type 0
-Within l Nowhere = Unit {0}
-Within l (At a) = Lies l a
+abbrev pub Locates : Layout → Located → Type 0
+Locates l Nowhere = Unit {0}
+Locates l (At a) = Lies l a

@@ -13,7 +13,7 @@ ghost use Rattle.model.specs.Sector.{card-of};
 ghost use Rattle.model.specs.Fat.{fat-at, fat1-of, entry, class, fats-agree};
 ghost use Rattle.model.specs.Chain.{cluster-sector};
 ghost use Rattle.model.specs.Promises.{Number, Fits, Held};
-ghost use Rattle.fat_read.specs.Located.{holds, lacks, located, Within};
+ghost use Rattle.fat_read.specs.Located.{holds, lacks, located, Locates};
 
 // Where the log was found.
 pub enum Located {
@@ -162,7 +162,7 @@ fn find_other(w: &[u8], l: Layout, k: u32, n: u32) -> u32
 // The log, in one pass: the first cluster marked, the end of its run, and none marked after it.
 pub fn locate(w: &[u8], l: Layout) -> Located
     requires { ⌜ Held l (now w) ⌝ }
-    ensures { λ r. ⌜ (r ≡ located l (fat1-of l (card-of (now (w .entry))))) × Within l r ⌝ }
+    ensures { λ r. ⌜ (r ≡ located l (fat1-of l (card-of (now (w .entry))))) × Locates l r ⌝ }
 {
     let end = l.clusters + 2;
     let start = find_entry(w, l.fat1, 2, l.clusters, 0xFFF6);

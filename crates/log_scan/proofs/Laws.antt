@@ -33,7 +33,7 @@ at-place g s r h =
     rw (a, b)
 
 -- The first pending record of n sectors is record r of sector s.
-pub record Found (n : ℕ) (g : Log) (s r : ℕ) : Type 0 where
+pub record FirstAt (n : ℕ) (g : Log) (s r : ℕ) : Type 0 where
   pub few : r < 16
   pub within : s < n
   pub none : Sofar (pending-at g) false 0 (16 * s + r)
@@ -43,7 +43,7 @@ pub place-none : (n : ℕ) (g : Log) → Sofar (pending-at g) false 0 (16 * n) �
 unfolding place-of first-pending
 place-none n g h = rw (none-below (pending-at g) (16 * n) (16 * n) h (omega arith), le-ltb (16 * n) (16 * n) (omega arith))
 
-pub place-found : (n : ℕ) (g : Log) (s r : ℕ) → Found n g s r → place-of (first-pending n g) n ≡ At s r
+pub place-found : (n : ℕ) (g : Log) (s r : ℕ) → FirstAt n g s r → place-of (first-pending n g) n ≡ At s r
 unfolding place-of first-pending
 place-found n g s r f =
     let a : (16 * s + r) / 16 ≡ s = omega (arith, f .few) in

@@ -26,7 +26,7 @@ use Rattle.model.proofs.Tests.{between-true, between-is}
 use Rattle.model.proofs.Scan.{first-before0, first-above0, all-same, all-of, all-at, first-is0, all-of0}
 use Rattle.model.proofs.All.{All}
 use Rattle.model.proofs.Cards.{clip-at}
-use Rattle.model.proofs.Records.{Fits, listed, encode-back, size-back, encode-after}
+use Rattle.model.proofs.Records.{ChangeFits, listed, encode-back, size-back, encode-after}
 use Rattle.model.specs.declared.Pending.the-variants as Pending
 
 -- A record that begins so is pending, a slot that begins so is live.
@@ -189,7 +189,7 @@ pub recorded-up : (n z y : ℕ) (x : Change) → z ≤ y → Recorded n z x → 
 recorded-up n z y x le w = (records-up n z (listed (records x)) (w .0) y le, w .1)
 
 -- What a change supplies: record 0, and each after it.
-pub recorded : (n z : ℕ) (x : Change) → Fits x → record-ok n z (listed (records x) 0) ≡ true
+pub recorded : (n z : ℕ) (x : Change) → ChangeFits x → record-ok n z (listed (records x) 0) ≡ true
     → ((k : ℕ) → 1 ≤ k → k < length (records x) → part-ok n z (listed (records x)) k ≡ true) → All Starts (records x) → Recorded n z x
 unfolding records-ok
 recorded n z x fits one more live =
@@ -231,7 +231,7 @@ first-byte (r ∷ rs) zero less a = ap starts (record-first r) ∙ a .0
 first-byte (r ∷ rs) (suc k) less a = first-byte rs k (omega arith) (a .1)
 
 -- All records of a group are pending.
-record-pends : (x : Change) → Fits x → All Starts (records x) → (k : ℕ) → k < length (records x) → pends (clip (encode x)) k ≡ true
+record-pends : (x : Change) → ChangeFits x → All Starts (records x) → (k : ℕ) → k < length (records x) → pends (clip (encode x)) k ≡ true
 unfolding encode lay
 record-pends x fits live k less =
     let row : 32 * k / 32 ≡ k = omega arith in
@@ -249,13 +249,13 @@ some-record n z x w = go (records x) (first-number n z (listed (records x)) (w .
     go (r ∷ rs) b = omega arith
 
 -- The records of a sector that was stored.
-clip-size : (o : Change) → Fits o → group-size (record-at (clip (encode o))) ≡ length (records o)
+clip-size : (o : Change) → ChangeFits o → group-size (record-at (clip (encode o))) ≡ length (records o)
 clip-size o h = ap group-size (encode-back o h) ∙ size-back o h
 
-clip-ok : (n z : ℕ) (o : Change) → Fits o → records-ok n z (record-at (clip (encode o))) ≡ records-ok n z (listed (records o))
+clip-ok : (n z : ℕ) (o : Change) → ChangeFits o → records-ok n z (record-at (clip (encode o))) ≡ records-ok n z (listed (records o))
 clip-ok n z o h = ap (records-ok n z) (encode-back o h)
 
-group-fine : (n z : ℕ) (o : Change) → Fits o → Recorded n z o → group-ok n z (clip (encode o)) ≡ true
+group-fine : (n z : ℕ) (o : Change) → ChangeFits o → Recorded n z o → group-ok n z (clip (encode o)) ≡ true
 unfolding group-ok empty-from
 group-fine n z o h w =
     let m : ℕ = length (records o) in
@@ -265,7 +265,7 @@ group-fine n z o h w =
     also empty-clip (32 * m) (encode o) ∙ all-of (λ j. eqb (encode o j) 0) (32 * m) (512 - 32 * m) (λ j lo hi. eq-eqb (encode o j) 0 (encode-after o j lo))
     also tt))
 
-pub group-read : (s : ℕ) (o : Change) → Fits o → group-in s (clip (encode o)) ≡ group-of s o
+pub group-read : (s : ℕ) (o : Change) → ChangeFits o → group-in s (clip (encode o)) ≡ group-of s o
 unfolding group-in
 group-read s o h = ap (group-of s) (ap change-of (encode-back o h) ∙ h .told)
 
@@ -281,7 +281,7 @@ rest-quiet o r le less = pends-starts (clip (encode o)) r
     ∙ ap (λ v. starts v) (clip-at (encode o) (32 * r) (omega arith) ∙ encode-after o (32 * r) (omega arith))
 
 module _ (entries z : ℕ) (a : Area) (g : Log) (u : ℕ) (o : Change) (h : Stored (a .sectors) g u o)
-    (fits : Fits o) (fine : Recorded entries z o) where
+    (fits : ChangeFits o) (fine : Recorded entries z o) where
   at-sector : (k : ℕ) → k / 16 ≡ u → pending-at g k ≡ pends (clip (encode o)) (k % 16)
   at-sector k e = ap (λ (b : Bytes). pends b (k % 16)) (ap g e ∙ h .bytes)
 

@@ -139,7 +139,7 @@ records-back rs few h k = go (less? k 16)
         ∙ one-back rs h k)
 
 -- A change that a group can hold: its records fit a sector and their fields, and they tell of it.
-pub record Fits (x : Change) : Type 0 where
+pub record ChangeFits (x : Change) : Type 0 where
   pub few : length (records x) ≤ 16
   pub fields : All RecordFits (records x)
   pub told : change-of (listed (records x)) ≡ x
@@ -157,11 +157,11 @@ pub plain-told : (o : Operation) → change-of (listed (records (plain o))) ≡ 
 unfolding change-of records
 plain-told o = ap plain (operation-told o)
 
-pub encode-back : (x : Change) → Fits x → record-at (clip (encode x)) ≡ listed (records x)
+pub encode-back : (x : Change) → ChangeFits x → record-at (clip (encode x)) ≡ listed (records x)
 unfolding encode
 encode-back x h = fun-ext (λ k. records-back (records x) (h .few) (h .fields) k)
 
-pub size-back : (x : Change) → Fits x → group-size (listed (records x)) ≡ length (records x)
+pub size-back : (x : Change) → ChangeFits x → group-size (listed (records x)) ≡ length (records x)
 unfolding group-size
 size-back x h = ap (λ (y : Change). length (records y)) (h .told)
 

@@ -55,7 +55,7 @@ pub record Fit (size : ℕ) (c : Card) : Type 0 where
   pub mounts : mount (window size c) ≡ granted (layout-of c)
   pub locates : locate (layout-of c) (first-fat c) ≡ granted (area-of c)
 
-pub record Examined (size : ℕ) (c : Card) : Type 0 where
+pub record Passed (size : ℕ) (c : Card) : Type 0 where
   pub fit : Fit size c
   pub root : root-ok (layout-of c .entries) (first-bytes (layout-of c) c) ≡ true
   pub sound : is-broken (pending-of c) ≡ false
@@ -68,7 +68,7 @@ pub fit-run : (size : ℕ) (c : Card) → Fit size c → run-ok (layout-of c) (f
 unfolding locate
 fit-run size c f = let h = asked Ground.Logarea _ _ _ (f .locates) in not-false _ (h .0)
 
-pub examine-of : (size : ℕ) (c : Card) → Examined size c → examine (window size c) ≡ granted (volume-of c (pending-of c))
+pub examine-of : (size : ℕ) (c : Card) → Passed size c → examine (window size c) ≡ granted (volume-of c (pending-of c))
 unfolding examine inspect
 examine-of size c e =
     then (mount (window size c)) _ (layout-of c) (e .fit .mounts)
@@ -98,7 +98,7 @@ inspected c l a p v h =
     let e : granted (record { layout = l; log = a; pending = p }) ≡ granted v = h2 .1 in
     (not-false (root-ok (l .entries) (first-bytes l c)) (h1 .0), h2 .0, (cc))
 
-pub examined : (size : ℕ) (c : Card) (v : Volume) → examine (window size c) ≡ granted v → Examined size c × (v ≡ volume-of c (pending-of c))
+pub examined : (size : ℕ) (c : Card) (v : Volume) → examine (window size c) ≡ granted v → Passed size c × (v ≡ volume-of c (pending-of c))
 unfolding examine
 examined size c v h =
     let m = bound (mount (window size c)) _ v h in

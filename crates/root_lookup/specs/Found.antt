@@ -27,18 +27,18 @@ pub record Seated (v : Volume) (c : Card) (f : File) : Type 0 where
   pub is : f ≡ file-at (v .layout) c (f .entry .slot)
 
 -- It keeps the chain rule too.
-pub record Proper (v : Volume) (c : Card) (f : File) : Type 0 where
+pub record Chained (v : Volume) (c : Card) (f : File) : Type 0 where
   pub seated : Seated v c f
   pub chain : keeps-chain (v .layout) (entry (fat1-of (v .layout) c)) (f .first) (f .size) ≡ true
 
 -- A file that is given is the one in slot s.
-abbrev pub Lives : Volume → Card → ℕ → Found → Type 0
-Lives v c s (Missing g) = Unit {0}
-Lives v c s (At f) = Seated v c f × (f .entry .slot ≡ s)
+abbrev pub SeatedAt : Volume → Card → ℕ → Found → Type 0
+SeatedAt v c s (Missing g) = Unit {0}
+SeatedAt v c s (At f) = Seated v c f × (f .entry .slot ≡ s)
 
 abbrev pub Opens : Volume → Card → Found → Type 0
 Opens v c (Missing g) = Unit {0}
-Opens v c (At f) = Proper v c f
+Opens v c (At f) = Chained v c f
 
 abbrev pub vacancy-of : Vacancy → Answer ℕ
 vacancy-of (Denied g) = refused g

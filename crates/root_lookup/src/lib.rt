@@ -10,7 +10,7 @@ ghost use Rattle.model.specs.Sector.{card-of};
 ghost use Rattle.model.specs.Root.{name-ok};
 ghost use Rattle.model.specs.Promises.{Held};
 ghost use Rattle.operations.specs.Calls.{slot-of, file-in, whole, file-of, taken};
-ghost use Rattle.root_lookup.specs.Found.{found-of, Seated, Lives, Opens, vacancy-of, new-slot, Below};
+ghost use Rattle.root_lookup.specs.Found.{found-of, Seated, SeatedAt, Opens, vacancy-of, new-slot, Below};
 
 // A file, or the ground on which there is none.
 pub enum Found {
@@ -36,7 +36,7 @@ pub fn slot_of(w: &[u8], v: Volume, name: &[u8]) -> u32
 // ABSENT and DIRECTORY: the file in a slot.
 pub fn file_in(w: &[u8], v: Volume, s: u32) -> Found
     requires { ⌜ Held (v .layout) (now w) × (s ≤ v .layout .entries) ⌝ }
-    ensures { λ r. ⌜ (found-of r ≡ file-in v (card-of (now (w .entry))) s) × Lives v (card-of (now (w .entry))) s r ⌝ }
+    ensures { λ r. ⌜ (found-of r ≡ file-in v (card-of (now (w .entry))) s) × SeatedAt v (card-of (now (w .entry))) s r ⌝ }
 {
     let l = v.layout;
     if l.entries <= s {

@@ -20,7 +20,7 @@ use Rattle.model.proofs.Tests.{less?, told}
 use Rattle.model.proofs.All.{All, all-map}
 use Rattle.model.proofs.Cards.{put-case, clip-clip, clip-same}
 use Rattle.model.proofs.Changes.{Clipped, Keeps, after-keeps, Covers, after-is}
-use Rattle.model.proofs.Records.{Fits}
+use Rattle.model.proofs.Records.{ChangeFits}
 use Rattle.model.proofs.Pendings.{Stored, Recorded}
 use Rattle.model.proofs.Volumes.{layout-of, SameMarks, first-fat, area-of}
 use Rattle.safety.proofs.Start.{Fixed, Start, shape-of}
@@ -39,7 +39,7 @@ pub record Entered (c u : Card) (i : ℕ) (o : Change) : Type 0 where
   pub fixed : (n : ℕ) → Fixed (layout-of c) n → u n ≡ c n
   pub marks : SameMarks (layout-of c) (fat2-of (layout-of c) u) (first-fat c)
   pub stored : Stored (area-of c .sectors) (log-of (area-of c) u) i o
-  pub fits : Fits o
+  pub fits : ChangeFits o
   pub recorded : Recorded (layout-of c .entries) (last-slot c) o
   pub lives : Lives (slot-at (layout-of c) c) o
 

@@ -44,11 +44,11 @@ use Rattle.safety.proofs.Linked.{Linked, Ranged, keeps-linked, chain-he
 use Rattle.safety.proofs.Ended.{Ended, ended, SameHead, same-directory}
 use Rattle.model.proofs.Needed.{needed-none}
 use Rattle.safety.proofs.Chained.{HasChain, ranged, head-is, size-is, empty-then, linked-then}
-use Rattle.safety.proofs.Readings.{Found, Read, holds-of, holds-read}
+use Rattle.safety.proofs.Readings.{Meant, Read, holds-of, holds-read}
 use Rattle.operations.proofs.Edits.{one-in, one-out}
 use Rattle.safety.proofs.Slots.{resized, resized-size, resized-first, resized-head}
 use Rattle.safety.proofs.Supplied.{truncates-as, cut-fat, truncate-supplies, ks}
-use Rattle.safety.proofs.Granted.{Named, Truncated, truncate-granted}
+use Rattle.safety.proofs.Granted.{NamedFile, Truncated, truncate-granted}
 use Rattle.safety.proofs.Moved.{proper-clear, finish-with}
 use Rattle.safety.proofs.Means.{resized-means}
 use Rattle.model.specs.declared.Pending.the-variants as Pending
@@ -178,7 +178,7 @@ module _ {size : ℕ} {c : Card} (st : Start size c) (is : clean (window size c)
   unfolding after
   unstored n m content h = h
 
-  module _ (n : Span) (m : ℕ) (g : Named st is n) (less : m < file-size (slot-at (layout-of c) c (at n))) {t : Card}
+  module _ (n : Span) (m : ℕ) (g : NamedFile st is n) (less : m < file-size (slot-at (layout-of c) c (at n))) {t : Card}
       (end : Ended size c [] (cut-fat st (at n) (g .live) (g .keeps) m) (truncates-as st (at n) (g .live) (g .keeps) m) t) where
     abbrev x : ℕ
     x = at n
@@ -186,7 +186,7 @@ module _ {size : ℕ} {c : Card} (st : Start size c) (is : clean (window size c)
     abbrev R : Bytes
     R = new st x (g .live) (g .keeps) m less end
 
-    cut-found : Found v t n x
+    cut-found : Meant v t n x
     cut-found = record {
       ok = g .found .ok;
       at = resized-means st is end n x R (cut-slot st x (g .live) (g .keeps) m less end) (cut-head st x (g .live) (g .keeps) m less end)
@@ -209,7 +209,7 @@ module _ {size : ℕ} {c : Card} (st : Start size c) (is : clean (window size c)
       → Holds (left largest (truncates n m) w) n m content
   truncate-holds n m p h size′ content holds =
       let g : Truncated st is n m p = truncate-granted st is n m p h in
-      let f : Named st is n = g .it in
+      let f : NamedFile st is n = g .it in
       let old : ℕ = file-size (slot-at (layout-of c) c (at n)) in
       let le : m ≤ old = g .less in
       ⊎-elim

@@ -12,13 +12,13 @@ use Rattle.model.specs.declared.Change.{Change}
 use Rattle.operations.specs.Finish.{set-first, set-size, Edit, set-slots, edits, effect, Slots}
 use Rattle.model.proofs.Tests.{same?}
 use Rattle.model.proofs.All.{All}
-use Rattle.model.proofs.Records.{Fits, listed}
+use Rattle.model.proofs.Records.{ChangeFits, listed}
 use Rattle.model.proofs.Pendings.{Recorded}
 use Rattle.operations.proofs.Edits.{set-in, set-out}
 use Rattle.operations.proofs.Seats.{Seated, told-seats, told-slots}
 
 -- The slots of a change whose group RECORD takes.
-pub recorded-slots : (n z : ℕ) (o : Change) → Fits o → Recorded n z o → Slots n o
+pub recorded-slots : (n z : ℕ) (o : Change) → ChangeFits o → Recorded n z o → Slots n o
 recorded-slots n z o h w = subst (Slots n) (h .told) (told-slots n z (listed (records o)) (w .0))
 
 -- Each edit makes its slot begin otherwise than 0.
@@ -50,7 +50,7 @@ seated-edits : (n z : ℕ) (d : Directory) (es : List Edit) → All (Seated n z)
 seated-edits n z d [] a b = tt
 seated-edits n z d (e ∷ es) a b = ((a .0 .0 .1, b .0), seated-edits n z d es (a .1) (b .1))
 
-pub begins : (n z : ℕ) (o : Change) (d : Directory) → Fits o → Recorded n z o → Lives d o → (k : ℕ) → Begins z k (d k 0) (effect o d k 0)
+pub begins : (n z : ℕ) (o : Change) (d : Directory) → ChangeFits o → Recorded n z o → Lives d o → (k : ℕ) → Begins z k (d k 0) (effect o d k 0)
 unfolding effect
 begins n z o d h w p k =
     let seats = subst (λ (o : Change). All (Seated n z) (edits o)) (h .told) (told-seats n z (listed (records o)) (w .0)) in

@@ -31,7 +31,7 @@ use Rattle.safety.proofs.Journal.{Kept}
 use Rattle.safety.proofs.Start.{Start, shape-of, fat2, fatsize-few, entries-few, log-few}
 use Rattle.safety.proofs.Before.{Wanted, Spared, start-rests}
 use Rattle.safety.proofs.Steps.{finish-length}
-use Rattle.safety.proofs.Operate.{Inside, Supplies, operate-kept, operate-inside, leaves}
+use Rattle.safety.proofs.Operate.{OnCard, Supplies, operate-kept, operate-inside, leaves}
 use Rattle.safety.proofs.Clusters.{FreeThen, none-free}
 use Rattle.safety.proofs.Files.{file-clear}
 use Rattle.model.specs.declared.Pending.the-variants as Pending
@@ -42,7 +42,7 @@ pub record Fair (size : ℕ) (c : Card) (taken released : List ℕ) (q : Program
   pub kept : Kept size (Wanted c data-stores) c q
   -- The largest limit lets all stores through, and they are within the card.
   pub short : length (stores q) ≤ largest
-  pub inside : All (Inside c) (stores q)
+  pub inside : All (OnCard c) (stores q)
   -- The card at the end is clean, and its free clusters are those before, less those taken, plus those released.
   pub cleans : clean (window size (after (stores q) c)) ≡ granted (volume-of c Pending.Nothing)
   pub frees : (j : ℕ) → j < 2 + layout-of c .clusters → free (fat1-of (layout-of c) (after (stores q) c)) j ≡ FreeThen (first-fat c) taken released j

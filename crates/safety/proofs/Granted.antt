@@ -30,7 +30,7 @@ use Rattle.model.proofs.Grounds.{then, asked, bound}
 use Rattle.model.proofs.Names.{Live, found-live, found-listed}
 use Rattle.model.proofs.Volumes.{window, layout-of, first-fat, volume-of}
 use Rattle.safety.proofs.Start.{Start}
-use Rattle.safety.proofs.Readings.{Found, there, found-in, found-file}
+use Rattle.safety.proofs.Readings.{Meant, there, found-in, found-file}
 use Rattle.safety.proofs.Supplied.{creates-as, renames-as, deletes-as, truncates-as, cut-fat, updates-as, longer-fat, ks}
 use Rattle.safety.proofs.Appends.{ds}
 use Rattle.model.specs.declared.Pending.the-variants as Pending
@@ -120,22 +120,22 @@ module _ {size : ℕ} {c : Card} (st : Start size c) (is : clean (window size c)
 
   -- ---- calls on a file that keeps the chain rule
 
-  abbrev pub Keeps : ℕ → Type 0
-  Keeps s = keeps-chain l (entry fat) (first-cluster (slot-at l c s)) (file-size (slot-at l c s)) ≡ true
+  abbrev pub KeepsChain : ℕ → Type 0
+  KeepsChain s = keeps-chain l (entry fat) (first-cluster (slot-at l c s)) (file-size (slot-at l c s)) ≡ true
 
-  pub record Named (n : Span) : Type 0 where
-    pub found : Found v c n (at n)
+  pub record NamedFile (n : Span) : Type 0 where
+    pub found : Meant v c n (at n)
     pub live : Live l c (at n)
-    pub keeps : Keeps (at n)
+    pub keeps : KeepsChain (at n)
     pub file : is-file (slot-at l c (at n)) ≡ true
 
-  named-in : (n : Span) (f : File) → file-of v c n ≡ granted f → Named n
+  named-in : (n : Span) (f : File) → file-of v c n ≡ granted f → NamedFile n
   unfolding proper
   named-in n f h = let a = found-in w v is n f h in record
       { found = a; live = live-at n (a .in-root); keeps = a .keeps; file = file-at-name n (a .in-root) (a .plain) }
 
   pub record Deleted (n : Span) (p : Program) : Type 0 where
-    pub it : Named n
+    pub it : NamedFile n
     pub same : operate v c [] (release (ks st (at n) (it .live) (it .keeps)) fat) (deletes-as st (at n) (it .live) (it .keeps)) ≡ p
 
   pub delete-granted : (n : Span) (p : Program) → plan (deletes n) w ≡ granted p → Deleted n p
@@ -155,7 +155,7 @@ module _ {size : ℕ} {c : Card} (st : Start size c) (is : clean (window size c)
   unless-is n q p h = ⊎-elim (λ a. inl (eqb-true n 0 (a .0), sym (a .1))) (λ a. inr (eqb-false n 0 (a .0), a .1)) (which (eqb n 0) (ending []) q p h)
 
   pub record Truncated (n : Span) (m : ℕ) (p : Program) : Type 0 where
-    pub it : Named n
+    pub it : NamedFile n
     pub less : m ≤ file-size (slot-at l c (at n))
     pub same : Unless (file-size (slot-at l c (at n)) - m)
         (operate v c [] (cut-fat st (at n) (it .live) (it .keeps) m) (truncates-as st (at n) (it .live) (it .keeps) m)) p
@@ -178,12 +178,12 @@ module _ {size : ℕ} {c : Card} (st : Start size c) (is : clean (window size c)
             (ap (λ (g : File). unless-none (g .size - m) (truncate-stores v c g m)) mine ∙ s);
       }
 
-  abbrev pub Room : ℕ → Span → Type 0
-  Room s d = added l (file-at l c s) (d .size) ≤ length (free-clusters l fat)
+  abbrev pub Enough : ℕ → Span → Type 0
+  Enough s d = added l (file-at l c s) (d .size) ≤ length (free-clusters l fat)
 
   pub record Appended (n d : Span) (p : Program) : Type 0 where
-    pub it : Named n
-    pub room : Room (at n) d
+    pub it : NamedFile n
+    pub room : Enough (at n) d
     pub same : Unless (d .size) (operate v c (ds st (at n) (it .live) (it .keeps) d room) (longer-fat st (at n) (it .live) (it .keeps) d room)
         (updates-as st (at n) (it .live) (it .keeps) d room)) p
 

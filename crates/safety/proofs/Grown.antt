@@ -45,11 +45,11 @@ use Rattle.safety.proofs.Linked.{Linked, Ranged, extend-linked}
 use Rattle.safety.proofs.Ended.{Ended, ended, SameHead, same-directory}
 use Rattle.model.proofs.Needed.{needed-none}
 use Rattle.safety.proofs.Chained.{HasChain, ranged, head-is, size-is, linked-then}
-use Rattle.safety.proofs.Readings.{Found, Read, holds-of, holds-read}
+use Rattle.safety.proofs.Readings.{Meant, Read, holds-of, holds-read}
 use Rattle.operations.proofs.Edits.{one-in, one-out}
 use Rattle.safety.proofs.Slots.{resized, resized-size, resized-first, resized-head}
 use Rattle.safety.proofs.Supplied.{updates-as, longer-fat, append-supplies, ks}
-use Rattle.safety.proofs.Granted.{Named, Room, Appended, append-granted}
+use Rattle.safety.proofs.Granted.{NamedFile, Enough, Appended, append-granted}
 use Rattle.safety.proofs.Moved.{finish-with}
 use Rattle.safety.proofs.Cut.{needed-less, needed-some, own-length, own-linked, own-first, unstored}
 use Rattle.safety.proofs.Means.{resized-means}
@@ -233,7 +233,7 @@ module _ {size : ℕ} {c : Card} (st : Start size c) (is : clean (window size c)
   abbrev pub then-new : ℕ → Bytes → Span → Bytes
   then-new size content d i = pick (ltb i size) (content i) (d .byte (i - size))
 
-  module _ (n d : Span) (g : Named st is n) (room : Room st is (at n) d) (some : d .size ≡ 0 → ⊥) {t : Card}
+  module _ (n d : Span) (g : NamedFile st is n) (room : Enough st is (at n) d) (some : d .size ≡ 0 → ⊥) {t : Card}
       (end : Ended size c (Appends.ds st (at n) (g .live) (g .keeps) d room) (longer-fat st (at n) (g .live) (g .keeps) d room)
       (updates-as st (at n) (g .live) (g .keeps) d room) t) where
     abbrev x : ℕ
@@ -246,7 +246,7 @@ module _ {size : ℕ} {c : Card} (st : Start size c) (is : clean (window size c)
     head-x j small = head-is st end x (g .live .in-root) R (grown-slot st x (g .live) (g .keeps) d room some end) j small
         ∙ grown-head st x (g .live) (g .keeps) d room some end j small
 
-    grown-found : Found v t n x
+    grown-found : Meant v t n x
     grown-found = record {
       ok = g .found .ok;
       at = resized-means st is end n x R (grown-slot st x (g .live) (g .keeps) d room some end) (grown-head st x (g .live) (g .keeps) d room some end)
@@ -281,7 +281,7 @@ module _ {size : ℕ} {c : Card} (st : Start size c) (is : clean (window size c)
       → Holds (left largest (appends n d) w) n (size′ + d .size) (then-new size′ content d)
   append-holds n d p h size′ content holds =
       let g : Appended st is n d p = append-granted st is n d p h in
-      let f : Named st is n = g .it in
+      let f : NamedFile st is n = g .it in
       ⊎-elim
       (λ a. finish-with st is (λ x. Holds x n (size′ + d .size) (then-new size′ content d)) (appends n d) p (ending []) h (sym (a .1))
       (unstored st is n (size′ + d .size) (then-new size′ content d) (none-then n d size′ content (a .0) holds)))

@@ -38,7 +38,7 @@ use Rattle.safety.proofs.Clusters.{sector-clear, used-plain}
 use Rattle.safety.proofs.Theorem.{along}
 use Rattle.safety.proofs.Ended.{Ended, ended, same-bears, same-directory}
 use Rattle.safety.proofs.Chained.{HasChain, head-is, size-is, empty-then, kept-then}
-use Rattle.safety.proofs.Readings.{Found, Read, holds-of, holds-read, gone-of}
+use Rattle.safety.proofs.Readings.{Meant, Read, holds-of, holds-read, gone-of}
 use Rattle.operations.proofs.Edits.{one-in, one-out, two-first, two-second, two-out}
 use Rattle.safety.proofs.Slots.{new-size, new-first, new-directory, new-bears, named-size, named-first, named-directory, named-bears, named-only}
 use Rattle.safety.proofs.Slots.{deleted-bears, means, means-none, lower-not, bearer}
@@ -100,7 +100,7 @@ module _ {size : ℕ} {c : Card} (st : Start size c) (is : clean (window size c)
     unfolding edits operation-edits
     old-slot k ne = one-out (creates-as st n) d z (λ _. new-entry (name-of n)) refl k ne
 
-    create-found : Found v t n z
+    create-found : Meant v t n z
     create-found = record {
       ok = g .ok;
       at = means v t n z (g .room)
@@ -175,7 +175,7 @@ module _ {size : ℕ} {c : Card} (st : Start size c) (is : clean (window size c)
           all-same [] = tt
           all-same (j ∷ js) = (refl, all-same js)
 
-      rename-found : Found v t m z
+      rename-found : Meant v t m z
       rename-found = record {
         ok = g .new-ok;
         at = means v t m z (g .room)

@@ -29,7 +29,7 @@ use Rattle.model.proofs.All.{All, all-map, all-append}
 use Rattle.model.proofs.Cards.{Away, after-append, after-away, put-out, put-in, clip-clip}
 use Rattle.model.proofs.Changes.{Keeps, after-keeps, put-clipped}
 use Rattle.model.proofs.Fats.{write-done, entry-clip}
-use Rattle.model.proofs.Records.{Fits}
+use Rattle.model.proofs.Records.{ChangeFits}
 use Rattle.model.proofs.Pendings.{Recorded, quiet-zeros, Quiet}
 use Rattle.model.proofs.Grounds.{then}
 use Rattle.model.proofs.Volumes.{layout-of, SameMarks, first-fat, window, volume-of, area-of}
@@ -43,15 +43,15 @@ use Rattle.safety.proofs.Redo.{goes-forth, ended-rests, ended-clean, en
 use Rattle.model.specs.declared.Pending.the-variants as Pending
 
 -- A store within the card.
-abbrev pub Inside : Card → Store → Type 0
-Inside c s = s .sector < layout-of c .total
+abbrev pub OnCard : Card → Store → Type 0
+OnCard c s = s .sector < layout-of c .total
 
 -- What an operation supplies: its data goes to data sectors outside the log; its FAT marks the same clusters as the log; its group can be
 -- written and read again, and RECORD accepts it; no slot that it fills begins 0.
 pub record Supplies (c : Card) (ds : List Store) (f : Fat) (o : Change) : Type 0 where
   pub outside : All (λ s. Clear c (s .sector)) ds
   pub marks : SameMarks (layout-of c) f (first-fat c)
-  pub fits : Fits o
+  pub fits : ChangeFits o
   pub recorded : Recorded (layout-of c .entries) (last-slot c) o
   pub lives : Lives (slot-at (layout-of c) c) o
 
@@ -194,11 +194,11 @@ module _ {size : ℕ} {c : Card} (st : Start size c) where
         })
 
     -- Every store is within the card.
-    pub operate-inside : All (Inside c) (stores (operate v c ds f o))
+    pub operate-inside : All (OnCard c) (stores (operate v c ds f o))
     unfolding operate journal redo new-group group-sector group-store commit
     operate-inside =
-        let own : All (Inside c) ds = all-map (λ s. Clear c (s .sector)) (Inside c) (λ s k. k .inside) ds (given .outside) in
-        let before : All (Inside c) prep = prepare-all v c ds f (Inside c) own (λ s less. omega (arith, sh)) (λ i less. omega (arith, log-high st)) in
-        let then : All (Inside c) (finish l o with-group) = finish-all l o with-group (Inside c) (λ s less. omega (arith, sh)) (λ r less. omega (arith, sh)) in
+        let own : All (OnCard c) ds = all-map (λ s. Clear c (s .sector)) (OnCard c) (λ s k. k .inside) ds (given .outside) in
+        let before : All (OnCard c) prep = prepare-all v c ds f (OnCard c) own (λ s less. omega (arith, sh)) (λ i less. omega (arith, log-high st)) in
+        let then : All (OnCard c) (finish l o with-group) = finish-all l o with-group (OnCard c) (λ s less. omega (arith, sh)) (λ r less. omega (arith, sh)) in
         let at : log .sector + spot < l .total = omega (arith, spot-in, log-high st) in
-        all-append (Inside c) prep _ before (at, all-append (Inside c) (finish l o with-group) _ then (at, tt))
+        all-append (OnCard c) prep _ before (at, all-append (OnCard c) (finish l o with-group) _ then (at, tt))

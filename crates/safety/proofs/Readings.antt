@@ -25,7 +25,7 @@ use Rattle.model.proofs.Overlays.{overlay-in, overlay-above}
 use Rattle.model.proofs.Grounds.{then, ends, passed, stopped, asked, bound}
 
 -- A name means slot s, and the file in it keeps the chain rule.
-pub record Found (v : Volume) (x : Card) (n : Span) (s : ℕ) : Type 0 where
+pub record Meant (v : Volume) (x : Card) (n : Span) (s : ℕ) : Type 0 where
   pub ok : name-ok n ≡ true
   pub at : slot-of v x n ≡ s
   pub in-root : s < v .layout .entries
@@ -49,7 +49,7 @@ module _ (w : Window) (v : Volume) (is : clean w ≡ granted v) where
   unfolding read
   opened n offset room = then (clean w) _ v is
 
-  granted-file : (n : Span) (s : ℕ) → Found v x n s → file-of v x n ≡ granted (file-at l x s)
+  granted-file : (n : Span) (s : ℕ) → Meant v x n s → file-of v x n ≡ granted (file-at l x s)
   unfolding file-of file-in whole proper file-at
   granted-file n s h =
       passed Ground.Name (not (name-ok n)) _ (ap not (h .ok))
@@ -59,10 +59,10 @@ module _ (w : Window) (v : Volume) (is : clean w ≡ granted v) where
       ∙ passed Ground.Directory (is-directory (slot-at l x s)) _ (h .plain))
       ∙ passed Ground.Chain _ _ (ap not (h .keeps))
 
-  read-granted : (n : Span) (s : ℕ) → Found v x n s → (offset room : ℕ) → read w n offset room ≡ granted (reading l x (file-at l x s) offset room)
+  read-granted : (n : Span) (s : ℕ) → Meant v x n s → (offset room : ℕ) → read w n offset room ≡ granted (reading l x (file-at l x s) offset room)
   read-granted n s h offset room = opened n offset room ∙ then (file-of v x n) _ (file-at l x s) (granted-file n s h)
 
-  pub holds-of : (n : Span) (s : ℕ) → Found v x n s → (size : ℕ) (content : Bytes) → file-size (slot-at l x s) ≡ size
+  pub holds-of : (n : Span) (s : ℕ) → Meant v x n s → (size : ℕ) (content : Bytes) → file-size (slot-at l x s) ≡ size
       → ((i : ℕ) → i < size → file-byte l x (file-at l x s) i ≡ content i) → Holds w n size content
   unfolding filled-outcome buffer-after reading file-at
   holds-of n s h size content sized same = record {
@@ -94,7 +94,7 @@ module _ (w : Window) (v : Volume) (is : clean w ≡ granted v) where
       let e : granted (file-at l x s) ≡ granted f = h2 .1 in
       (ltb-true s (l .entries) (not-false (ltb s (l .entries)) (h1 .0)), h2 .0, (cc))
 
-  pub found-in : (n : Span) (f : File) → file-of v x n ≡ granted f → Found v x n (slot-of v x n)
+  pub found-in : (n : Span) (f : File) → file-of v x n ≡ granted f → Meant v x n (slot-of v x n)
   unfolding file-of whole proper file-at
   found-in n f h =
       let s : ℕ = slot-of v x n in
@@ -109,11 +109,11 @@ module _ (w : Window) (v : Volume) (is : clean w ≡ granted v) where
 
   -- Of a name that holds bytes.
   pub record Read (n : Span) (size : ℕ) (content : Bytes) : Type 0 where
-    pub found : Found v x n (slot-of v x n)
+    pub found : Meant v x n (slot-of v x n)
     pub sized : file-size (slot-at l x (slot-of v x n)) ≡ size
     pub same : (i : ℕ) → i < size → file-byte l x (file-at l x (slot-of v x n)) i ≡ content i
 
-  found-read : (n : Span) (size : ℕ) (content : Bytes) → Holds w n size content → Found v x n (slot-of v x n) → Read n size content
+  found-read : (n : Span) (size : ℕ) (content : Bytes) → Holds w n size content → Meant v x n (slot-of v x n) → Read n size content
   unfolding filled-outcome buffer-after reading file-at
   found-read n size content h f =
       let s : ℕ = slot-of v x n in

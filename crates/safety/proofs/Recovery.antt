@@ -24,29 +24,29 @@ use Rattle.model.proofs.Indices.{mem-all}
 use Rattle.model.proofs.Fats.{write-all}
 use Rattle.model.proofs.Pendings.{group-place}
 use Rattle.model.proofs.Grounds.{bound}
-use Rattle.model.proofs.Volumes.{Examined, layout-of, fit-shape, pending-of, area-of, area-high, first-fat, examined}
+use Rattle.model.proofs.Volumes.{Passed, layout-of, fit-shape, pending-of, area-of, area-high, first-fat, examined}
 use Rattle.safety.proofs.Steps.{finish-all}
-use Rattle.safety.proofs.Operate.{Inside}
+use Rattle.safety.proofs.Operate.{OnCard}
 use Rattle.model.specs.declared.Pending.the-variants as Pending
 
-module _ (size : ℕ) (c : Card) (h : Examined size c) where
+module _ (size : ℕ) (c : Card) (h : Passed size c) where
   abbrev l : Layout
   l = layout-of c
 
   sh : Shape l
   sh = fit-shape size c (h .fit)
 
-  pub recovery-inside : (p : Pending) → pending-of c ≡ p → All (Inside c) (stores (recover-stores l c p))
+  pub recovery-inside : (p : Pending) → pending-of c ≡ p → All (OnCard c) (stores (recover-stores l c p))
   unfolding recover-stores redo commit pending group-in
-  recovery-inside Pending.Nothing e = write-all l (l .fat2) (fat1-of l c) (fat2-of l c) (Inside c) (λ s less. omega (arith, sh))
+  recovery-inside Pending.Nothing e = write-all l (l .fat2) (fat1-of l c) (fat2-of l c) (OnCard c) (λ s less. omega (arith, sh))
   recovery-inside Pending.Broken e = tt
   recovery-inside (Pending.Held n) e =
       let g : Group = group-in n (c n) in
       let p = group-place (l .entries) (end-slot (l .entries) (first-bytes l c)) (area-of c) (log-of (area-of c) c) n e in
       let less : p .0 < area-of c .sectors = p .1 in
       let at : n ≡ area-of c .sector + p .0 = p .2 in
-      all-append (Inside c) (finish l (g .change) c) _
-      (finish-all l (g .change) c (Inside c) (λ s less. omega (arith, sh)) (λ r less. omega (arith, sh))) (omega (arith, area-high l (first-fat c) sh), tt)
+      all-append (OnCard c) (finish l (g .change) c) _
+      (finish-all l (g .change) c (OnCard c) (λ s less. omega (arith, sh)) (λ r less. omega (arith, sh))) (omega (arith, area-high l (first-fat c) sh), tt)
 
 pub recovery-within : RecoveryWithin
 unfolding plan recover
@@ -57,5 +57,5 @@ recovery-within w p h =
     let is : recover-stores (b .0 .layout) (w .card) (b .0 .pending) ≡ p = cc in
     let at : recover-stores (layout-of (w .card)) (w .card) (pending-of (w .card)) ≡ p = ap (λ v. recover-stores (v .layout) (w .card) (v .pending))
     (sym (e .1)) ∙ is in
-    mem-all (Inside (w .card)) (stores p) (subst (λ p. All (Inside (w .card)) (stores p)) at (recovery-inside (w .size) (w .card) (e .0)
+    mem-all (OnCard (w .card)) (stores p) (subst (λ p. All (OnCard (w .card)) (stores p)) at (recovery-inside (w .size) (w .card) (e .0)
     (pending-of (w .card)) refl))

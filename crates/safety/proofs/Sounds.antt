@@ -41,8 +41,8 @@ use Rattle.safety.proofs.Readings.{Read, holds-read, holds-of}
 use Rattle.safety.proofs.Slots.{new-first, new-size, deleted-file}
 use Rattle.safety.proofs.Supplied.{creates-as, create-supplies, renames-as, deletes-as, truncates-as, truncate-supplies, cut-fat, updates-as}
 use Rattle.safety.proofs.Supplied.{append-supplies, longer-fat, ks}
-use Rattle.safety.proofs.Granted.{file-at-name, Created, create-granted, Renamed, rename-granted, Named, Deleted, delete-granted, Truncated}
-use Rattle.safety.proofs.Granted.{truncate-granted, Room, Appended, append-granted}
+use Rattle.safety.proofs.Granted.{file-at-name, Created, create-granted, Renamed, rename-granted, NamedFile, Deleted, delete-granted, Truncated}
+use Rattle.safety.proofs.Granted.{truncate-granted, Enough, Appended, append-granted}
 use Rattle.safety.proofs.Moved.{finish-with, new-slot, old-slot, left-slot, rest-slot, rename-chain, rename-end, gone-slot, kept-slot, delete-end}
 use Rattle.safety.proofs.Cut.{cut-slot, cut-head, uncut-slot, cut-chain}
 use Rattle.safety.proofs.Grown.{grown-slot, grown-head, other-slot, grown-chain}
@@ -93,8 +93,8 @@ module _ {size : ℕ} {c : Card} (st : Start size c) (is : clean (window size c)
   unfolding after
   none-keeps k = idle-keeps k
 
-  abbrev Kept : Call → Window → Type 0
-  Kept k x = Keeping v c k (x .card)
+  abbrev AllKept : Call → Window → Type 0
+  AllKept k x = Keeping v c k (x .card)
 
   -- ---- create
 
@@ -196,7 +196,7 @@ module _ {size : ℕ} {c : Card} (st : Start size c) (is : clean (window size c)
       sound = sound-then st sound delete-spares end (λ r. r) z (λ s less file. delete-owned s less file (same? s (at n)));
     }
 
-  module _ (n : Span) (m : ℕ) (g : Named st is n) (shorter : m < file-size (d (at n))) {t : Card}
+  module _ (n : Span) (m : ℕ) (g : NamedFile st is n) (shorter : m < file-size (d (at n))) {t : Card}
       (end : Ended size c [] (cut-fat st (at n) (g .live) (g .keeps) m) (truncates-as st (at n) (g .live) (g .keeps) m) t) where
     abbrev mine : List ℕ
     mine = ks st (at n) (g .live) (g .keeps)
@@ -229,7 +229,7 @@ module _ {size : ℕ} {c : Card} (st : Start size c) (is : clean (window size c)
       sound = sound-then st sound cut-spares end (λ r. r) z (λ s less file. cut-owned s less file (same? s (at n)));
     }
 
-  module _ (n b : Span) (g : Named st is n) (room : Room st is (at n) b) (some : b .size ≡ 0 → ⊥) {t : Card}
+  module _ (n b : Span) (g : NamedFile st is n) (room : Enough st is (at n) b) (some : b .size ≡ 0 → ⊥) {t : Card}
       (end : Ended size c (Appends.ds st (at n) (g .live) (g .keeps) b room) (longer-fat st (at n) (g .live) (g .keeps) b room)
       (updates-as st (at n) (g .live) (g .keeps) b room) t) where
     abbrev old : List ℕ
@@ -272,48 +272,48 @@ module _ {size : ℕ} {c : Card} (st : Start size c) (is : clean (window size c)
 
   -- ---- every call
 
-  granted-keeps : (k : Call) (p : Program) → plan k w ≡ granted p → Kept k (left largest k w)
+  granted-keeps : (k : Call) (p : Program) → plan k w ≡ granted p → AllKept k (left largest k w)
   granted-keeps (creates n) p h =
       let g : Created st is n p = create-granted st is n p h in
-      finish-with st is (Kept (creates n)) (creates n) p _ h (g .same)
+      finish-with st is (AllKept (creates n)) (creates n) p _ h (g .same)
       (create-keeps n p g (ended st [] fat (creates-as st n) (create-supplies st n (g .ok) (g .room))))
   granted-keeps (renames n m) p h =
       let g : Renamed st is n m p = rename-granted st is n m p h in
-      finish-with st is (Kept (renames n m)) (renames n m) p _ h (g .same) (rename-keeps n m p g (rename-end st is n m p g))
+      finish-with st is (AllKept (renames n m)) (renames n m) p _ h (g .same) (rename-keeps n m p g (rename-end st is n m p g))
   granted-keeps (deletes n) p h =
       let g : Deleted st is n p = delete-granted st is n p h in
-      finish-with st is (Kept (deletes n)) (deletes n) p _ h (g .same) (delete-keeps n p g (delete-end st is n p g))
+      finish-with st is (AllKept (deletes n)) (deletes n) p _ h (g .same) (delete-keeps n p g (delete-end st is n p g))
   granted-keeps (truncates n m) p h =
       let g : Truncated st is n m p = truncate-granted st is n m p h in
-      let f : Named st is n = g .it in
+      let f : NamedFile st is n = g .it in
       let le : m ≤ file-size (d (at n)) = g .less in
       ⊎-elim
-      (λ a. finish-with st is (Kept (truncates n m)) (truncates n m) p (ending []) h (sym (a .1)) (none-keeps (truncates n m)))
+      (λ a. finish-with st is (AllKept (truncates n m)) (truncates n m) p (ending []) h (sym (a .1)) (none-keeps (truncates n m)))
       (λ a. let some : file-size (d (at n)) - m ≡ 0 → ⊥ = a .0 in
-      finish-with st is (Kept (truncates n m)) (truncates n m) p _ h (a .1)
+      finish-with st is (AllKept (truncates n m)) (truncates n m) p _ h (a .1)
       (cut-keeps n m f (omega arith) (ended st [] _ (truncates-as st (at n) (f .live) (f .keeps) m) (truncate-supplies st (at n) (f .live) (f .keeps) m le))))
       (g .same)
   granted-keeps (appends n b) p h =
       let g : Appended st is n b p = append-granted st is n b p h in
-      let f : Named st is n = g .it in
+      let f : NamedFile st is n = g .it in
       ⊎-elim
-      (λ a. finish-with st is (Kept (appends n b)) (appends n b) p (ending []) h (sym (a .1)) (none-keeps (appends n b)))
-      (λ a. finish-with st is (Kept (appends n b)) (appends n b) p _ h (a .1)
+      (λ a. finish-with st is (AllKept (appends n b)) (appends n b) p (ending []) h (sym (a .1)) (none-keeps (appends n b)))
+      (λ a. finish-with st is (AllKept (appends n b)) (appends n b) p _ h (a .1)
       (append-keeps n b f (g .room) (a .0) (ended st _ _ (updates-as st (at n) (f .live) (f .keeps) b (g .room))
       (append-supplies st (at n) (f .live) (f .keeps) b (g .room)))))
       (g .same)
   granted-keeps recovers p h =
       let e : granted (ending []) ≡ granted p = sym (start-rests st) ∙ h in
       let same : ending [] ≡ p = cc in
-      finish-with st is (Kept recovers) recovers p (ending []) h same (none-keeps recovers)
+      finish-with st is (AllKept recovers) recovers p (ending []) h same (none-keeps recovers)
 
-  call-keeps : (k : Call) (a : Answer Program) → plan k w ≡ a → Kept k (left largest k w)
+  call-keeps : (k : Call) (a : Answer Program) → plan k w ≡ a → AllKept k (left largest k w)
   unfolding left made
   call-keeps k (refused g) h = rw h (none-keeps k)
   call-keeps k (granted p) h = granted-keeps k p h
 
   -- Another name is read as before.
-  read-keeps : (k : Call) (x : Window) → clean x ≡ granted v → Kept k x → (n : Span) (size′ : ℕ) (content : Bytes) → Holds w n size′ content
+  read-keeps : (k : Call) (x : Window) → clean x ≡ granted v → AllKept k x → (n : Span) (size′ : ℕ) (content : Bytes) → Holds w n size′ content
       → (Names v c k (at n) → ⊥) → Holds x n size′ content
   read-keeps k x cleans h n size′ content holds ne =
       let r : Read w v is n size′ content = holds-read w v is n size′ content holds in

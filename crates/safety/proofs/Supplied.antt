@@ -25,7 +25,7 @@ use Rattle.safety.proofs.Start.{Start, shape-of, entries-few}
 use Rattle.safety.proofs.Effect.{resized-lives}
 use Rattle.safety.proofs.Operate.{Supplies}
 use Rattle.safety.proofs.Clusters.{Plain, released-marks, plain-fits, shorten-marks, extend-marks}
-use Rattle.model.proofs.Records.{EntryFits, Fits, entry-record, plain-told}
+use Rattle.model.proofs.Records.{EntryFits, ChangeFits, entry-record, plain-told}
 use Rattle.model.proofs.Pendings.{recorded, record-fine, part-fine, starts-not-zero}
 use Rattle.model.specs.Record.{operation-records, records, record-of, plain}
 use Rattle.safety.proofs.After.{last-slot}
@@ -48,7 +48,7 @@ module _ {size : ℕ} {c : Card} (st : Start size c) where
   pub create-supplies : (n : Span) → name-ok n ≡ true → free-slot l c < l .entries → Supplies c [] fat (creates-as n)
   unfolding records operation-records record-of edits operation-edits new-entry overlay byte-of
   create-supplies n ok room =
-      let fits : Fits (creates-as n) = record {
+      let fits : ChangeFits (creates-as n) = record {
         few = omega arith;
         fields = (
           entry-record _ 1 0 0 0 (omega arith)
@@ -88,7 +88,7 @@ module _ {size : ℕ} {c : Card} (st : Start size c) where
         let other : EntryFits f = record { slot = omega (arith, entries-few st, room); name = name-fits n ok; attributes = own .attributes } in
         let first : k < 256 ^ 2 = first-fits st s live in
         let old : m < 256 ^ 4 = size-fits st s live in
-        let fits : Fits (renames-as n) = record {
+        let fits : ChangeFits (renames-as n) = record {
           few = omega arith;
           fields = (entry-record e 5 k 0 m (omega arith) own first (omega arith) old, (entry-record f 0 k 0 m (omega arith) other first (omega arith) old, tt));
           told = plain-told _;
@@ -114,7 +114,7 @@ module _ {size : ℕ} {c : Card} (st : Start size c) where
       pub delete-supplies : Supplies c [] (release ks fat) deletes-as
       unfolding entry-at records operation-records record-of edits operation-edits overlay byte-of
       delete-supplies =
-          let fits : Fits deletes-as = record {
+          let fits : ChangeFits deletes-as = record {
             few = omega arith;
             fields = (entry-record e 3 _ 0 _ (omega arith) (entry-fits st s live) (first-fits st s live) (omega arith) (size-fits st s live), tt);
             told = plain-told _;
@@ -143,7 +143,7 @@ module _ {size : ℕ} {c : Card} (st : Start size c) where
           let busy : All (λ k. entry fat k ≡ 0 → ⊥) (take m ks) = all-take (λ k. entry fat k ≡ 0 → ⊥) m ks (old-busy st s live whole) in
           let freed : All (Plain l fat) (drop m ks) = all-drop (Plain l fat) m ks (old-plain st s live whole) in
           let from : getD (drop m ks) 0 0 < 65536 = plain-fits l (sh .few) fat (drop m ks) freed 0 in
-          let fits : Fits (truncates-as n) = record {
+          let fits : ChangeFits (truncates-as n) = record {
             few = omega arith;
             fields = (
               entry-record e 4 _ (getD (drop m ks) 0 0) n (omega arith) (entry-fits st s live) (first-fits st s live) (omega arith)
@@ -176,7 +176,7 @@ module _ {size : ℕ} {c : Card} (st : Start size c) where
             let k : ℕ = getD (new st s live whole d room) 0 0 in
             let from : k < 65536 = plain-fits l few fat (new st s live whole d room) (new-plain st s live whole d room) 0 in
             let n : ℕ = total st s live whole d room in
-            let fits : Fits updates-as = record {
+            let fits : ChangeFits updates-as = record {
               few = omega arith;
               fields = (
                 entry-record e 2 (last-cluster ks) k n (omega arith) (entry-fits st s live)

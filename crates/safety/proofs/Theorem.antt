@@ -35,7 +35,7 @@ use Rattle.model.proofs.Volumes.{window, layout-of, volume-of, cleaned, first-f
 use Rattle.safety.proofs.Journal.{prefix-cut, Ends, idle, Goal, every-run}
 use Rattle.safety.proofs.Start.{Start, Table}
 use Rattle.safety.proofs.Before.{Wanted, start-rests}
-use Rattle.safety.proofs.Operate.{Inside}
+use Rattle.safety.proofs.Operate.{OnCard}
 use Rattle.safety.proofs.Clusters.{FreeThen}
 use Rattle.safety.proofs.Files.{chain-kept}
 use Rattle.safety.proofs.Fair.{Fair}
@@ -169,7 +169,7 @@ module _ (k : Call) (w : Window) (v : Volume) (real : Genuine w) (is : clean w �
         ap (λ x. free (fat1-of l x) j) most-finishes ∙ fair .frees j less
         ∙ (λ t. FreeThen (first-fat c) (if-granted (e t) (taken-by (volume-of c Pending.Nothing) c k))
         (if-granted (e t) (released-by (volume-of c Pending.Nothing) c k)) j);
-    within = mem-all (Inside c) (stores q) (fair .inside);
+    within = mem-all (OnCard c) (stores q) (fair .inside);
   })
 
 -- On a card that holds stores back.

@@ -29,9 +29,9 @@ Mounts xs (Unfit g) = Unit {0}
 Mounts xs (Fit l) = Held l xs
 
 -- The window holds a card of the volume's layout, and its log lies there.
-abbrev pub Keeps : List ℕ → Examined → Type 0
-Keeps xs (Refused g) = Unit {0}
-Keeps xs (Granted v) = Held (v .layout) xs × Lies (v .layout) (v .log)
+abbrev pub Carries : List ℕ → Examined → Type 0
+Carries xs (Refused g) = Unit {0}
+Carries xs (Granted v) = Held (v .layout) xs × Lies (v .layout) (v .log)
 
 -- Grounds 4 to 6, on a card whose layout is known.
 unfoldable pub examine-on : Card → Layout → Answer Volume

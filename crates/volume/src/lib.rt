@@ -12,7 +12,7 @@ ghost use Rattle.model.specs.Pending.{pending, is-broken, is-held};
 ghost use Rattle.model.specs.Volume.{mount, inspect, examine, settled, clean};
 ghost use Rattle.model.specs.Promises.{Held};
 ghost use Rattle.fat_read.specs.Located.{Lies};
-ghost use Rattle.volume.specs.Examined.{mounted-of, examined-of, Mounts, Keeps, examine-on};
+ghost use Rattle.volume.specs.Examined.{mounted-of, examined-of, Mounts, Carries, examine-on};
 
 // A layout, or the ground on which there is none.
 pub enum Mounted {
@@ -68,7 +68,7 @@ fn is_held(p: Pending) -> bool
 // Grounds 5 and 6. The log is read first, since what is pending may tell how the root is to be read.
 fn inspect(w: &[u8], l: Layout, a: Area) -> Examined
     requires { ⌜ Held l (now w) × Lies l a ⌝ }
-    ensures { λ r. ⌜ (examined-of r ≡ inspect (card-of (now (w .entry))) l a (pending l a (card-of (now (w .entry))))) × Keeps (now (w .entry)) r ⌝ }
+    ensures { λ r. ⌜ (examined-of r ≡ inspect (card-of (now (w .entry))) l a (pending l a (card-of (now (w .entry))))) × Carries (now (w .entry)) r ⌝ }
 {
     let place = log_scan::place_in(w, l, a);
     let z = root_read::end_slot(w, l);
@@ -89,7 +89,7 @@ fn inspect(w: &[u8], l: Layout, a: Area) -> Examined
 // Grounds 4 to 6.
 fn examine_log(w: &[u8], l: Layout) -> Examined
     requires { ⌜ Held l (now w) ⌝ }
-    ensures { λ r. ⌜ (examined-of r ≡ examine-on (card-of (now (w .entry))) l) × Keeps (now (w .entry)) r ⌝ }
+    ensures { λ r. ⌜ (examined-of r ≡ examine-on (card-of (now (w .entry))) l) × Carries (now (w .entry)) r ⌝ }
 {
     let log = fat_read::locate(w, l);
     match log {
@@ -100,7 +100,7 @@ fn examine_log(w: &[u8], l: Layout) -> Examined
 
 // Grounds 1 to 6.
 pub fn examine(w: &[u8]) -> Examined
-    ensures { λ r. ⌜ (examined-of r ≡ examine (window-of (now (w .entry)))) × Keeps (now (w .entry)) r ⌝ }
+    ensures { λ r. ⌜ (examined-of r ≡ examine (window-of (now (w .entry)))) × Carries (now (w .entry)) r ⌝ }
 {
     let m = mount(w);
     match m {
@@ -112,7 +112,7 @@ pub fn examine(w: &[u8]) -> Examined
 // Ground 7.
 fn settle(w: &[u8], v: Volume) -> Examined
     requires { ⌜ Held (v .layout) (now w) × Lies (v .layout) (v .log) ⌝ }
-    ensures { λ r. ⌜ (examined-of r ≡ settled (card-of (now (w .entry))) v) × Keeps (now (w .entry)) r ⌝ }
+    ensures { λ r. ⌜ (examined-of r ≡ settled (card-of (now (w .entry))) v) × Carries (now (w .entry)) r ⌝ }
 {
     let p = v.pending;
     if is_held(p) {
@@ -127,7 +127,7 @@ fn settle(w: &[u8], v: Volume) -> Examined
 
 // Grounds 1 to 7.
 pub fn clean(w: &[u8]) -> Examined
-    ensures { λ r. ⌜ (examined-of r ≡ clean (window-of (now (w .entry)))) × Keeps (now (w .entry)) r ⌝ }
+    ensures { λ r. ⌜ (examined-of r ≡ clean (window-of (now (w .entry)))) × Carries (now (w .entry)) r ⌝ }
 {
     let e = examine(w);
     match e {
