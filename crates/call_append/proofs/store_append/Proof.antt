@@ -33,17 +33,19 @@ log-steps-requires c κs =
 
 joined-requires : tie.Need-joined-requires
 joined-requires c κs =
-    let b = c .before .before .before .before .before .before .before .before .before .before .before .before .before .before .before .before .before .before .before in
-    let s = c .before .before .before .before .before .before .before .before .before .before .before .before .store-chain in
+    let chain = c .before .before .before .before .before .before .before .before .before .before .before .before in
+    let b = chain .before .before .before .before .before .before .before in
+    let s = chain .store-chain in
     omega (arith, b .fits, c .before .before .log-steps .ensures .stores, s .ensures .stores)
 
 returns-2 : tie.Need-returns-2
 returns-2 c =
-    let b = c .before .before .before .before .before .before .before .before .before .before .before .before .before .before .before .before .before .before .before .before in
+    let chain = c .before .before .before .before .before .before .before .before .before .before .before .before .before in
+    let b = chain .before .before .before .before .before .before .before in
     let a = b .args in
     let p = b .pre in
-    let n = c .before .before .before .before .before .before .before .before .before .before .before .before .before .before .before .first-new in
-    let s = c .before .before .before .before .before .before .before .before .before .before .before .before .before .store-chain in
+    let n = chain .before .before .first-new in
+    let s = chain .store-chain in
     let if1 = c .before .before .before .before .before .before .before .before .before .if1 in
     let plain = c .before .before .before .before .before .plain in
     let q = c .before .before .before .log-steps in

@@ -32,9 +32,10 @@ store-and-redo-requires c κs =
 returns-2 : tie.Need-returns-2
 unfolding new-group
 returns-2 c =
-    let a = c .before .before .before .before .before .before .before .before .before .before .before .before .before .before .before .before .before .before .args in
-    let group-sector = c .before .before .before .before .before .before .before .before .before .before .before .before .before .group-sector in
-    let clear-log = c .before .before .before .before .before .before .before .before .before .before .before .clear-log in
+    let clear = c .before .before .before .before .before .before .before .before .before .before .before in
+    let a = clear .before .before .before .before .before .before .before .args in
+    let group-sector = clear .before .before .group-sector in
+    let clear-log = clear .clear-log in
     let if1 = c .before .before .before .before .before .before .before .if1 in
     let records-of = c .before .before .before .before .before .before .records-of in
     let store-and-redo = c .before .before .before .store-and-redo in

@@ -23,7 +23,9 @@ returns-2 c =
     let store-sector = c .before .before .store-sector in
     let place = c .before .before .before .before .root-place in
     let after = c .before .before .before .before .before .before .sector-after in
-    let is = sym (c .before .before .before .before .before .before .before .before .before .concerns .ensures) ∙ not-false _ (c .before .before .before .before .before .before .before .before .if1 .left) in
+    let if1 = c .before .before .before .before .before .before .before .before .if1 in
+    let concerned = c .before .before .before .before .before .before .before .before .before .concerns in
+    let is = sym (concerned .ensures) ∙ not-false _ (if1 .left) in
     let a = c .before .before .before .before .before .before .before .before .before .before .before .args in
     rw (
       is,
