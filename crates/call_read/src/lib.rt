@@ -22,11 +22,7 @@ fn copy_slot(out: &mut [u8], at: usize, w: &[u8], l: Layout, k: u32)
     ensures { λ _. ⌜ ((i : ℕ) → getD (now (out .exit)) i 0 ≡ overlay 32 (slot-at l (card-of (now (w .entry))) k) at (bytes-of (now (out .entry))) i) ⌝ }
 {
     let from = 512 * sector::index(root_read::root_place(l, k / 16)) + 32 * sector::index(k % 16);
-    let mut j = 0;
-    while j < 32 {
-        out[at + j] = w[from + j];
-        j += 1;
-    }
+    sector::copy(out, at, w, from, 32);
 }
 
 // Slot k after the n that are listed before it, if it is listed and fits; and how many are listed now.

@@ -11,7 +11,7 @@ use lib.Dec.{eqb, ltb}
 use native.Mathlib.Nat.{zero-div}
 use borrow.Author.Tests.{ne-eqb, eq-eqb, eqb-true, ltb-true}
 use Rattle.model.specs.Bytes.{Bytes, pick}
-use Rattle.model.specs.Scan.{any, all-from, walk}
+use Rattle.model.specs.Scan.{any, all-from, walk, among}
 use Rattle.model.specs.Sector.{Card}
 use Rattle.model.specs.Fat.{Fat, entry, fat1-of, set-entry, end-value, link, release}
 use Rattle.model.specs.Chain.{chain}
@@ -24,7 +24,7 @@ use Rattle.model.proofs.Chains.{chain-same}
 use Rattle.model.proofs.Entries.{release-byte, release-local}
 use Rattle.fat_copy.specs.Change.{lead, sectors-of}
 use Rattle.fat_copy.proofs.Laws.{own-sector, own-entry, lead-local}
-use Rattle.fat_release.specs.Release.{cut, cleared, bit-of, mark-of, among, Inside, Marked}
+use Rattle.fat_release.specs.Release.{cut, cleared, bit-of, mark-of, Inside, Marked}
 
 -- ---- marks
 

@@ -1,12 +1,11 @@
 -- The FAT in which the end of a chain is freed, and the marks of freed clusters by which it is made.
 use Prim.Native.Nat.{ℕ, _+_, _*_, _/_, _%_, _^_, _<_}
 use mathlib.Core.Path.{_≡_}
-use mathlib.Core.Bool.{Bool}
-use mathlib.Core.List.{List, [], _∷_, map}
+use mathlib.Core.List.{List, [], _∷_}
 use lib.Dec.{eqb}
 use lib.ListN.{getD}
 use Rattle.model.specs.Bytes.{pick}
-use Rattle.model.specs.Scan.{any}
+use Rattle.model.specs.Scan.{among}
 use Rattle.model.specs.Fat.{Fat, entry, link, release}
 use Rattle.model.specs.Chain.{chain}
 use Rattle.model.specs.declared.Layout.{Layout}
@@ -19,10 +18,6 @@ cut t kept first m = pick (eqb m 0) t (release (chain (entry t) m first) (link (
 abbrev pub Inside : Layout → List ℕ → Type 0
 Inside l [] = Unit {0}
 Inside l (k ∷ ks) = (k < l .clusters + 2) × Inside l ks
-
--- Whether a cluster is one of a list.
-abbrev pub among : List ℕ → ℕ → Bool
-among ks k = any (map (eqb k) ks)
 
 -- Bit i of a byte, and mark i: bit i % 8 of byte i / 8.
 unfoldable pub bit-of : ℕ → ℕ → ℕ

@@ -1,10 +1,10 @@
 -- The bytes of one appended sector: old ones, new ones, zeros.
-use Prim.Native.Nat.{ℕ, zero, suc, _+_, _-_, _*_, _<_, _≤_, min}
+use Prim.Native.Nat.{ℕ, _+_, _-_, _*_, _<_, _≤_, min}
 use native.Mathlib.Omega.{arith}
-use mathlib.Core.Path.{_≡_, refl, sym, ap, _∙_, subst}
+use mathlib.Core.Path.{_≡_, sym, ap, _∙_, subst}
 use mathlib.Core.Logic.{⊎-elim}
 use mathlib.Core.List.{List}
-use lib.ListN.{getD, length, replicate, take, drop}
+use lib.ListN.{getD, length, take, drop}
 use lib.Seq.{getD-take, getD-drop}
 use Rattle.model.specs.Bytes.{Bytes, overlay, part, zeros, view, bytes-of}
 use Rattle.model.specs.Sector.{card-of, clip}
@@ -15,11 +15,6 @@ use Rattle.model.proofs.Sectors.{byte-in}
 use Rattle.model.proofs.Cards.{clip-same}
 use Rattle.operations.specs.Plan.{appended}
 use Rattle.operations.proofs.Appends.{appended-old, appended-new, appended-zero}
-
-pub blank : (n i : ℕ) → _≡_ {A = ℕ} (getD (replicate n 0) i 0) 0
-blank zero i = refl
-blank (suc n) zero = refl
-blank (suc n) (suc i) = blank n i
 
 -- Two copies into a buffer of zeros.
 pub laid : (w d z x y : List ℕ) (s a r from n : ℕ) → r ≡ 512 * s → a ≤ 512 → ((i : ℕ) → getD z i 0 ≡ 0)

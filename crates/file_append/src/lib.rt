@@ -63,8 +63,8 @@ fn lay(w: &[u8], s: u32, a: usize, new: &[u8], from: usize, n: usize) -> [u8; 51
         ((i : ℕ) → i < 512 → getD r i 0 ≡ overlay n (part (bytes-of (now (new .entry))) from) a (overlay a (card-of (now (w .entry)) s) 0 zeros) i) ⌝ }
 {
     let mut buf = [0u8; 512];
-    file_read::copy(&mut buf, 0, w, 512 * sector::index(s), a);
-    file_read::copy(&mut buf, a, new, from, n);
+    sector::copy(&mut buf, 0, w, 512 * sector::index(s), a);
+    sector::copy(&mut buf, a, new, from, n);
     buf
 }
 

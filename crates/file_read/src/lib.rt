@@ -2,9 +2,8 @@
 use model::File;
 use model::Layout;
 ghost use mathlib.Core.Path.{_≡_};
-ghost use Prim.Native.Nat.{ℕ, _+_, _-_, _*_, _%_, _≤_, _<_, min};
-ghost use lib.ListN.{length, getD};
-ghost use Rattle.model.specs.Bytes.{bytes-of, overlay, part};
+ghost use Prim.Native.Nat.{_+_, _-_, _*_, _%_, _≤_, _<_, min};
+ghost use lib.ListN.{length};
 ghost use Rattle.model.specs.Sector.{card-of};
 ghost use Rattle.model.specs.Fat.{fat1-of, entry};
 ghost use Rattle.model.specs.Chain.{cluster-sector};
@@ -22,18 +21,6 @@ fn least(room: usize, n: u32) -> u32
         return room as u32;
     }
     n
-}
-
-// n bytes of one slice, from a place on, into another at a place.
-pub fn copy(out: &mut [u8], at: usize, src: &[u8], from: usize, n: usize)
-    requires { ⌜ (at + n ≤ length (now out)) × (from + n ≤ length (now src)) ⌝ }
-    ensures { λ _. ⌜ ((i : ℕ) → getD (now (out .exit)) i 0 ≡ overlay n (part (bytes-of (now (src .entry))) from) at (bytes-of (now (out .entry))) i) ⌝ }
-{
-    let mut j = 0;
-    while j < n {
-        out[at + j] = src[from + j];
-        j += 1;
-    }
 }
 
 // The cluster n links after k. Every entry that a link can name lies in the window.
@@ -84,7 +71,7 @@ fn read_sectors(
     ensures { λ r. ⌜ Read (bytes-from (card-of (now (w .entry))) s) (512 * m) from done count (now (buffer .entry)) (now (buffer .exit)) r ⌝ }
 {
     let n = least(sector::index(512 * m - from), count - done);
-    copy(
+    sector::copy(
         buffer,
         sector::index(done),
         w,

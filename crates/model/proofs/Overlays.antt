@@ -65,3 +65,6 @@ over-first n p b i = ⊎-elim inside past (less? i n)
     past h =
         let lo : 0 + n ≤ i = omega arith in
         rw (le-ltb i n h) (overlay-above p 0 b n i lo)
+
+pub overlay-front : (n : ℕ) (p b : Bytes) (i : ℕ) → i < n → overlay n p 0 b i ≡ p i
+overlay-front n p b i h = over-first n p b i ∙ rw (lt-ltb i n h)

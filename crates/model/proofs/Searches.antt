@@ -6,24 +6,11 @@ use mathlib.Core.Path.{_≡_, refl, sym, ap, _∙_}
 use mathlib.Core.List.{_∷_}
 use lib.ListN.{length}
 use mathlib.Core.Logic.{⊎-elim}
-use mathlib.Core.Bool.{Bool, true, false, not}
-use lib.Dec.{eqb}
-use borrow.Author.Tests.{ne-eqb}
+use mathlib.Core.Bool.{Bool, true, false}
 use Rattle.model.specs.Bytes.{pick}
-use Rattle.model.specs.Scan.{walk, first-from, all-from, count-from, indices-from}
+use Rattle.model.specs.Scan.{walk, first-from, count-from, indices-from}
 use Rattle.model.proofs.Tests.{told, less?, same?}
 use Rattle.model.proofs.Scan.{Sofar, first-before, first-le, first-ge, count-step}
-
--- All hold where none that fails is counted.
-pub count-fails : (p : ℕ → Bool) (i n : ℕ) → eqb (count-from (λ k. not (p k)) i n) 0 ≡ all-from p i n
-unfolding count-from all-from walk
-count-fails p i zero = refl
-count-fails p i (suc n) = go (p i) (count-fails p (i + 1) n)
-  where
-    go : (b : Bool) → eqb (count-from (λ k. not (p k)) (i + 1) n) 0 ≡ all-from p (i + 1) n
-        → eqb (pick (not b) (suc (count-from (λ k. not (p k)) (i + 1) n)) (count-from (λ k. not (p k)) (i + 1) n)) 0 ≡ pick b (all-from p (i + 1) n) false
-    go true h = h
-    go false h = ne-eqb (suc (count-from (λ k. not (p k)) (i + 1) n)) 0 (λ e. omega arith)
 
 -- A count, one number further: k.
 module _ (p : ℕ → Bool) (i n m k : ℕ) (so : m ≡ count-from p i n) (at : k ≡ i + n) where

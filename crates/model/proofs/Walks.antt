@@ -1,7 +1,7 @@
 -- Laws of chains: how they go on, that their clusters are in range and distinct, and so no more than the card has.
 use Prim.Native.Nat.{ℕ, zero, suc, _+_, _-_, _≤_, _<_}
 use native.Mathlib.Omega.{arith}
-use mathlib.Core.Path.{_≡_, refl, sym, ap, _∙_}
+use mathlib.Core.Path.{_≡_, refl, ap}
 use mathlib.Core.Bool.{Bool, true, false}
 use lib.ListN.{length, getD, drop}
 use Rattle.model.specs.Bytes.{pick}
@@ -62,9 +62,6 @@ module _ (l : Layout) (e : ℕ → ℕ) where
   ends-inside zero k h = clash h refl
   ends-inside (suc zero) k h = both (in-range l k) (is-end (e k)) h .0
   ends-inside (suc (suc n)) k h = both (in-range l k) (ends-after l e (suc n) (e k)) h .0
-
-  pub ends-next : (n k : ℕ) → 1 < n → ends-after l e n k ≡ true → ends-after l e (n - 1) (e k) ≡ true
-  ends-next n k h t = both (in-range l k) (ends-after l e (n - 1) (e k)) (sym (ends-step n k h) ∙ t) .1
 
   pub ends-rest : (n k : ℕ) → ends-after l e (suc (suc n)) k ≡ true → ends-after l e (suc n) (e k) ≡ true
   unfolding ends-after

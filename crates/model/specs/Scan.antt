@@ -1,8 +1,8 @@
 -- Tests, and scans over the numbers from a start on. Every scan of the card is one of these.
 use Prim.Native.Nat.{ℕ, zero, suc, _+_}
-use mathlib.Core.List.{List, [], _∷_}
+use mathlib.Core.List.{List, [], _∷_, map}
 use mathlib.Core.Bool.{Bool, true, false, _&&_, _||_}
-use lib.Dec.{leb}
+use lib.Dec.{leb, eqb}
 use Rattle.model.specs.Bytes.{pick}
 
 -- All of a list of tests hold.
@@ -55,3 +55,7 @@ all-from p i n = walk (λ j r. r) (λ j r. false) (λ j. true) p i n
 
 abbrev pub all : (ℕ → Bool) → ℕ → Bool
 all p n = all-from p 0 n
+
+-- Whether a number is one of a list.
+abbrev pub among : List ℕ → ℕ → Bool
+among ks k = any (map (eqb k) ks)

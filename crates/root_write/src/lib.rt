@@ -20,11 +20,7 @@ fn load_slot(w: &[u8], l: Layout, k: u32) -> [u8; 32]
 {
     let a = 512 * sector::index(root_read::root_place(l, k / 16)) + 32 * sector::index(k % 16);
     let mut b = [0u8; 32];
-    let mut j = 0;
-    while j < 32 {
-        b[j] = w[a + j];
-        j += 1;
-    }
+    sector::copy(&mut b, 0, w, a, 32);
     b
 }
 

@@ -2,7 +2,6 @@
 use Prim.Native.Nat.{ℕ, _+_, _-_, _<_, _≤_, min}
 use native.Mathlib.Omega.{arith}
 use mathlib.Core.Path.{_≡_, refl, sym, ap, _∙_}
-use mathlib.Core.Logic.{⊎-elim}
 use mathlib.Core.Bool.{true, false, not}
 use lib.Dec.{ltb}
 use borrow.Author.Tests.{lt-ltb, le-ltb, ltb-true, not-false}
@@ -20,8 +19,8 @@ use Rattle.operations.specs.Calls.{file-in, file-of, whole, slot-of, named-file
 use Rattle.operations.specs.Reading.{read, reading, file-byte, filled-outcome, buffer-after}
 use Rattle.safety.specs.Sound.{proper}
 use Rattle.safety.specs.Saved.{Holds, Gone, ReadHolds}
-use Rattle.model.proofs.Tests.{less?}
-use Rattle.model.proofs.Overlays.{overlay-in, overlay-above}
+use Rattle.model.proofs.Laying.{overlay-same}
+use Rattle.model.proofs.Overlays.{overlay-in}
 use Rattle.model.proofs.Grounds.{then, ends, passed, stopped, asked, bound}
 
 -- A name means slot s, and the file in it keeps the chain rule.
@@ -31,12 +30,6 @@ pub record Meant (v : Volume) (x : Card) (n : Span) (s : ℕ) : Type 0 where
   pub in-root : s < v .layout .entries
   pub plain : is-directory (slot-at (v .layout) x s) ≡ false
   pub keeps : proper (v .layout) x s ≡ true
-
--- Bytes laid over others depend on those alone that are laid.
-pub overlay-same : (k : ℕ) (p q b : Bytes) (i : ℕ) → ((j : ℕ) → j < k → p j ≡ q j) → overlay k p 0 b i ≡ overlay k q 0 b i
-overlay-same k p q b i h = ⊎-elim
-    (λ less. overlay-in p 0 b k i (omega arith) (omega arith) ∙ h (i - 0) (omega arith) ∙ sym (overlay-in q 0 b k i (omega arith) (omega arith)))
-    (λ more. overlay-above p 0 b k i (omega arith) ∙ sym (overlay-above q 0 b k i (omega arith))) (less? i k)
 
 module _ (w : Window) (v : Volume) (is : clean w ≡ granted v) where
   abbrev x : Card
@@ -70,8 +63,8 @@ module _ (w : Window) (v : Volume) (is : clean w ≡ granted v) where
     bytes = λ offset room b i.
         (λ t. buffer-after (read-granted n s h offset room t) b i)
         ∙ (λ t. overlay (min room (sized t - offset)) (λ j. file-byte l x (file-at l x s) (offset + j)) 0 b i)
-        ∙ overlay-same (min room (size - offset)) (λ j. file-byte l x (file-at l x s) (offset + j)) (λ j. content (offset + j)) b i
-        (λ j less. same (offset + j) (omega arith));
+        ∙ overlay-same (min room (size - offset)) (λ j. file-byte l x (file-at l x s) (offset + j)) (λ j. content (offset + j)) 0 b
+        (λ j less. same (offset + j) (omega arith)) i;
   }
 
   -- A name that no slot bears.

@@ -30,6 +30,7 @@ use Rattle.safety.specs.Sound.{Sound, chain-of, proper}
 use Rattle.safety.specs.Cuts.{recovery}
 use Rattle.safety.specs.Demand3.{SameFiles}
 use Rattle.safety.specs.Restored.{ReadsAs}
+use Rattle.model.proofs.Laying.{overlay-same}
 use Rattle.model.proofs.Tests.{clash, less?}
 use Rattle.model.proofs.Scan.{first-same}
 use Rattle.model.proofs.Fats.{agree-of, entry-same}
@@ -40,7 +41,7 @@ use Rattle.safety.proofs.Journal.{idle}
 use Rattle.safety.proofs.Start.{Start, Table, shape-of, fats-same, marks-same, slots-same, root-kept}
 use Rattle.safety.proofs.Files.{chain-kept}
 use Rattle.safety.proofs.Granted.{file-at-name}
-use Rattle.safety.proofs.Readings.{opened, found-in, found-file, overlay-same}
+use Rattle.safety.proofs.Readings.{opened, found-in, found-file}
 use Rattle.model.specs.declared.Pending.the-variants as Pending
 use Rattle.model.specs.declared.Ground.the-variants as Ground
 
@@ -93,8 +94,9 @@ counts l y c f offset room = refl
 lays : (l : Layout) (y c : Card) (f : File) (offset room : ℕ) (b : Bytes) (i : ℕ) → ((i : ℕ) → i < f .size → file-byte l y f i ≡ file-byte l c f i)
     → buffer-after (granted (reading l y f offset room)) b i ≡ buffer-after (granted (reading l c f offset room)) b i
 unfolding buffer-after reading
-lays l y c f offset room b i h = overlay-same (min room (f .size - offset)) (λ j. file-byte l y f (offset + j)) (λ j. file-byte l c f (offset + j)) b
-    i (λ j less. h (offset + j) (omega arith))
+lays l y c f offset room b i h =
+    overlay-same (min room (f .size - offset)) (λ j. file-byte l y f (offset + j)) (λ j. file-byte l c f (offset + j)) 0 b
+    (λ j less. h (offset + j) (omega arith)) i
 
 -- ---- the card
 

@@ -1,11 +1,10 @@
 -- What else is promised of every call on a clean card, and of every recovery.
 use Prim.Native.Nat.{ℕ, _+_, _<_}
 use mathlib.Core.Path.{_≡_}
-use mathlib.Core.List.{List, [], map, List·Memᴰ}
-use mathlib.Core.Bool.{Bool, _&&_, _||_, not}
-use lib.Dec.{eqb}
+use mathlib.Core.List.{[], List·Memᴰ}
+use mathlib.Core.Bool.{_&&_, _||_, not}
 use lib.ListN.{length}
-use Rattle.model.specs.Scan.{any}
+use Rattle.model.specs.Scan.{among}
 use Rattle.model.specs.Sector.{Window, Store}
 use Rattle.model.specs.Boot.{layout}
 use Rattle.model.specs.Fat.{is-free, entry, fat1-of}
@@ -18,10 +17,6 @@ use Rattle.operations.specs.Calls.{Call, plan, released-by, taken-by, recovers}
 use Rattle.operations.specs.Outcome.{outcome, largest, left}
 use Rattle.safety.specs.Cuts.{program-of}
 use Rattle.safety.specs.Demand3.{finished, Genuine}
-
--- A list has a number.
-abbrev pub among : List ℕ → ℕ → Bool
-among ks j = any (map (eqb j) ks)
 
 -- A call on the clean window w, whose volume is v.
 pub record AfterCall (k : Call) (w : Window) (v : Volume) : Type 0 where

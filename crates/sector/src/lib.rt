@@ -1,13 +1,13 @@
-// Bytes and numbers of a card's sectors.
+// Bytes and numbers of a card's sectors; whole sectors compared, loaded, and stored as far as a limit allows.
 use model::Progress;
 ghost use mathlib.Core.Path.{_≡_};
-ghost use Prim.Native.Nat.{_+_, _*_, _≤_, _<_};
-ghost use lib.ListN.{length};
+ghost use Prim.Native.Nat.{ℕ, _+_, _*_, _≤_, _<_};
+ghost use lib.ListN.{length, getD};
 ghost use Rattle.model.specs.Sector.{card-of, clip, store};
 ghost use Rattle.model.specs.Promises.{Number, Ran};
 ghost use mathlib.Core.Bool.{not};
 ghost use mathlib.Core.List.{[], _∷_};
-ghost use Rattle.model.specs.Bytes.{bytes-of};
+ghost use Rattle.model.specs.Bytes.{bytes-of, overlay, part};
 ghost use Rattle.model.specs.Fat.{same};
 
 pub fn index(x: u32) -> usize
@@ -69,6 +69,18 @@ pub fn le64(w: &[u8], s: u32, j: u32) -> u64
     wider(le32(w, s, j)) + 4294967296 * wider(le32(w, s, j + 4))
 }
 
+// n bytes of one slice, from a place on, into another at a place.
+pub fn copy(out: &mut [u8], at: usize, src: &[u8], from: usize, n: usize)
+    requires { ⌜ (at + n ≤ length (now out)) × (from + n ≤ length (now src)) ⌝ }
+    ensures { λ _. ⌜ ((i : ℕ) → getD (now (out .exit)) i 0 ≡ overlay n (part (bytes-of (now (src .entry))) from) at (bytes-of (now (out .entry))) i) ⌝ }
+{
+    let mut j = 0;
+    while j < n {
+        out[at + j] = src[from + j];
+        j += 1;
+    }
+}
+
 // Whether two sectors hold different bytes. The loop has no way out but its end, and keeps one truth: so the compiler compares
 // sixteen bytes at once.
 pub fn differs(w: &[u8], s: u32, t: u32) -> bool
@@ -108,11 +120,7 @@ pub fn load(w: &[u8], s: u32) -> [u8; 512]
 {
     let from = 512 * index(s);
     let mut buf = [0u8; 512];
-    let mut i = 0;
-    while i < 512 {
-        buf[i] = w[from + i];
-        i += 1;
-    }
+    copy(&mut buf, 0, w, from, 512);
     buf
 }
 
@@ -127,11 +135,7 @@ pub fn overwrite(part: &mut [u8], bytes: &[u8], limit: u32) -> Progress
             whole: false,
         };
     }
-    let mut j = 0;
-    while j < 512 {
-        part[j] = bytes[j];
-        j += 1;
-    }
+    copy(part, 0, bytes, 0, 512);
     Progress {
         made: 1,
         whole: true,

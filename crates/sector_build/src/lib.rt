@@ -58,11 +58,6 @@ pub fn lay(buf: [u8; 512], k: usize, b: [u8; 32]) -> [u8; 512]
     ensures { λ r. ⌜ bytes-of r ≡ overlay 32 (bytes-of b) (32 * k) (bytes-of buf) ⌝ }
 {
     let mut out = buf;
-    let at = 32 * k;
-    let mut j = 0;
-    while j < 32 {
-        out[at + j] = b[j];
-        j += 1;
-    }
+    sector::copy(&mut out, 32 * k, &b, 0, 32);
     out
 }

@@ -6,7 +6,7 @@ use Rattle.file_read.proofs.read_sectors.Statement.{statement}
 use Rattle.file_read.proofs.read_sectors.Tie as tie
 use Rattle.file_read.proofs.read_sectors.Reads as reads
 use Rattle.file_read.proofs.read_sectors.Lts as lts
-use Rattle.file_read.proofs.copy.Reads as copy-reads
+use Rattle.sector.proofs.copy.Reads as copy-reads
 use Rattle.file_read.proofs.least.Reads as least-reads
 use Rattle.sector.proofs.index.Reads as index-reads
 

@@ -1,12 +1,11 @@
-use mathlib.Core.Path.{_≡_, ap, _∙_}
+use mathlib.Core.Path.{ap, _∙_}
 use mathlib.Core.List.{[]}
-use Prim.Native.Nat.{ℕ, _-_, _<_, _≤_}
+use Prim.Native.Nat.{_-_}
+use native.Mathlib.Nat.{zero-add}
 use native.Mathlib.Omega.{arith}
-use lib.ListN.{length, getD}
 use Rattle.model.specs.Bytes.{bytes-of}
 use Rattle.model.specs.Sector.{card-of, put, store}
 use Rattle.model.proofs.Cards.{store-same}
-use Rattle.model.proofs.Lists.{copied-more}
 use Rattle.model.proofs.Runs.{ran-one, ran-zero}
 use Rattle.sector.proofs.Stored.{lent-put}
 use borrow.Author.Needs.{needs}
@@ -14,36 +13,24 @@ use Rattle.sector.proofs.overwrite.Statement.{statement}
 use Rattle.sector.proofs.overwrite.Tie as tie
 use Rattle.sector.proofs.overwrite.Reads as reads
 use Rattle.sector.proofs.overwrite.Lts as lts
+use Rattle.model.proofs.Overlays.{overlay-front}
+use Rattle.model.specs.Bytes.{part}
+use Rattle.sector.proofs.copy.Reads as copy-reads
 
-abbrev Inv-loop : tie.InvT-loop
-Inv-loop part₀ bytes limit j₀ part j = (j ≤ 512) × (length part ≡ 512) × ((m : ℕ) → m < j → getD part m 0 ≡ getD bytes m 0)
-
-abbrev μ-loop : tie.MeasureT-loop
-μ-loop part₀ bytes limit j₀ part j = 512 - j
-
-returns : tie.Need-returns Inv-loop μ-loop
-returns c = rw (c .if1 .taken) (ran-zero (store 0 (bytes-of (c .before .args .bytes .now))) [] (c .before .args .part .now))
-
-loop-again : tie.Need-loop-again Inv-loop μ-loop
-loop-again c =
-    let turn = c .before .before .loop in
-    let a = c .before .before .before .before .args in (
-      search needs,
-      search needs,
-      copied-more (λ m. getD (a .bytes .now) m 0) (turn .part) (turn .j) (omega arith)
-          (turn .inv .2),
-    )
-
-returns-2 : tie.Need-returns-2 Inv-loop μ-loop
-returns-2 c =
+returns : tie.Need-returns
+returns c =
     let a = c .before .before .before .args in
-    ran-one (store 0 (bytes-of (a .bytes .now))) (a .part .now) (c .before .loop .part) (a .limit) (omega arith)
-    (lent-put (a .part .now) (c .before .loop .part) (omega arith) (omega arith)
+    rw (c .if1 .taken) (ran-zero (store 0 (bytes-of (a .bytes .now))) [] (a .part .now))
+
+returns-2 : tie.Need-returns-2
+returns-2 c =
+    let a = c .before .before .before .before .before .before .before .args in
+    let copy = c .before .before .copy in
+    ran-one (store 0 (bytes-of (a .bytes .now))) (a .part .now) (copy .last .0) (a .limit) (omega arith)
+    (lent-put (a .part .now) (copy .last .0) (omega arith) (omega arith)
     ∙ ap (put (card-of (a .part .now)))
-    (store-same 0 (bytes-of (c .before .loop .part)) (bytes-of (a .bytes .now)) (λ j h. c .before .loop .inv .2 j (omega arith))))
+    (store-same 0 (bytes-of (copy .last .0)) (bytes-of (a .bytes .now))
+    (λ j h. copy .ensures j ∙ overlay-front 512 (part (bytes-of (a .bytes .now)) 0) _ j h ∙ ap (bytes-of (a .bytes .now)) (zero-add j))))
 
 pub overwrite-spec : {M : Type 1} → statement M
-overwrite-spec =
-    tie.close
-    (tie.spec Inv-loop μ-loop returns (λ c. search needs) (λ c. search needs) (λ c. search needs) (λ c. search needs) (λ c. search needs)
-    loop-again (λ c. search needs) returns-2)
+overwrite-spec = tie.close (tie.spec returns (λ c κs. search needs) (λ c. search needs) returns-2)

@@ -5,10 +5,10 @@ use lib.ListN.{length, getD}
 use Rattle.model.specs.Bytes.{bytes-of, overlay, part}
 use Rattle.model.proofs.Overlays.{overlay-none, overlay-more}
 use borrow.Author.Needs.{needs}
-use Rattle.file_read.proofs.copy.Statement.{statement}
-use Rattle.file_read.proofs.copy.Tie as tie
-use Rattle.file_read.proofs.copy.Reads as reads
-use Rattle.file_read.proofs.copy.Lts as lts
+use Rattle.sector.proofs.copy.Statement.{statement}
+use Rattle.sector.proofs.copy.Tie as tie
+use Rattle.sector.proofs.copy.Reads as reads
+use Rattle.sector.proofs.copy.Lts as lts
 
 abbrev Inv-loop : tie.InvT-loop
 Inv-loop out₀ at src from n j₀ out j = (j ≤ n) × (length out ≡ length out₀)
