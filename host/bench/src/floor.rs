@@ -40,7 +40,7 @@ fn copies() {
     println!("## Bytes moved\n");
     println!(
         "Append and read of 1 MiB in one piece, against one memcpy of the same bytes to or from the same place of the card. In\n\
-         microseconds: library / memcpy = ratio. With 64 sectors per cluster append is to be at most 2, read at most 1.4.\n"
+         microseconds: library / memcpy = ratio. The aim is at most 2 for append, 1.4 for read.\n"
     );
     println!("| call | 4,085 × 1 | 4,085 × 64 | 65,524 × 1 | 65,524 × 64 |");
     println!("|---|---|---|---|---|");
