@@ -1,10 +1,12 @@
 -- Laws of files along their chains: links, the last cluster, and the bytes read so far.
 use Prim.Native.Nat.{ℕ, zero, suc, _+_, _-_, _*_, _/_, _%_, _≤_, _<_, min}
-use native.Mathlib.Nat.{mul-le-mul, mul-le-mul-right, mod-lt, div-add-mod', div-eq-of-lt, mod-eq-of-lt, mul-add-div-right, mul-add-mod-self-right}
+use native.Mathlib.Nat.{mul-le-mul, mul-le-mul-right, add-mul, mod-lt, div-add-mod', div-lt-iff-lt-mul, mul-add-div-right, mul-add-mod-self-right}
 use native.Mathlib.Omega.{arith}
 use mathlib.Core.Path.{_≡_, refl, sym, ap, _∙_}
 use mathlib.Core.List.{List}
-use mathlib.Core.Bool.{true}
+use mathlib.Core.Bool.{Bool, true, false}
+use lib.Dec.{ltb}
+use borrow.Author.Tests.{ltb-true, ltb-false}
 use lib.ListN.{length, getD}
 use Rattle.model.specs.Bytes.{Bytes, bytes-of, overlay, part}
 use Rattle.model.specs.Sector.{Card, card-of}
@@ -22,7 +24,7 @@ use Rattle.model.proofs.Walks.{chain-length}
 use Rattle.model.proofs.Needed.{needed-none, needed-some}
 use Rattle.operations.specs.Plan.{clusters-of, last-cluster}
 use Rattle.operations.specs.Reading.{file-byte, reading}
-use Rattle.file_read.specs.Files.{links, bytes-from, Read}
+use Rattle.file_read.specs.Files.{links, Adjacent, Adjoining, Reaches, bytes-from, Read}
 use Rattle.operations.specs.Promises.{Fills}
 
 -- ---- links
@@ -51,6 +53,23 @@ module _ (e : ℕ → ℕ) where
   links-on first k i x r at le is = let z : i + (x - i) ≡ x = omega arith in is ∙ ap (links e (x - i)) at ∙ links-add i (x - i) first
       ∙ ap (λ m. links e m first) z
 
+  -- One cluster, and one more that follows on the card and in the chain.
+  pub adjacent-one : (k : ℕ) → Adjacent e k 1
+  unfolding links
+  adjacent-one k zero less = omega arith
+  adjacent-one k (suc i) less = absurd (omega arith)
+
+  pub adjacent-more : (k m : ℕ) → 1 ≤ m → Adjacent e k m → e (k + m - 1) ≡ k + m → Adjacent e k (m + 1)
+  adjacent-more k m some so next i less = go (ltb i m) refl
+    where
+      go : (t : Bool) → ltb i m ≡ t → links e i k ≡ k + i
+      go true h = so i (ltb-true i m h)
+      go false h =
+          let high : m ≤ i = ltb-false i m h in
+          let z : i ≡ m - 1 + 1 = omega arith in
+          let last : k + (m - 1) ≡ k + m - 1 = omega arith in
+          ap (λ (n : ℕ). links e n k) z ∙ links-more (m - 1) k ∙ ap e (so (m - 1) (omega arith) ∙ last) ∙ next ∙ omega arith
+
   -- The clusters of a chain are its links.
   pub chain-at : (n k i : ℕ) → i < n → getD (chain e n k) i 0 ≡ links e i k
   unfolding chain links
@@ -67,6 +86,14 @@ link-inside l fits e k size h i less =
     (rw (chain-length e (needed l size) k) less) in
     let z = chain-at e (needed l size) k i less in
     (rw z at (u .low), rw z at (u .high))
+
+-- So are those after one that was reached.
+pub reaches : (l : Layout) → Fits l → (e : ℕ → ℕ) (first size : ℕ) → keeps-chain l e first size ≡ true → (k x n : ℕ) → k ≡ links e x first
+    → x + n < needed l size → Reaches l e k n
+reaches l fits e first size h k x n is less i le =
+    let z : links e i k ≡ links e (x + i) first = ap (links e i) is ∙ links-add e x i first in
+    let r = link-inside l fits e first size h (x + i) (omega arith) in
+    rw z r
 
 -- The last cluster.
 module _ (l : Layout) (one : 1 ≤ l .factor) (t : Fat) (f : File) where
@@ -86,14 +113,6 @@ pub in-window : (l : Layout) (xs : List ℕ) (k : ℕ) → Held l xs → k < 655
 in-window l xs k h less =
     let m : 4085 * 1 ≤ l .clusters * l .factor = mul-le-mul (h .fits .shape .many) (h .fits .shape .factor-low) in
     omega arith
-
--- The sectors of a cluster lie on the card to the last.
-pub cluster-end : (l : Layout) → Shape l → (k q : ℕ) → k < 2 + l .clusters → cluster-sector l k + q % l .factor + (l .factor - q % l .factor) ≤ l .total
-unfolding cluster-sector
-cluster-end l sh k q less =
-    let e : suc (k - 2) * l .factor ≤ l .clusters * l .factor = mul-le-mul-right (l .factor) (omega arith) in
-    let s : suc (k - 2) * l .factor ≡ (k - 2) * l .factor + l .factor = omega arith in
-    omega (arith, sh .data-end, mod-lt q {m = l .factor} (sh .factor-low))
 
 -- ---- bytes of sectors
 
@@ -135,50 +154,92 @@ file-along l one c f i h =
 pub read-on : (size from done count r : ℕ) → r ≡ done + min (size - from) (count - done) → from < size → done < count → count - r < count - done
 read-on size from done count r is low more = omega arith
 
-below-end : (a b r : ℕ) → r < b → a < 512 → a < 512 * (b - r)
-below-end a b r less h = omega arith
-
--- The offset in a sector is below the bytes of the cluster from that sector on.
-pub from-low : (l : Layout) → 1 ≤ l .factor → (at : ℕ) → at % 512 < 512 * (l .factor - at / 512 % l .factor)
-from-low l one at = below-end (at % 512) (l .factor) (at / 512 % l .factor) (mod-lt (at / 512) {m = l .factor} one) (omega arith)
-
--- A number y further on, within the same f.
-within : (q y f : ℕ) → q % f + y < f → ((q + y) / f ≡ q / f) × ((q + y) % f ≡ q % f + y)
-within q y f less =
+-- A number y further on.
+beyond : (q y f : ℕ) → 1 ≤ f → ((q + y) / f ≡ q / f + (q % f + y) / f) × ((q + y) % f ≡ (q % f + y) % f)
+beyond q y f one =
     let d : q / f * f + q % f ≡ q = div-add-mod' q f in
-    let z : q + y ≡ q / f * f + (q % f + y) = omega arith in
-    let none : (q % f + y) / f ≡ 0 = div-eq-of-lt less in
-    let same : q / f + 0 ≡ q / f = omega arith in (
-      ap (λ (n : ℕ). n / f) z ∙ mul-add-div-right (omega arith) (q / f) (q % f + y) ∙ ap (λ (n : ℕ). q / f + n) none ∙ same,
-      ap (λ (n : ℕ). n % f) z ∙ mul-add-mod-self-right (q / f) f (q % f + y) ∙ mod-eq-of-lt less,
+    let z : q + y ≡ q / f * f + (q % f + y) = omega (arith, d) in (
+      ap (λ (n : ℕ). n / f) z ∙ mul-add-div-right (omega arith) (q / f) (q % f + y),
+      ap (λ (n : ℕ). n % f) z ∙ mul-add-mod-self-right (q / f) f (q % f + y),
     )
 
--- The bytes of a cluster, from byte `at` of the file on.
-pub along-cluster : (l : Layout) (c : Card) (first k s at n : ℕ) → k ≡ links (entry (fat1-of l c)) (at / 512 / l .factor) first
-    → s ≡ cluster-sector l k + at / 512 % l .factor → at % 512 + n ≤ 512 * (l .factor - at / 512 % l .factor)
-    → (m : ℕ) → m < n → bytes-from c s (at % 512 + m) ≡ along l c first (at + m)
-unfolding along
-along-cluster l c first k s at n e f h m less =
-    let y : ℕ = (at % 512 + m) / 512 in
-    let u : (at + m) / 512 ≡ at / 512 + (at % 512 + m) / 512 = omega arith in
-    let v : (at + m) % 512 ≡ (at % 512 + m) % 512 = omega arith in
-    let same = within (at / 512) ((at % 512 + m) / 512) (l .factor) (omega arith) in
-    let place : s + (at % 512 + m) / 512 ≡ cluster-sector l k + (at / 512 % l .factor + (at % 512 + m) / 512) = omega (arith, f) in
-    rw (u, v, same .0, same .1, ← e) (ap (λ (z : ℕ). c z ((at % 512 + m) % 512)) place)
+-- Sector z of clusters one after another.
+run-sector : (l : Layout) (k z : ℕ) → 2 ≤ k → cluster-sector l (k + z / l .factor) + z % l .factor ≡ cluster-sector l k + z
+unfolding cluster-sector
+run-sector l k z low =
+    let d : z / l .factor * l .factor + z % l .factor ≡ z = div-add-mod' z (l .factor) in
+    let n : k + z / l .factor - 2 ≡ k - 2 + z / l .factor = omega arith in
+    let s : (k - 2 + z / l .factor) * l .factor ≡ (k - 2) * l .factor + z / l .factor * l .factor = add-mul (k - 2) (z / l .factor) (l .factor) in
+    rw (n, s) (omega (arith, d))
 
--- What is read so far, and the bytes of one more cluster.
-pub read-more : (l : Layout) (c : Card) (first k s size offset i count r : ℕ) (e x y : List ℕ)
+-- The sectors of clusters one after another, from number q of the file on, which is in the first of them.
+module _ (l : Layout) (sh : Shape l) (e : ℕ → ℕ) (k q n run : ℕ) (inside : Reaches l e k n) (some : 1 ≤ run) (few : run ≤ n + 1) (row : Adjacent e k run) where
+  low : 2 ≤ k
+  low = rw (links-none e k) at (inside 0 (omega arith) .0)
+
+  end : k + run ≤ 2 + l .clusters
+  end = let z = inside (run - 1) (omega arith) .1 in let s = row (run - 1) (omega arith) in omega (arith, z, s)
+
+  bytes-few : run * l .factor ≤ 65524 * 64
+  bytes-few =
+      let many : run ≤ 65524 = omega (arith, low, end, sh .few) in
+      mul-le-mul many (sh .factor-high)
+
+  run-more : q % l .factor < run * l .factor
+  run-more =
+      let m : 1 * l .factor ≤ run * l .factor = mul-le-mul-right (l .factor) some in
+      omega (arith, mod-lt q {m = l .factor} (sh .factor-low), m)
+
+  run-few : run * l .factor < 8388608
+  run-few = omega (arith, bytes-few)
+
+  run-end : cluster-sector l k + q % l .factor + (run * l .factor - q % l .factor) ≤ l .total
+  unfolding cluster-sector
+  run-end =
+      let m : (k - 2 + run) * l .factor ≤ l .clusters * l .factor = mul-le-mul-right (l .factor) (omega (arith, low, end)) in
+      let s : (k - 2 + run) * l .factor ≡ (k - 2) * l .factor + run * l .factor = add-mul (k - 2) run (l .factor) in
+      omega (arith, sh .data-end, m, s, run-more)
+
+  run-adjoins : Adjoining l e k q (run * l .factor - q % l .factor)
+  run-adjoins y less =
+      let z : ℕ = q % l .factor + y in
+      let in-run : z / l .factor < run = div-lt-iff-lt-mul {k = l .factor} {x = z} {y = run} (sh .factor-low) .1 (omega (arith, less)) in
+      let sum : cluster-sector l k + (q % l .factor + y) ≡ cluster-sector l k + q % l .factor + y = omega arith in
+      rw (row (z / l .factor) in-run) (run-sector l k z low ∙ sum)
+
+  pub run-ahead : (q % l .factor < run * l .factor) × (run * l .factor < 8388608)
+      × (cluster-sector l k + q % l .factor + (run * l .factor - q % l .factor) ≤ l .total) × Adjoining l e k q (run * l .factor - q % l .factor)
+  run-ahead = (run-more, run-few, run-end, run-adjoins)
+
+-- The bytes of sectors one after another, from byte `at` of the file on.
+along-row : (l : Layout) → 1 ≤ l .factor → (c : Card) (first k s at m n : ℕ) → k ≡ links (entry (fat1-of l c)) (at / 512 / l .factor) first
+    → s ≡ cluster-sector l k + at / 512 % l .factor → Adjoining l (entry (fat1-of l c)) k (at / 512) m → at % 512 + n ≤ 512 * m
+    → (i : ℕ) → i < n → bytes-from c s (at % 512 + i) ≡ along l c first (at + i)
+unfolding along
+along-row l one c first k s at m n e f row h i less =
+    let g = entry (fat1-of l c) in
+    let y : ℕ = (at % 512 + i) / 512 in
+    let z : ℕ = at / 512 % l .factor + y in
+    let u : (at + i) / 512 ≡ at / 512 + (at % 512 + i) / 512 = omega arith in
+    let v : (at + i) % 512 ≡ (at % 512 + i) % 512 = omega arith in
+    let b = beyond (at / 512) y (l .factor) one in
+    let there : links g (at / 512 / l .factor + z / l .factor) first ≡ links g (z / l .factor) k =
+    sym (links-add g (at / 512 / l .factor) (z / l .factor) first) ∙ ap (links g (z / l .factor)) (sym e) in
+    rw (u, v, b .0, b .1, there, row y (omega (arith, h, less)), f)
+
+-- What is read so far, and the bytes of the sectors that lie one after another from there on.
+pub read-more : (l : Layout) → 1 ≤ l .factor → (c : Card) (first k s m offset i count r : ℕ) (e x y : List ℕ)
     → k ≡ links (entry (fat1-of l c)) ((offset + i) / 512 / l .factor) first → s ≡ cluster-sector l k + (offset + i) / 512 % l .factor
-    → size ≡ 512 * (l .factor - (offset + i) / 512 % l .factor) → (offset + i) % 512 ≤ size
-    → Read (bytes-from c s) size ((offset + i) % 512) i count x y r → ((j : ℕ) → getD x j 0 ≡ overlay i (part (along l c first) offset) 0 (bytes-of e) j)
+    → 1 ≤ m → Adjoining l (entry (fat1-of l c)) k ((offset + i) / 512) m → Read (bytes-from c s) (512 * m) ((offset + i) % 512) i count x y r
+    → ((j : ℕ) → getD x j 0 ≡ overlay i (part (along l c first) offset) 0 (bytes-of e) j)
     → (j : ℕ) → getD y j 0 ≡ overlay r (part (along l c first) offset) 0 (bytes-of e) j
-read-more l c first k s size offset i count r e x y at is end low got so j =
+read-more l one c first k s m offset i count r e x y at is some row got so j =
     let z : i + (r - i) ≡ r = omega (arith, got .reached) in
     let p : Bytes = part (along l c first) offset in
     let b : Bytes = part (bytes-from c s) ((offset + i) % 512) in
-    let fits : (offset + i) % 512 + (r - i) ≤ 512 * (l .factor - (offset + i) / 512 % l .factor) = omega (arith, got .reached) in
-    let here : (m : ℕ) → m < r - i → bytes-from c s ((offset + i) % 512 + m) ≡ part p i m =
-    λ m less. along-cluster l c first k s (offset + i) (r - i) at is fits m less ∙ ap (along l c first) (omega arith) in
+    let fits : (offset + i) % 512 + (r - i) ≤ 512 * m = omega (arith, got .reached, some) in
+    let here : (n : ℕ) → n < r - i → bytes-from c s ((offset + i) % 512 + n) ≡ part p i n =
+    λ n less. along-row l one c first k s (offset + i) m (r - i) at is row fits n less ∙ ap (along l c first) (omega arith) in
     overlay-next p e x y i (r - i) so (λ j. got .bytes j ∙ overlay-same (r - i) b (part p i) i (bytes-of x) here j) j
     ∙ ap (λ n. overlay n p 0 (bytes-of e) j) z
 

@@ -1,5 +1,5 @@
 -- Words that the contracts use: the chain rule, links of a chain, and what reading leaves of a lent buffer.
-use Prim.Native.Nat.{ℕ, zero, suc, _+_, _-_, _/_, _%_, min}
+use Prim.Native.Nat.{ℕ, zero, suc, _+_, _-_, _/_, _%_, _≤_, _<_, min}
 use mathlib.Core.Path.{_≡_}
 use mathlib.Core.Bool.{true}
 use mathlib.Core.List.{List}
@@ -7,7 +7,7 @@ use lib.ListN.{getD}
 use Rattle.model.specs.Bytes.{Bytes, bytes-of, overlay, part}
 use Rattle.model.specs.Sector.{Card}
 use Rattle.model.specs.Fat.{entry, fat1-of}
-use Rattle.model.specs.Chain.{keeps-chain}
+use Rattle.model.specs.Chain.{keeps-chain, cluster-sector}
 use Rattle.model.specs.declared.Layout.{Layout}
 use Rattle.model.specs.declared.File.{File}
 
@@ -19,6 +19,19 @@ Proper l c f = keeps-chain l (entry (fat1-of l c)) (f .first) (f .size) ≡ true
 unfoldable pub links : (ℕ → ℕ) → ℕ → ℕ → ℕ
 links e zero k = k
 links e (suc n) k = e (links e n k)
+
+-- The n clusters from k on along the chain lie one after another on the card.
+abbrev pub Adjacent : (ℕ → ℕ) → ℕ → ℕ → Type 0
+Adjacent e k n = (i : ℕ) → i < n → links e i k ≡ k + i
+
+-- The m sectors of a file from the one number q on, which is in cluster k, lie one after another on the card.
+abbrev pub Adjoining : Layout → (ℕ → ℕ) → ℕ → ℕ → ℕ → Type 0
+Adjoining l e k q m = (y : ℕ) → y < m
+    → cluster-sector l (links e ((q % l .factor + y) / l .factor) k) + (q % l .factor + y) % l .factor ≡ cluster-sector l k + q % l .factor + y
+
+-- The cluster k and those up to n links after it are clusters of the card.
+abbrev pub Reaches : Layout → (ℕ → ℕ) → ℕ → ℕ → Type 0
+Reaches l e k n = (i : ℕ) → i ≤ n → (2 ≤ links e i k) × (links e i k < 2 + l .clusters)
 
 -- The bytes of a card from sector s on.
 abbrev pub bytes-from : Card → ℕ → Bytes

@@ -2,7 +2,7 @@
 use model::File;
 use model::Layout;
 ghost use mathlib.Core.Path.{_≡_};
-ghost use Prim.Native.Nat.{_+_, _-_, _*_, _%_, _≤_, _<_, min};
+ghost use Prim.Native.Nat.{_+_, _*_, _%_, _≤_, _<_, min};
 ghost use lib.ListN.{length};
 ghost use Rattle.model.specs.Sector.{card-of};
 ghost use Rattle.model.specs.Fat.{fat1-of, entry};
@@ -10,7 +10,7 @@ ghost use Rattle.model.specs.Chain.{cluster-sector};
 ghost use Rattle.model.specs.Promises.{Fits, Held};
 ghost use Rattle.operations.specs.Plan.{clusters-of, last-cluster};
 ghost use Rattle.operations.specs.Reading.{reading};
-ghost use Rattle.file_read.specs.Files.{Proper, links, bytes-from, Read};
+ghost use Rattle.file_read.specs.Files.{Proper, links, Adjacent, Adjoining, Reaches, bytes-from, Read};
 ghost use Rattle.operations.specs.Promises.{Fills};
 
 // n, but no more than the room.
@@ -51,9 +51,33 @@ pub fn last_cluster(w: &[u8], l: Layout, f: File) -> u32
 // The sector of a file's 512 bytes number q, in cluster k.
 pub fn sector_in(l: Layout, k: u32, q: u32) -> u32
     requires { ⌜ Fits l × (2 ≤ k) × (k < 2 + l .clusters) ⌝ }
-    ensures { λ r. ⌜ (r ≡ cluster-sector l k + q % l .factor) × (l .start ≤ r) × (r < l .total) × (r + (l .factor - q % l .factor) ≤ l .total) ⌝ }
+    ensures { λ r. ⌜ (r ≡ cluster-sector l k + q % l .factor) × (l .start ≤ r) × (r < l .total) ⌝ }
 {
     fat_read::cluster_sector(l, k) + q % l.factor
+}
+
+// How many clusters from k on lie one after another on the card, each linked to the next: at least 1, at most n.
+fn run_length(w: &[u8], l: Layout, k: u32, n: u32) -> u32
+    requires { ⌜ Held l (now w) × (k < 65536) × (1 ≤ n) ⌝ }
+    ensures { λ r. ⌜ (1 ≤ r) × (r ≤ n) × Adjacent (entry (fat1-of l (card-of (now (w .entry))))) k r ⌝ }
+{
+    let mut m = 1;
+    while m < n {
+        if fat_read::entry_at(w, l.fat1, k + m - 1) != k + m {
+            return m;
+        }
+        m += 1;
+    }
+    m
+}
+
+// How many sectors of a file, from the one number q on, lie one after another: those of cluster k and of up to n more.
+fn sectors_ahead(w: &[u8], l: Layout, k: u32, q: u32, n: u32) -> u32
+    requires { ⌜ Held l (now w) × Reaches l (entry (fat1-of l (card-of (now w)))) k n × (n < 4294967295) ⌝ }
+    ensures { λ r. ⌜
+        (1 ≤ r) × (r < 8388608) × (cluster-sector l k + q % l .factor + r ≤ l .total) × Adjoining l (entry (fat1-of l (card-of (now (w .entry))))) k q r ⌝ }
+{
+    run_length(w, l, k, n + 1) * l.factor - q % l.factor
 }
 
 // The bytes of the m sectors from s on, from an offset on, into the buffer from `done` on, up to `count`; and how far the buffer
@@ -67,7 +91,7 @@ fn read_sectors(
     done: u32,
     count: u32,
 ) -> u32
-    requires { ⌜ (512 * (s + m) ≤ length (now w)) × (m ≤ 64) × (from < 512 * m) × (done ≤ count) × (count ≤ length (now buffer)) ⌝ }
+    requires { ⌜ (512 * (s + m) ≤ length (now w)) × (m < 8388608) × (from < 512 * m) × (done ≤ count) × (count ≤ length (now buffer)) ⌝ }
     ensures { λ r. ⌜ Read (bytes-from (card-of (now (w .entry))) s) (512 * m) from done count (now (buffer .entry)) (now (buffer .exit)) r ⌝ }
 {
     let n = least(sector::index(512 * m - from), count - done);
@@ -82,12 +106,16 @@ fn read_sectors(
 }
 
 // The bytes of a file that keeps the chain rule, from an offset within it on, as many as the buffer takes; and how many. The
-// cluster reached and its number go along, so that each link is followed once; what is read of a cluster is copied at once.
+// cluster reached and its number go along; clusters that lie one after another are copied at once.
 fn read_within(w: &[u8], l: Layout, f: File, offset: u32, buffer: &mut [u8]) -> u32
     requires { ⌜ Held l (now w) × Proper l (card-of (now w)) f × (offset < f .size) ⌝ }
     ensures { λ r. ⌜ Fills (reading l (card-of (now (w .entry))) f offset (length (now (buffer .entry)))) (now (buffer .entry)) (now (buffer .exit)) r ⌝ }
 {
     let count = least(buffer.len(), f.size - offset);
+    if count == 0 {
+        return 0;
+    }
+    let last = (offset + count - 1) / 512 / l.factor;
     let mut cluster = f.first;
     let mut index = 0;
     let mut done = 0;
@@ -98,7 +126,8 @@ fn read_within(w: &[u8], l: Layout, f: File, offset: u32, buffer: &mut [u8]) -> 
         cluster = follow(w, l, cluster, x - index);
         index = x;
         let s = sector_in(l, cluster, q);
-        done = read_sectors(buffer, w, s, l.factor - q % l.factor, at % 512, done, count);
+        let m = sectors_ahead(w, l, cluster, q, last - x);
+        done = read_sectors(buffer, w, s, m, at % 512, done, count);
     }
     count
 }

@@ -1,7 +1,6 @@
 use mathlib.Core.Path.{refl}
 use native.Mathlib.Omega.{arith}
 use Rattle.operations.proofs.DataStores.{in-data}
-use Rattle.file_read.proofs.Laws.{cluster-end}
 use borrow.Author.Needs.{needs}
 use Rattle.file_read.proofs.sector_in.Statement.{statement}
 use Rattle.file_read.proofs.sector_in.Tie as tie
@@ -19,9 +18,8 @@ returns : tie.Need-returns
 returns c =
     let a = c .before .before .args in
     let pre = c .before .before .pre in
-    let sh = pre .0 .shape in
-    let r = in-data (a .l) sh (a .k) (a .q) (pre .2) in
-    rw (c .before .cluster-sector .ensures .0) (refl, r .0, r .1, cluster-end (a .l) sh (a .k) (a .q) (pre .2))
+    let r = in-data (a .l) (pre .0 .shape) (a .k) (a .q) (pre .2) in
+    rw (c .before .cluster-sector .ensures .0) (refl, r .0, r .1)
 
 pub sector-in-spec : {M : Type 1} → statement M
 sector-in-spec = tie.close (tie.spec (λ c κs. search needs) (λ c. search needs) add-result returns)
