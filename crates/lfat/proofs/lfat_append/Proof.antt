@@ -1,5 +1,4 @@
-use mathlib.Core.Path.{ap, _∙_}
-use Rattle.operations.specs.Outcome.{outcome-number}
+use Rattle.lfat.proofs.Laws.{called}
 use borrow.Author.Needs.{needs}
 use Rattle.lfat.proofs.lfat_append.Statement.{statement}
 use Rattle.lfat.proofs.lfat_append.Tie as tie
@@ -9,9 +8,7 @@ use Rattle.call_append.proofs.append.Reads as append-reads
 use Rattle.lfat.proofs.number_of.Reads as number-of-reads
 
 returns : tie.Need-returns
-returns c =
-    let append = c .before .before .before .append in
-    record { answer = c .number-of .ensures ∙ ap outcome-number (append .ensures .answer); card = append .ensures .card }
+returns c = let append = c .before .before .before .append in called (c .number-of .ensures) (append .ensures .answer) (append .ensures .card)
 
 pub lfat-append-spec : {M : Type 1} → statement M
 lfat-append-spec = tie.close (tie.spec (λ c κs. search needs) (λ c κs. search needs) (λ c. search needs) returns)

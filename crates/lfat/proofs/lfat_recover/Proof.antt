@@ -1,5 +1,4 @@
-use mathlib.Core.Path.{ap, _∙_}
-use Rattle.operations.specs.Outcome.{outcome-number}
+use Rattle.lfat.proofs.Laws.{called}
 use borrow.Author.Needs.{needs}
 use Rattle.lfat.proofs.lfat_recover.Statement.{statement}
 use Rattle.lfat.proofs.lfat_recover.Tie as tie
@@ -9,9 +8,7 @@ use Rattle.lfat.proofs.number_of.Reads as number-of-reads
 use Rattle.call_recover.proofs.recover.Reads as recover-reads
 
 returns : tie.Need-returns
-returns c =
-    let recover = c .before .before .before .recover in
-    record { answer = c .number-of .ensures ∙ ap outcome-number (recover .ensures .answer); card = recover .ensures .card }
+returns c = let recover = c .before .before .before .recover in called (c .number-of .ensures) (recover .ensures .answer) (recover .ensures .card)
 
 pub lfat-recover-spec : {M : Type 1} → statement M
 lfat-recover-spec = tie.close (tie.spec (λ c κs. search needs) (λ c κs. search needs) (λ c. search needs) returns)

@@ -1,5 +1,4 @@
-use mathlib.Core.Path.{ap, _∙_}
-use Rattle.operations.specs.Outcome.{outcome-number}
+use Rattle.lfat.proofs.Laws.{called}
 use borrow.Author.Needs.{needs}
 use Rattle.lfat.proofs.lfat_truncate.Statement.{statement}
 use Rattle.lfat.proofs.lfat_truncate.Tie as tie
@@ -9,9 +8,7 @@ use Rattle.lfat.proofs.number_of.Reads as number-of-reads
 use Rattle.call_truncate.proofs.truncate.Reads as truncate-reads
 
 returns : tie.Need-returns
-returns c =
-    let truncate = c .before .before .before .truncate in
-    record { answer = c .number-of .ensures ∙ ap outcome-number (truncate .ensures .answer); card = truncate .ensures .card }
+returns c = let truncate = c .before .before .before .truncate in called (c .number-of .ensures) (truncate .ensures .answer) (truncate .ensures .card)
 
 pub lfat-truncate-spec : {M : Type 1} → statement M
 lfat-truncate-spec = tie.close (tie.spec (λ c κs. search needs) (λ c κs. search needs) (λ c. search needs) returns)
