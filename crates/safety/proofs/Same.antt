@@ -141,7 +141,7 @@ module _ {size : ℕ} {c : Card} (st : Start size c) (y : Card) (boot : y 0 ≡ 
       file s less is = sym (ap is-file (slots s less)) ∙ is
 
       there : (s : ℕ) → s < l .entries → is-file (slot-at l y s) ≡ true → (k : ℕ) → List·Memᴰ k (chain-of l y s) → List·Memᴰ k (chain-of l c s)
-      there s less is k m = subst (λ ks. List·Memᴰ k ks) (chain-kept st sound s less (file s less is) y tables) m
+      there s less is k m = subst (λ ks. List·Memᴰ k ks) (chain-kept st s (sound .chains s less (file s less is)) less y tables) m
 
   -- ---- names and grounds
 

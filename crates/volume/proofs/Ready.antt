@@ -19,8 +19,9 @@ use Rattle.volume.specs.declared.Examined.{Examined}
 use Rattle.volume.specs.declared.Examined.the-variants.{Granted}
 
 -- The grounds that a call asks give a volume.
-pub opened : (asked : Answer Volume) (xs : List ℕ) (r : Examined) → (examined-of r ≡ asked) × Carries xs r → (v : Volume) → r ≡ Granted v → Opened asked v xs
-opened asked xs r h v e =
+pub opened-with : (asked : Answer Volume) (xs : List ℕ) (r : Examined) → (examined-of r ≡ asked) × Carries xs r → (v : Volume) → r ≡ Granted v
+    → Opened asked v xs
+opened-with asked xs r h v e =
     let k : Carries xs (Granted v) = rw e at (h .1) in
     record { passes = sym (h .0) ∙ ap examined-of e; held = k .0; lies = k .1 }
 
