@@ -3,14 +3,13 @@ use Prim.Native.Nat.{ℕ, zero, suc, _+_, _-_, _<_, _≤_}
 use native.Mathlib.Omega.{arith}
 use mathlib.Core.Path.{_≡_, sym, ap, _∙_, subst}
 use mathlib.Core.Bool.{Bool, true, false}
-use mathlib.Core.List.{List, [], _∷_, _++_, append-assoc}
+use mathlib.Core.List.{List, [], _∷_}
 use lib.ListN.{length, take, getD}
 use borrow.Author.Tests.{lt-ltb, le-ltb, ne-eqb}
 use Rattle.model.specs.Bytes.{Span}
-use Rattle.model.specs.Sector.{Card, card-of, Window, Store, after}
+use Rattle.model.specs.Sector.{Card, card-of, Window, Store}
 use Rattle.model.specs.Scan.{first-from}
 use Rattle.model.specs.Fat.{Fat, entry, fat1-of, fat2-of, free-clusters, write-fat}
-use Rattle.model.specs.Log.{log-of}
 use Rattle.model.specs.Ground.{refused, granted, _when_, _>>=_, _>>_}
 use Rattle.model.specs.Volume.{clean}
 use Rattle.model.specs.Promises.{Shape, Ran}
@@ -24,9 +23,8 @@ use Rattle.model.specs.Record.{plain}
 use Rattle.model.specs.declared.Change.{Change}
 use Rattle.model.specs.declared.Operation.the-variants.{Update}
 use Rattle.model.proofs.All.{All, all-map}
-use Rattle.model.proofs.Cards.{Away, after-away, after-append}
-use Rattle.model.proofs.Runs.{ran-then, ran-stop, ran-card, ran-away}
-use Rattle.model.proofs.Fats.{write-all}
+use Rattle.model.proofs.Cards.{Away}
+use Rattle.model.proofs.Runs.{ran-then, ran-stop, ran-away}
 use Rattle.model.proofs.Chains.{Used, chain-used}
 use Rattle.operations.specs.Program.{ending, stores}
 use Rattle.operations.specs.Plan.{clusters-of, last-cluster, added, new-clusters, operate, append-along, append-stores}
@@ -41,7 +39,7 @@ use Rattle.file_append.specs.Extents.{append-data, Room}
 use Rattle.file_append.proofs.Clusters.{indices-next}
 use Rattle.file_append.proofs.Apart.{append-inside, append-off-log}
 use Rattle.log_steps.specs.Steps.{log-steps}
-use Rattle.log_steps.proofs.Laws.{operate-is}
+use Rattle.log_steps.proofs.Parts.{operate-cut, operate-ran}
 use Rattle.call_append.specs.Append.{append-to, append-on, chain-stores, first-of}
 use Rattle.fat_link.proofs.Kept.{free-kept, grown-kept}
 
@@ -136,42 +134,29 @@ module _ (v : Volume) (xs : List ℕ) (f : File) (d : Span) (ready : Ready v xs)
   abbrev new-fat : Fat
   new-fat = grown (v .layout) (fat1-of (v .layout) c) (last-cluster old) n
 
-  abbrev fs : List Store
-  fs = write-fat (v .layout) (v .layout .fat2) new-fat (fat2-of (v .layout) c)
-
   abbrev update : Change
   update = plain (Update (f .entry) (last-cluster old) (first-of (v .layout) c n) (f .size + d .size))
 
   sh : Shape (v .layout)
   sh = ready .held .fits .shape
 
-  log-kept : (s : ℕ) → s < v .log .sectors → log-of (v .log) (after (ds ++ fs) c) s ≡ log-of (v .log) c s
-  log-kept s less =
-      ap (λ (k : Card). k (v .log .sector + s)) (after-append ds fs c)
-      ∙ after-away fs (after ds c) (v .log .sector + s)
-      (write-all (v .layout) (v .layout .fat2) new-fat (fat2-of (v .layout) c) (λ t. v .log .sector + s ≡ t .sector → ⊥)
-      (λ k h e. omega (arith, sh .root-at, sh .start-at, ready .lies .above)))
-      ∙ after-away ds c (v .log .sector + s)
-      (subst (λ (a : Area). s < a .sectors → Away ds (a .sector + s)) (sym (ready-log v xs ready))
-      (append-off-log (v .layout) c f d sh (room .chain) (room .enough) (ready-run v xs ready) s) less)
+  off-log : (s : ℕ) → s < v .log .sectors → Away ds (v .log .sector + s)
+  off-log s = subst (λ (a : Area). s < a .sectors → Away ds (a .sector + s)) (sym (ready-log v xs ready))
+      (append-off-log (v .layout) c f d sh (room .chain) (room .enough) (ready-run v xs ready) s)
 
-  append-is : stores (append-stores v c f d) ≡ (ds ++ fs) ++ log-steps v update (after (ds ++ fs) c)
+  append-is : append-stores v c f d ≡ operate v c ds new-fat update
   unfolding append-stores append-along new-clusters
-  append-is =
-      ap (λ (t : Fat). stores (operate v c ds t update))
+  append-is = ap (λ (t : Fat). operate v c ds t update)
       (extend-grown old (old-used (v .layout) c f sh (room .chain)) (fat1-of (v .layout) c) (v .layout) n (room .enough))
-      ∙ operate-is v c ds new-fat update (after (ds ++ fs) c) (sym (after-append ds fs c)) log-kept
-      ∙ sym (append-assoc ds fs (log-steps v update (after (ds ++ fs) c)))
 
   module _ (limit : ℕ) (x : List ℕ) (m last count : ℕ) (end : last ≡ last-cluster old) (many : count ≡ n) where
     pub append-cut : Ran limit (chain-stores (v .layout) c f d last count) xs x m false → Ran limit (stores (append-stores v c f d)) xs x m false
-    append-cut so = rw append-is (ran-stop limit (ds ++ fs) xs x m (rw (end, many) at so) (log-steps v update (after (ds ++ fs) c)))
+    append-cut so = rw append-is (operate-cut v ds new-fat update sh (ready .lies .above) off-log limit xs x m (rw (end, many) at so))
 
     pub append-ran : Ran limit (chain-stores (v .layout) c f d last count) xs x m true → (from size : ℕ) → from ≡ first-of (v .layout) c count
         → size ≡ f .size + d .size
         → (y : List ℕ) (k : ℕ) (w : Bool) → Ran (limit - m) (log-steps v (plain (Update (f .entry) last from size)) (card-of x)) x y k w
         → Ran limit (stores (append-stores v c f d)) xs y (m + k) w
     append-ran so from size first total y k w next =
-        let r : Ran limit (ds ++ fs) xs x m true = rw (end, many) at so in
-        let z : card-of x ≡ after (ds ++ fs) c = ran-card limit (ds ++ fs) xs x m r in
-        rw append-is (ran-then limit (ds ++ fs) xs x m r (log-steps v update (after (ds ++ fs) c)) y k w (rw (z, end, first, many, total) at next))
+        rw append-is (operate-ran v ds new-fat update sh (ready .lies .above) off-log limit xs x m (rw (end, many) at so) y k w
+        (rw (end, first, many, total) at next))

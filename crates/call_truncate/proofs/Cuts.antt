@@ -24,7 +24,7 @@ use Rattle.file_read.specs.Files.{links}
 use Rattle.file_read.proofs.Laws.{chain-at, links-none, links-more, link-inside}
 use Rattle.fat_release.specs.Release.{cut, Inside}
 use Rattle.fat_release.proofs.Shortens.{release-cut, truncate-cut, used-inside, inside-drop}
-use Rattle.call_truncate.specs.declared.Cut.{Cut}
+use Rattle.call_truncate.specs.declared.Tail.{Tail}
 use Rattle.call_truncate.specs.Calls.{Parts}
 
 module _ (l : Layout) (fits : Fits l) (t : Fat) (f : File) (h : keeps-chain l (entry t) (f .first) (f .size) ≡ true) where
@@ -109,7 +109,7 @@ pub delete-is : (v : Volume) (c : Card) (f : File)
 unfolding delete-stores clusters-of
 delete-is v c f = rw (release-cut (old-fat v c) (f .first) (needed (v .layout) (f .size)))
 
-pub truncate-is : (v : Volume) (c : Card) (f : File) (size : ℕ) (r : Cut) → Parts (v .layout) (old-fat v c) f size r
+pub truncate-is : (v : Volume) (c : Card) (f : File) (size : ℕ) (r : Tail) → Parts (v .layout) (old-fat v c) f size r
     → truncate-stores v c f size ≡ operate v c [] (cut (old-fat v c) (r .kept) (r .from) (r .freed)) (plain (Truncate (f .entry) (f .first) (r .from) size))
 unfolding truncate-stores truncate-along
 truncate-is v c f size r h = rw (h .fat, ← h .from)

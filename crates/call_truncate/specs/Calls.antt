@@ -16,7 +16,7 @@ use Rattle.operations.specs.Program.{Program}
 use Rattle.operations.specs.Plan.{clusters-of, shorten, truncate-stores, delete-stores}
 use Rattle.operations.specs.Calls.{file-of, unless-none}
 use Rattle.fat_release.specs.Release.{cut, Inside}
-use Rattle.call_truncate.specs.declared.Cut.{Cut}
+use Rattle.call_truncate.specs.declared.Tail.{Tail}
 
 unfoldable pub delete-on : Card → Volume → Span → Answer Program
 delete-on c v n = file-of v c n >>= λ f. granted (delete-stores v c f)
@@ -32,7 +32,7 @@ truncate-on c v n size = file-of v c n >>= λ f. truncate-as c v f size
 
 -- The chain of a file is cut as a smaller size wants it: the FAT that a truncate makes is the one in which the freed clusters are
 -- freed, the first of these is the one that its record names, and all of them lie on the card.
-pub record Parts (l : Layout) (t : Fat) (f : File) (size : ℕ) (r : Cut) : Type 0 where
+pub record Parts (l : Layout) (t : Fat) (f : File) (size : ℕ) (r : Tail) : Type 0 where
   pub fat : shorten (take (needed l size) (clusters-of l t f)) (drop (needed l size) (clusters-of l t f)) t ≡ cut t (r .kept) (r .from) (r .freed)
   pub from : r .from ≡ getD (drop (needed l size) (clusters-of l t f)) 0 0
   pub inside : Inside l (chain (entry t) (r .freed) (r .from))

@@ -20,23 +20,23 @@ ghost use Rattle.operations.specs.Finish.{Slots};
 ghost use Rattle.operations.specs.Program.{stores};
 ghost use Rattle.operations.specs.Plan.{operate, old-fat, truncate-stores, delete-stores};
 ghost use Rattle.operations.specs.Calls.{truncate, delete};
-ghost use Rattle.fat_read.specs.Located.{Lies};
+ghost use Rattle.volume.specs.Opened.{Ready};
 ghost use Rattle.root_lookup.specs.Found.{Chained};
 ghost use Rattle.file_read.specs.Files as files;
 ghost use Rattle.fat_release.specs.Release.{cut, Inside};
 ghost use Rattle.log_steps.specs.Did.{Did};
 ghost use Rattle.call_truncate.specs.Calls.{Parts, truncate-as, truncate-on, delete-on};
 
-// Where a chain is cut: the last cluster kept, the first one freed, 0 where there is none, and how many are freed.
-pub struct Cut {
+// The part of a chain that is freed: the last cluster kept before it, its first cluster, 0 where there is none, and how many it has.
+pub struct Tail {
     pub kept: u32,
     pub from: u32,
     pub freed: u32,
 }
 
 // The stores of a change that cuts a chain: FAT2's, then those that its group makes to be done.
-fn shorten(w: &mut [u8], v: Volume, c: Cut, x: Change, limit: u32) -> Progress
-    requires { ⌜ Held (v .layout) (now w) × Lies (v .layout) (v .log) ⌝ }
+fn shorten(w: &mut [u8], v: Volume, c: Tail, x: Change, limit: u32) -> Progress
+    requires { ⌜ Ready v (now w) ⌝ }
     requires { ⌜ Inside (v .layout) (chain (entry (fat1-of (v .layout) (card-of (now w)))) (c .freed) (c .from)) ⌝ }
     requires { ⌜ Slots (v .layout .entries) x ⌝ }
     ensures { λ r. ⌜
@@ -54,12 +54,12 @@ fn shorten(w: &mut [u8], v: Volume, c: Cut, x: Change, limit: u32) -> Progress
 
 // Delete of a file that keeps the chain rule.
 fn delete_file(w: &mut [u8], v: Volume, f: File, limit: u32) -> Progress
-    requires { ⌜ Held (v .layout) (now w) × Lies (v .layout) (v .log) ⌝ }
+    requires { ⌜ Ready v (now w) ⌝ }
     requires { ⌜ Chained v (card-of (now w)) f ⌝ }
     ensures { λ r. ⌜ Ran limit (stores (delete-stores v (card-of (now (w .entry))) f)) (now (w .entry)) (now (w .exit)) (r .made) (r .whole) ⌝ }
 {
     let l = v.layout;
-    let c = Cut {
+    let c = Tail {
         kept: 0,
         from: f.first,
         freed: fat_chain::clusters_for(l, f.size),
@@ -75,7 +75,7 @@ fn delete_file(w: &mut [u8], v: Volume, f: File, limit: u32) -> Progress
 
 // Delete, on a clean card.
 fn delete_on(w: &mut [u8], v: Volume, name: &[u8], limit: u32) -> Outcome
-    requires { ⌜ Held (v .layout) (now w) × Lies (v .layout) (v .log) ⌝ }
+    requires { ⌜ Ready v (now w) ⌝ }
     ensures { λ r. ⌜ Did limit (delete-on (card-of (now (w .entry))) v (view (now (name .entry)))) (now (w .entry)) (now (w .exit)) r ⌝ }
 {
     let o = root_lookup::file_of(w, v, name);
@@ -96,28 +96,28 @@ pub fn delete(w: &mut [u8], name: &[u8], limit: u32) -> Outcome
 }
 
 // Where the chain of a file is cut that is to have a smaller size. It is walked up to the first cluster freed.
-fn cut_at(w: &[u8], l: Layout, f: File, size: u32) -> Cut
+fn cut_at(w: &[u8], l: Layout, f: File, size: u32) -> Tail
     requires { ⌜ Held l (now w) × files.Proper l (card-of (now w)) f × (size ≤ f .size) ⌝ }
     ensures { λ r. ⌜ Parts l (fat1-of l (card-of (now (w .entry)))) f size r ⌝ }
 {
     let m = fat_chain::clusters_for(l, f.size);
     let n = fat_chain::clusters_for(l, size);
     if n == m {
-        return Cut {
+        return Tail {
             kept: 0,
             from: 0,
             freed: 0,
         };
     }
     if n == 0 {
-        return Cut {
+        return Tail {
             kept: 0,
             from: f.first,
             freed: m,
         };
     }
     let kept = file_read::follow(w, l, f.first, n - 1);
-    Cut {
+    Tail {
         kept,
         from: fat_read::entry_at(w, l.fat1, kept),
         freed: m - n,
@@ -126,7 +126,7 @@ fn cut_at(w: &[u8], l: Layout, f: File, size: u32) -> Cut
 
 // Truncate of a file that keeps the chain rule, to a smaller size.
 fn truncate_file(w: &mut [u8], v: Volume, f: File, size: u32, limit: u32) -> Progress
-    requires { ⌜ Held (v .layout) (now w) × Lies (v .layout) (v .log) ⌝ }
+    requires { ⌜ Ready v (now w) ⌝ }
     requires { ⌜ Chained v (card-of (now w)) f × (size < f .size) ⌝ }
     ensures { λ r. ⌜ Ran limit (stores (truncate-stores v (card-of (now (w .entry))) f size)) (now (w .entry)) (now (w .exit)) (r .made) (r .whole) ⌝ }
 {
@@ -144,7 +144,7 @@ fn truncate_file(w: &mut [u8], v: Volume, f: File, size: u32, limit: u32) -> Pro
 
 // LENGTH, and a size that is the present one. Any other fits 32 bits.
 fn truncate_as(w: &mut [u8], v: Volume, f: File, size: u64, limit: u32) -> Outcome
-    requires { ⌜ Held (v .layout) (now w) × Lies (v .layout) (v .log) ⌝ }
+    requires { ⌜ Ready v (now w) ⌝ }
     requires { ⌜ Chained v (card-of (now w)) f ⌝ }
     ensures { λ r. ⌜ Did limit (truncate-as (card-of (now (w .entry))) v f size) (now (w .entry)) (now (w .exit)) r ⌝ }
 {
@@ -160,7 +160,7 @@ fn truncate_as(w: &mut [u8], v: Volume, f: File, size: u64, limit: u32) -> Outco
 
 // Truncate, on a clean card.
 fn truncate_on(w: &mut [u8], v: Volume, name: &[u8], size: u64, limit: u32) -> Outcome
-    requires { ⌜ Held (v .layout) (now w) × Lies (v .layout) (v .log) ⌝ }
+    requires { ⌜ Ready v (now w) ⌝ }
     ensures { λ r. ⌜ Did limit (truncate-on (card-of (now (w .entry))) v (view (now (name .entry))) size) (now (w .entry)) (now (w .exit)) r ⌝ }
 {
     let o = root_lookup::file_of(w, v, name);

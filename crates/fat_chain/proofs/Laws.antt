@@ -15,48 +15,23 @@ use Rattle.model.specs.declared.Layout.{Layout}
 use Rattle.model.specs.declared.Class.{Class}
 use Rattle.model.specs.declared.Class.the-variants.{Free, Next, Reserved, Bad, End, Other}
 use Rattle.model.proofs.Class.{the-type}
-use Rattle.model.proofs.Tests.{told, clash, between-true, between-low}
+use Rattle.model.proofs.Tests.{told, between-true, between-low}
 use Rattle.model.proofs.Match.{keyed}
 use Rattle.fat_read.proofs.Laws.{ended}
 
+-- The class is Next; it is End.
 abbrev pub leads : Class → Bool
-leads Free = false
-leads Next = true
-leads Reserved = false
-leads Bad = false
-leads End = false
-leads Other = false
+leads c = eqb (tagOf the-type c) 1
 
 abbrev pub closes : Class → Bool
-closes Free = false
-closes Next = false
-closes Reserved = false
-closes Bad = false
-closes End = true
-closes Other = false
+closes c = eqb (tagOf the-type c) 4
 
 -- A class that is not Next, and one that is not End, by the numbers of the others.
 pub not-next : (c : Class) → OneOf (0 ∷ 2 ∷ 3 ∷ 4 ∷ 5 ∷ []) (tagOf the-type c) → leads c ≡ false
-not-next c h = go c (keyed (λ b. eqb b 1) false (0 ∷ 2 ∷ 3 ∷ 4 ∷ 5 ∷ []) refl (tagOf the-type c) h)
-  where
-    go : (c : Class) → eqb (tagOf the-type c) 1 ≡ false → leads c ≡ false
-    go Next e = clash refl e
-    go Free e = refl
-    go Reserved e = refl
-    go Bad e = refl
-    go End e = refl
-    go Other e = refl
+not-next c h = keyed (λ b. eqb b 1) false (0 ∷ 2 ∷ 3 ∷ 4 ∷ 5 ∷ []) refl (tagOf the-type c) h
 
 pub not-end : (c : Class) → OneOf (0 ∷ 1 ∷ 2 ∷ 3 ∷ 5 ∷ []) (tagOf the-type c) → closes c ≡ false
-not-end c h = go c (keyed (λ b. eqb b 4) false (0 ∷ 1 ∷ 2 ∷ 3 ∷ 5 ∷ []) refl (tagOf the-type c) h)
-  where
-    go : (c : Class) → eqb (tagOf the-type c) 4 ≡ false → closes c ≡ false
-    go End e = clash refl e
-    go Free e = refl
-    go Next e = refl
-    go Reserved e = refl
-    go Bad e = refl
-    go Other e = refl
+not-end c h = keyed (λ b. eqb b 4) false (0 ∷ 1 ∷ 2 ∷ 3 ∷ 5 ∷ []) refl (tagOf the-type c) h
 
 -- The next clusters are those in range, and the ends those that end a chain.
 pub inside-leads : (l : Layout) (v : ℕ) → in-range l v ≡ leads (class l v)

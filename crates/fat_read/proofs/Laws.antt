@@ -15,11 +15,11 @@ use Rattle.model.specs.Sector.{card-of}
 use Rattle.model.specs.Fat.{fat-at, wide-entry, entry, class, in-range, is-reserved, is-end}
 use Rattle.model.specs.declared.Layout.{Layout}
 use Rattle.model.specs.declared.Class.{Class}
-use Rattle.model.specs.declared.Class.the-variants.{Free, Next, Reserved, Bad, End, Other}
+use Rattle.model.specs.declared.Class.the-variants.{Free, Next, Bad, End, Other}
 use Rattle.model.proofs.Class.{the-type}
 use Rattle.model.proofs.Sectors.{le-in}
 use Rattle.model.proofs.Scan.{count-step}
-use Rattle.model.proofs.Tests.{told, clash, or-false, between-is, between-low, between-high}
+use Rattle.model.proofs.Tests.{told, or-false, between-is, between-low, between-high}
 use Rattle.model.proofs.Classes.{class-reserved}
 use Rattle.model.proofs.Match.{keyed}
 
@@ -36,25 +36,13 @@ unseen p i n k b at so h =
     let none : count-from p i n ≡ 0 = so (t .0) in
     rw (count-step p i n, ← at, t .1) (omega arith)
 
+-- The class is Reserved.
 abbrev pub marks : Class → Bool
-marks Free = false
-marks Next = false
-marks Reserved = true
-marks Bad = false
-marks End = false
-marks Other = false
+marks c = eqb (tagOf the-type c) 2
 
 -- A class that is not Reserved, by the numbers of the others.
 pub not-reserved : (c : Class) → OneOf (0 ∷ 1 ∷ 3 ∷ 4 ∷ 5 ∷ []) (tagOf the-type c) → marks c ≡ false
-not-reserved c h = go c (keyed (λ b. eqb b 2) false (0 ∷ 1 ∷ 3 ∷ 4 ∷ 5 ∷ []) refl (tagOf the-type c) h)
-  where
-    go : (c : Class) → eqb (tagOf the-type c) 2 ≡ false → marks c ≡ false
-    go Reserved e = clash refl e
-    go Free e = refl
-    go Next e = refl
-    go Bad e = refl
-    go End e = refl
-    go Other e = refl
+not-reserved c h = keyed (λ b. eqb b 2) false (0 ∷ 1 ∷ 3 ∷ 4 ∷ 5 ∷ []) refl (tagOf the-type c) h
 
 -- A value is reserved exactly if its class is.
 pub reserved-marks : (l : Layout) (v : ℕ) → l .clusters ≤ 65524 → is-reserved v ≡ marks (class l v)

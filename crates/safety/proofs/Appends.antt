@@ -30,9 +30,8 @@ use Rattle.model.proofs.Chains.{chain-distinct, Used, needed-holds, in-cluster,
 use Rattle.model.proofs.Names.{Live}
 use Rattle.model.proofs.Volumes.{layout-of, first-fat, volume-of}
 use Rattle.safety.proofs.Start.{Start, shape-of, Clear}
-use Rattle.safety.proofs.Before.{Spared}
 use Rattle.safety.proofs.Clusters.{Fresh, free-fresh, Plain, fresh-plain, sector-clear}
-use Rattle.safety.proofs.Files.{file-within, file-used, file-clear}
+use Rattle.safety.proofs.Files.{SparesFiles, file-within, file-used, file-clear}
 use Rattle.safety.proofs.Operations.{the-chain, old-plain, old-used}
 use Rattle.model.specs.declared.Pending.the-variants as Pending
 
@@ -154,7 +153,7 @@ module _ {size : ℕ} {c : Card} (st : Start size c) (s : ℕ) (live : Live (lay
         → 512 * q + i % 512 < file-size b
     unfolding chain-of clusters-of file-at
     own-place i q less within e =
-        let k : i / 512 / l .factor < length ks = file-within st sound s (live .in-root) file i less in
+        let k : i / 512 / l .factor < length ks = file-within st s (sound .chains s (live .in-root) file) i less in
         let r : i / 512 ≡ q = one-place l (sh .factor-low) both-lists (i / 512) q all-low distinct (rw (length-append ks new) (omega arith)) within
         (longer l ks new (i / 512) k ∙ e) in
         omega arith
@@ -166,8 +165,8 @@ module _ {size : ℕ} {c : Card} (st : Start size c) (s : ℕ) (live : Live (lay
     other-place t i q in-root is less ne within e =
         let ts : List ℕ = chain-of l c t in
         let n : ℕ = i / 512 / l .factor in
-        let k : n < length ts = file-within st sound t in-root is i less in
-        let us : All (Used l (entry fat)) ts = file-used st sound t in-root is in
+        let k : n < length ts = file-within st t (sound .chains t in-root is) i less in
+        let us : All (Used l (entry fat)) ts = file-used st t (sound .chains t in-root is) in
         let m = meet l (sh .factor-low) ts both-lists (i / 512) q (all-map (Used l (entry fat)) (λ k. 2 ≤ k) (λ k u. u .low) ts us) all-low k within e in
         let u : Used l (entry fat) (getD ts n 0) = all-getD (Used l (entry fat)) ts us n k in
         let not-old : All (λ j. getD ts n 0 ≡ j → ⊥) ks =
@@ -176,11 +175,10 @@ module _ {size : ℕ} {c : Card} (st : Start size c) (s : ℕ) (live : Live (lay
         new fresh in
         all-getD (λ j. getD ts n 0 ≡ j → ⊥) both-lists (all-append (λ j. getD ts n 0 ≡ j → ⊥) ks new not-old not-new) (q / l .factor) within (m .0)
 
-    pub append-spared : (t i : ℕ) → t < l .entries → is-file (slot-at l c t) ≡ true → i < file-size (slot-at l c t)
-        → Spared c ds (file-sector l (chain-of l c t) (i / 512)) (i % 512)
+    pub append-spared : SparesFiles c ds
     unfolding append-sector
     append-spared t i in-root is less = record {
-      clear = file-clear st sound t in-root is i less;
+      clear = file-clear st t (sound .chains t in-root is) i less;
       kept = data-all (λ st. n ≡ st .sector → clip (st .bytes) (i % 512) ≡ c n (i % 512)) (λ q within at. go q within at (same? s t));
     }
       where

@@ -60,7 +60,7 @@ SmallCard x = (n : ℕ) → Small (x n)
 
 -- ---- runs
 
-patched : (n v at : ℕ) (b : Bytes) → Small b → Small (patch n v at b)
+pub patched : (n v at : ℕ) (b : Bytes) → Small b → Small (patch n v at b)
 unfolding overlay byte-of
 patched n v at b h j = by-pick (λ x. x < 256) (leb at j && ltb j (at + n)) (v / 256 ^ (j - at) % 256) (b j)
     (λ _. mod-lt (v / 256 ^ (j - at)) (omega arith)) (λ _. h j)

@@ -39,6 +39,7 @@ use Rattle.model.proofs.Names.{Live}
 use Rattle.model.proofs.Volumes.{window, layout-of, first-fat, volume-of}
 use Rattle.safety.proofs.Start.{Start, shape-of}
 use Rattle.safety.proofs.Operations.{size-fits, old-used}
+use Rattle.safety.proofs.Files.{file-clear}
 use Rattle.safety.proofs.Theorem.{along}
 use Rattle.safety.proofs.Linked.{Linked, Ranged, keeps-linked, chain-head, shorten-linked}
 use Rattle.safety.proofs.Ended.{Ended, ended, SameHead, same-directory}
@@ -49,7 +50,7 @@ use Rattle.operations.proofs.Edits.{one-in, one-out}
 use Rattle.safety.proofs.Slots.{resized, resized-size, resized-first, resized-head}
 use Rattle.safety.proofs.Supplied.{truncates-as, cut-fat, truncate-supplies, ks}
 use Rattle.safety.proofs.Granted.{NamedFile, Truncated, truncate-granted}
-use Rattle.safety.proofs.Moved.{proper-clear, finish-with}
+use Rattle.safety.proofs.Moved.{finish-with}
 use Rattle.safety.proofs.Means.{resized-means}
 use Rattle.model.specs.declared.Pending.the-variants as Pending
 
@@ -160,7 +161,7 @@ module _ {size : ℕ} {c : Card} (st : Start size c) (s : ℕ) (live : Live (lay
         let same : file-sector l (take few own) q ≡ file-sector l own q =
         sym (longer l (take few own) (drop few own) q there) ∙ ap (λ (js : List ℕ). file-sector l js q) (take-append-drop few own) in
         along l t s (take few own) i (cut-chain .chain) ∙ (λ j. t (same j) (i % 512))
-        ∙ (λ j. (end .sectors (file-sector l own q) (proper-clear st s keeps i (omega arith) .1) ∙ (λ j. after-nil c j (file-sector l own q))) j (i % 512))
+        ∙ (λ j. (end .sectors (file-sector l own q) (file-clear st s keeps i (omega arith)) ∙ (λ j. after-nil c j (file-sector l own q))) j (i % 512))
         ∙ sym (along l c s own i refl)
 
 module _ {size : ℕ} {c : Card} (st : Start size c) (is : clean (window size c) ≡ granted (volume-of c Pending.Nothing)) where

@@ -1,14 +1,11 @@
 -- What is shown of the program of every call, and that an operation's program has it.
-use Prim.Native.Nat.{ℕ, _+_, _/_, _%_, _≤_, _<_}
+use Prim.Native.Nat.{ℕ, _+_, _/_, _≤_, _<_}
 use native.Mathlib.Omega.{arith}
 use mathlib.Core.Path.{_≡_, ap, _∙_}
 use mathlib.Core.List.{List, []}
-use mathlib.Core.Bool.{true}
 use lib.ListN.{length, length-append}
 use Rattle.model.specs.Sector.{Card, Store, after, put}
 use Rattle.model.specs.Fat.{fat1-of, Fat, fat2-of, is-free}
-use Rattle.model.specs.Chain.{file-sector}
-use Rattle.model.specs.Root.{is-file, slot-at, file-size}
 use Rattle.model.specs.Log.{log-of}
 use Rattle.model.specs.Ground.{granted}
 use Rattle.model.specs.Volume.{clean}
@@ -23,17 +20,17 @@ use Rattle.operations.specs.Program.{Program, stores, ending}
 use Rattle.operations.specs.Finish.{redo}
 use Rattle.operations.specs.Plan.{operate, journal, prepare, new-group, group-store}
 use Rattle.operations.specs.Outcome.{largest}
-use Rattle.safety.specs.Sound.{Sound, chain-of}
+use Rattle.safety.specs.Sound.{Sound}
 use Rattle.model.proofs.All.{All}
 use Rattle.model.proofs.Fats.{free, write-length, entry-clip}
 use Rattle.model.proofs.Volumes.{window, volume-of, layout-of, first-fat, area-of}
 use Rattle.safety.proofs.Journal.{Kept}
 use Rattle.safety.proofs.Start.{Start, shape-of, fat2, fatsize-few, entries-few, log-few}
-use Rattle.safety.proofs.Before.{Wanted, Spared, start-rests}
+use Rattle.safety.proofs.Before.{Wanted, start-rests}
 use Rattle.safety.proofs.Steps.{finish-length}
 use Rattle.safety.proofs.Operate.{OnCard, Supplies, operate-kept, operate-inside, leaves}
 use Rattle.safety.proofs.Clusters.{FreeThen, none-free}
-use Rattle.safety.proofs.Files.{file-clear}
+use Rattle.safety.proofs.Files.{SparesFiles, no-data}
 use Rattle.model.specs.declared.Pending.the-variants as Pending
 
 pub record Fair (size : ℕ) (c : Card) (taken released : List ℕ) (q : Program) : Type 1 where
@@ -47,9 +44,7 @@ pub record Fair (size : ℕ) (c : Card) (taken released : List ℕ) (q : Program
   pub cleans : clean (window size (after (stores q) c)) ≡ granted (volume-of c Pending.Nothing)
   pub frees : (j : ℕ) → j < 2 + layout-of c .clusters → free (fat1-of (layout-of c) (after (stores q) c)) j ≡ FreeThen (first-fat c) taken released j
   -- On a sound card the data stores spare every byte of every file.
-  pub spares : Sound (layout-of c) c → (s i : ℕ) → s < layout-of c .entries → is-file (slot-at (layout-of c) c s) ≡ true
-      → i < file-size (slot-at (layout-of c) c s)
-      → Spared c data-stores (file-sector (layout-of c) (chain-of (layout-of c) c s) (i / 512)) (i % 512)
+  pub spares : Sound (layout-of c) c → SparesFiles c data-stores
 
 module _ {size : ℕ} {c : Card} (st : Start size c) where
   abbrev l : Layout
@@ -75,9 +70,7 @@ module _ {size : ℕ} {c : Card} (st : Start size c) where
 
   module _ (ds : List Store) (f : Fat) (o : Change) (given : Supplies c ds f o) (taken released : List ℕ) where
     pub operate-fair : length ds ≤ 8388608 → ((j : ℕ) → free f j ≡ FreeThen (first-fat c) taken released j)
-        → (Sound l c → (s i : ℕ) → s < l .entries → is-file (slot-at l c s) ≡ true → i < file-size (slot-at l c s)
-        → Spared c ds (file-sector l (chain-of l c s) (i / 512)) (i % 512))
-        → Fair size c taken released (operate v c ds f o)
+        → (Sound l c → SparesFiles c ds) → Fair size c taken released (operate v c ds f o)
     operate-fair less frees spares = record {
       data-stores = ds;
       kept = operate-kept st ds f o given;
@@ -89,14 +82,10 @@ module _ {size : ℕ} {c : Card} (st : Start size c) where
       spares = spares;
     }
 
-  no-data : Sound l c → (s i : ℕ) → s < l .entries → is-file (slot-at l c s) ≡ true → i < file-size (slot-at l c s)
-      → Spared c [] (file-sector l (chain-of l c s) (i / 512)) (i % 512)
-  no-data sound s i in-root is less = record { clear = file-clear st sound s in-root is i less; kept = tt }
-
   -- An operation without data stores.
   pub plain-fair : (f : Fat) (o : Change) → Supplies c [] f o → (taken released : List ℕ) → ((j : ℕ) → free f j ≡ FreeThen (first-fat c) taken released j)
       → Fair size c taken released (operate v c [] f o)
-  plain-fair f o given taken released frees = operate-fair [] f o given taken released (omega arith) frees no-data
+  plain-fair f o given taken released frees = operate-fair [] f o given taken released (omega arith) frees (no-data st)
 
   -- A call that stores nothing.
   pub idle-fair : clean (window size c) ≡ granted v → Fair size c [] [] (ending [])
@@ -108,5 +97,5 @@ module _ {size : ℕ} {c : Card} (st : Start size c) where
     inside = tt;
     cleans = is;
     frees = λ j less. none-free (first-fat c) j;
-    spares = no-data;
+    spares = no-data st;
   }

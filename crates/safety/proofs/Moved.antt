@@ -5,23 +5,20 @@ use mathlib.Core.Path.{_≡_, refl, sym, ap, _∙_, subst}
 use mathlib.Core.Logic.{_⊎_, inl, inr, ⊎-elim}
 use mathlib.Core.List.{List, [], _∷_}
 use mathlib.Core.Bool.{true, false, not}
-use lib.ListN.{length}
 use borrow.Author.Tests.{not-true}
 use Rattle.model.specs.Bytes.{Bytes, Span}
 use Rattle.model.specs.Sector.{Card, Window, after}
 use Rattle.model.specs.Fat.{Fat, entry, release}
-use Rattle.model.specs.Chain.{needed, file-sector, chain}
-use Rattle.model.specs.Root.{Directory, slot-at, free-slot, bears, is-label, listed, vacant, file-size, first-cluster, file-at, entry-at}
+use Rattle.model.specs.Chain.{file-sector, chain}
+use Rattle.model.specs.Root.{Directory, slot-at, free-slot, bears, is-label, listed, vacant, file-size, file-at, entry-at}
 use Rattle.model.specs.Ground.{granted}
 use Rattle.model.specs.Volume.{clean}
-use Rattle.model.specs.Promises.{Shape}
 use Rattle.model.specs.declared.Layout.{Layout}
 use Rattle.model.specs.declared.Pending.{Pending}
 use Rattle.model.specs.declared.Volume.{Volume}
-use Rattle.model.proofs.Walks.{chain-length}
 use Rattle.operations.specs.Program.{Program, stores}
 use Rattle.operations.specs.Finish.{effect, edits, operation-edits, new-entry, set-name, mark-deleted}
-use Rattle.operations.specs.Plan.{clusters-of, operate}
+use Rattle.operations.specs.Plan.{operate}
 use Rattle.operations.specs.Calls.{Call, plan, creates, renames, deletes, slot-of, name-of}
 use Rattle.operations.specs.Outcome.{left, largest}
 use Rattle.operations.specs.Reading.{file-byte}
@@ -30,11 +27,10 @@ use Rattle.safety.specs.Saved.{Holds, Gone, Alone}
 use Rattle.model.proofs.Tests.{clash, same?, told, and-right}
 use Rattle.model.proofs.All.{All}
 use Rattle.model.proofs.Cards.{after-nil}
-use Rattle.model.proofs.Chains.{Used, chain-used, in-cluster}
 use Rattle.model.proofs.Names.{live-not-free, name-fits, name-starts, found-listed}
 use Rattle.model.proofs.Volumes.{window, layout-of, first-fat, volume-of}
-use Rattle.safety.proofs.Start.{Start, shape-of, Clear}
-use Rattle.safety.proofs.Clusters.{sector-clear, used-plain}
+use Rattle.safety.proofs.Start.{Start}
+use Rattle.safety.proofs.Files.{file-clear}
 use Rattle.safety.proofs.Theorem.{along}
 use Rattle.safety.proofs.Ended.{Ended, ended, same-bears, same-directory}
 use Rattle.safety.proofs.Chained.{HasChain, head-is, size-is, empty-then, kept-then}
@@ -46,21 +42,6 @@ use Rattle.safety.proofs.Supplied.{creates-as, renames-as, deletes-as, 
 use Rattle.safety.proofs.Calls.{left-is}
 use Rattle.safety.proofs.Granted.{Created, create-granted, Renamed, rename-granted, Deleted, delete-granted}
 use Rattle.model.specs.declared.Pending.the-variants as Pending
-
--- A file with a proper chain lies in data sectors outside the log.
-pub proper-clear : {size : ℕ} {c : Card} (st : Start size c) (s : ℕ) → proper (layout-of c) c s ≡ true → (i : ℕ) → i < file-size (slot-at (layout-of c) c s)
-    → (i / 512 / layout-of c .factor < length (chain-of (layout-of c) c s)) × Clear c (file-sector (layout-of c) (chain-of (layout-of c) c s) (i / 512))
-unfolding proper chain-of clusters-of file-at
-proper-clear {size} {c} st s h i less =
-    let l : Layout = layout-of c in
-    let g : ℕ → ℕ = entry (first-fat c) in
-    let n : ℕ = file-size (slot-at l c s) in
-    let k : ℕ = first-cluster (slot-at l c s) in
-    let sh : Shape l = shape-of st in
-    let used : All (Used l g) (chain g (needed l n) k) = chain-used l (sh .few) g (sh .factor-low) k n h in
-    let within : i / 512 / l .factor < length (chain g (needed l n) k) = rw (chain-length g (needed l n) k)
-    (in-cluster l (sh .factor-low) (i / 512) n (omega arith)) in
-    (within, sector-clear st (chain g (needed l n) k) (used-plain l (first-fat c) (chain g (needed l n) k) used) (i / 512) within)
 
 module _ {size : ℕ} {c : Card} (st : Start size c) (is : clean (window size c) ≡ granted (volume-of c Pending.Nothing)) where
   abbrev l : Layout
@@ -190,7 +171,7 @@ module _ {size : ℕ} {c : Card} (st : Start size c) (is : clean (window size c)
       rename-bytes i less =
           let n : ℕ = file-sector l (chain-of l c x) (i / 512) in
           along l t z (chain-of l c x) i (rename-chain .chain)
-          ∙ (λ j. (end .sectors n (proper-clear st x keeps i less .1) ∙ (λ j. after-nil c j n)) j (i % 512))
+          ∙ (λ j. (end .sectors n (file-clear st x keeps i less) ∙ (λ j. after-nil c j n)) j (i % 512))
           ∙ sym (along l c x (chain-of l c x) i refl)
 
     rename-then : (size′ : ℕ) (content : Bytes) → Holds w n size′ content → Holds (window size t) m size′ content

@@ -8,7 +8,7 @@ use Rattle.model.specs.Bytes.{Bytes}
 use Rattle.model.specs.Sector.{Card, Store, clip, after}
 use Rattle.model.specs.Fat.{Fat, entry}
 use Rattle.model.specs.Chain.{file-sector}
-use Rattle.model.specs.Root.{Directory, slot-at, free-slot, is-file, is-directory, is-label, listed, vacant, file-size}
+use Rattle.model.specs.Root.{Directory, slot-at, free-slot, is-file, is-directory, is-label, listed, vacant}
 use Rattle.model.specs.declared.Layout.{Layout}
 use Rattle.model.specs.declared.Change.{Change}
 use Rattle.operations.specs.Finish.{effect}
@@ -24,7 +24,7 @@ use Rattle.model.proofs.Names.{Live, vacant-starts, live-not-free}
 use Rattle.model.proofs.Volumes.{layout-of, first-fat}
 use Rattle.safety.proofs.Start.{Start}
 use Rattle.safety.proofs.Before.{Spared}
-use Rattle.safety.proofs.Files.{file-used, file-clear}
+use Rattle.safety.proofs.Files.{SparesFiles, file-used}
 use Rattle.safety.proofs.Theorem.{along}
 use Rattle.safety.proofs.Linked.{Off}
 use Rattle.safety.proofs.Ended.{Ended, same-is-file}
@@ -54,8 +54,7 @@ pub record Spares (c : Card) (ds : List Store) (f : Fat) (o : Change) (x : ℕ) 
       → effect o (slot-at (layout-of c) c) s ≡ slot-at (layout-of c) c s
   pub fat : (s : ℕ) → s < layout-of c .entries → is-file (slot-at (layout-of c) c s) ≡ true → (s ≡ x → ⊥)
       → All (λ k. entry f k ≡ entry (first-fat c) k) (chain-of (layout-of c) c s)
-  pub bytes : (s i : ℕ) → s < layout-of c .entries → is-file (slot-at (layout-of c) c s) ≡ true → i < file-size (slot-at (layout-of c) c s)
-      → Spared c ds (file-sector (layout-of c) (chain-of (layout-of c) c s) (i / 512)) (i % 512)
+  pub bytes : SparesFiles c ds
 
 -- Where cluster k of the file in slot s of the new card comes from: a file of the old one, in the slot r that became s, or the free
 -- clusters, for the file in slot x alone.
@@ -79,10 +78,6 @@ module _ {size : ℕ} {c : Card} (st : Start size c) (sound : Sound (layout-of c
       → All (Off (chain-of l c x)) (chain-of l c s)
   chains-apart s x less in-root file it ne = all-mem (Off (chain-of l c x)) (chain-of l c s)
       (λ k m. all-mem (λ j. k ≡ j → ⊥) (chain-of l c x) (λ j n e. sound .apart s x less in-root file it ne j (subst (λ j. List·Memᴰ j (chain-of l c s)) e m) n))
-
-  -- No data stores, no change of data.
-  pub no-data : (s i : ℕ) → s < l .entries → is-file (d s) ≡ true → i < file-size (d s) → Spared c [] (file-sector l (chain-of l c s) (i / 512)) (i % 512)
-  no-data s i less file small = record { clear = file-clear st sound s less file i small; kept = tt }
 
   pub owned-old : (becomes : ℕ → ℕ) (x s r : ℕ) → r < l .entries → is-file (d r) ≡ true → becomes r ≡ s → All (Owner c becomes x s) (chain-of l c r)
   owned-old becomes x s r less file e = all-mem (Owner c becomes x s) (chain-of l c r) (λ k m. Owner.old r less file m e)
@@ -124,9 +119,9 @@ module _ {size : ℕ} {c : Card} (st : Start size c) (sound : Sound (layout-of c
       one-owner s r k (Owner.old a less file m e) (Owner.old b less′ file′ m′ e′) =
           ⊎-elim (λ q. sym e ∙ ap becomes q ∙ e′) (λ ne. absurd (sound .apart a b less less′ file file′ ne k m m′)) (same? a b)
       one-owner s r k (Owner.old a less file m e) (Owner.new none q) = absurd
-          (mem-all (Used l g) (chain-of l c a) (file-used st sound a less file) k m .busy none)
+          (mem-all (Used l g) (chain-of l c a) (file-used st a (sound .chains a less file)) k m .busy none)
       one-owner s r k (Owner.new none q) (Owner.old a less file m e) = absurd
-          (mem-all (Used l g) (chain-of l c a) (file-used st sound a less file) k m .busy none)
+          (mem-all (Used l g) (chain-of l c a) (file-used st a (sound .chains a less file)) k m .busy none)
       one-owner s r k (Owner.new none q) (Owner.new none′ q′) = q ∙ sym q′
 
       pub sound-then : ((s : ℕ) → s < l .entries → is-file (slot-at l t s) ≡ true → Owned s) → Sound l t

@@ -3,7 +3,7 @@
 use Prim.Native.Nat.{ℕ, zero, suc, _+_, _-_, _/_, _<_, min}
 use native.Mathlib.Omega.{arith}
 use mathlib.Core.Path.{_≡_, refl, sym, ap, _∙_, subst}
-use mathlib.Core.Logic.{_⊎_, ⊎-elim}
+use mathlib.Core.Logic.{⊎-elim}
 use mathlib.Core.List.{[], List·Memᴰ}
 use mathlib.Core.Bool.{Bool, true, false, not}
 use lib.Dec.{ltb, eqb}
@@ -141,7 +141,7 @@ module _ {size : ℕ} {c : Card} (st : Start size c) (y : Card) (boot : y 0 ≡ 
       file s less is = sym (ap is-file (slots s less)) ∙ is
 
       there : (s : ℕ) → s < l .entries → is-file (slot-at l y s) ≡ true → (k : ℕ) → List·Memᴰ k (chain-of l y s) → List·Memᴰ k (chain-of l c s)
-      there s less is k m = subst (λ ks. List·Memᴰ k ks) (chain-kept st sound s less (file s less is) y tables) m
+      there s less is k m = subst (λ ks. List·Memᴰ k ks) (chain-kept st s (sound .chains s less (file s less is)) less y tables) m
 
   -- ---- names and grounds
 

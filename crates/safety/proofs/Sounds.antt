@@ -32,7 +32,7 @@ use Rattle.model.proofs.Volumes.{window, layout-of, first-fat, volume-of}
 use Rattle.safety.proofs.Start.{Start}
 use Rattle.safety.proofs.Before.{start-rests}
 use Rattle.safety.proofs.Clusters.{Fresh}
-use Rattle.safety.proofs.Files.{file-used}
+use Rattle.safety.proofs.Files.{file-used, no-data}
 use Rattle.safety.proofs.Theorem.{after-calls}
 use Rattle.safety.proofs.Linked.{Off, all-zip, release-other, shorten-other, extend-other}
 use Rattle.safety.proofs.Ended.{Ended, ended, SameHead, same-size, same-directory, same-is-file}
@@ -46,7 +46,7 @@ use Rattle.safety.proofs.Granted.{truncate-granted, Enough, Appended, a
 use Rattle.safety.proofs.Moved.{finish-with, new-slot, old-slot, left-slot, rest-slot, rename-chain, rename-end, gone-slot, kept-slot, delete-end}
 use Rattle.safety.proofs.Cut.{cut-slot, cut-head, uncut-slot, cut-chain}
 use Rattle.safety.proofs.Grown.{grown-slot, grown-head, other-slot, grown-chain}
-use Rattle.safety.proofs.Others.{file-not-free, Spares, Owner, chains-apart, no-data, owned-old, other-same, Owned, owned-by, file-by, other-owned}
+use Rattle.safety.proofs.Others.{file-not-free, Spares, Owner, chains-apart, owned-old, other-same, Owned, owned-by, file-by, other-owned}
 use Rattle.safety.proofs.Others.{sound-then}
 use Rattle.safety.proofs.Means.{resized-means, create-means, rename-means, delete-means}
 use Rattle.safety.proofs.Saved.{started, volume-is}
@@ -165,7 +165,7 @@ module _ {size : ℕ} {c : Card} (st : Start size c) (is : clean (window size c)
   spared-fat : (x : ℕ) (f : Fat) → x < l .entries → is-file (d x) ≡ true → ((k : ℕ) → Used l (entry fat) k → Off (chain-of l c x) k → entry f k ≡ entry fat k)
       → (s : ℕ) → s < l .entries → is-file (d s) ≡ true → (s ≡ x → ⊥) → All (λ k. entry f k ≡ entry fat k) (chain-of l c s)
   spared-fat x f in-root it h s less file ne =
-      all-zip (Used l (entry fat)) (Off (chain-of l c x)) (λ k. entry f k ≡ entry fat k) h (chain-of l c s) (file-used st sound s less file)
+      all-zip (Used l (entry fat)) (Off (chain-of l c x)) (λ k. entry f k ≡ entry fat k) h (chain-of l c s) (file-used st s (sound .chains s less file))
       (chains-apart st sound s x less in-root file it ne)
 
   module _ (n : Span) (p : Program) (g : Deleted st is n p) {t : Card}

@@ -145,7 +145,7 @@ module _ (k : Call) (w : Window) (v : Volume) (real : Genuine w) (is : clean w �
   pub good-files : Sound l c → (b : Bool) (x : Card) → Goal Kind c all-made b x → SameFiles l x (settles-as b k w)
   good-files sound true x g = λ s less is i small. λ t. file-byte l ((g ∙ sym most-finishes) t) (file-at l ((g ∙ sym most-finishes) t) s) i
   good-files sound false x g = λ s less is i small.
-      let chains : chain-of l x s ≡ chain-of l c s = chain-kept the-start sound s less is x (λ n h. fun-ext (λ j. g n j (Wanted.table h))) in
+      let chains : chain-of l x s ≡ chain-of l c s = chain-kept the-start s (sound .chains s less is) less x (λ n h. fun-ext (λ j. g n j (Wanted.table h))) in
       along l x s (chain-of l c s) i chains ∙ g (file-sector l (chain-of l c s) (i / 512)) (i % 512) (Wanted.file (fair .spares sound s i less is small))
       ∙ sym (along l c s (chain-of l c s) i refl)
 

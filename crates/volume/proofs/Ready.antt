@@ -1,5 +1,5 @@
--- What a clean card is like: its FATs agree, and its log is the run that FAT1 marks.
-use mathlib.Core.Path.{_≡_, refl, sym, _∙_, subst}
+-- A window that is opened; what a clean card is like: its FATs agree, and its log is the run that FAT1 marks.
+use mathlib.Core.Path.{_≡_, refl, sym, ap, _∙_, subst}
 use mathlib.Core.Bool.{true}
 use mathlib.Core.List.{List, []}
 use Prim.Native.Nat.{ℕ, _+_, _*_}
@@ -7,12 +7,23 @@ use lib.ListN.{length, getD}
 use Rattle.model.specs.Sector.{card-of}
 use Rattle.model.specs.Fat.{fat1-of, fat2-of, fats-agree, write-fat}
 use Rattle.model.specs.Log.{run, run-ok, area}
+use Rattle.model.specs.Ground.{Answer}
 use Rattle.model.specs.declared.Volume.{Volume}
 use Rattle.model.specs.declared.Pending.the-variants as Pending
 use Rattle.model.proofs.Cards.{clip-clip}
 use Rattle.model.proofs.Fats.{agree-at, write-none}
 use Rattle.model.proofs.Volumes.{volume-of, cleaned, fit-run}
-use Rattle.volume.specs.Opened.{Ready}
+use Rattle.volume.specs.Examined.{examined-of, Carries}
+use Rattle.volume.specs.Opened.{Opened, Ready}
+use Rattle.volume.specs.declared.Examined.{Examined}
+use Rattle.volume.specs.declared.Examined.the-variants.{Granted}
+
+-- The grounds that a call asks give a volume.
+pub opened-with : (asked : Answer Volume) (xs : List ℕ) (r : Examined) → (examined-of r ≡ asked) × Carries xs r → (v : Volume) → r ≡ Granted v
+    → Opened asked v xs
+opened-with asked xs r h v e =
+    let k : Carries xs (Granted v) = rw e at (h .1) in
+    record { passes = sym (h .0) ∙ ap examined-of e; held = k .0; lies = k .1 }
 
 module _ (v : Volume) (xs : List ℕ) (h : Ready v xs) where
   is-volume : volume-of (card-of xs) Pending.Nothing ≡ v

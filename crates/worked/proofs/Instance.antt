@@ -1,30 +1,25 @@
 -- The premises of demand 3 hold of card K: its window, that of the rows, is genuine and clean.
-use Prim.Native.Nat.{ℕ, _+_, _-_, _/_, _%_, _^_, _<_}
-use native.Mathlib.Nat.{mod-lt}
+use Prim.Native.Nat.{ℕ, _%_, _<_}
 use native.Mathlib.Omega.{arith}
 use mathlib.Core.List.{List}
 use mathlib.Core.Bool.{_&&_, _||_}
 use lib.Dec.{leb, ltb, eqb}
-use Rattle.model.specs.Bytes.{Bytes, pick, patch, overlay, byte-of, zeros}
+use Rattle.model.specs.Bytes.{Bytes, pick, zeros}
 use Rattle.operations.specs.Calls.{Call}
 use Rattle.operations.specs.Outcome.{left}
 use Rattle.safety.specs.Demand3.{Genuine, Settles, group-stored, recoveries}
 use Rattle.model.proofs.Tests.{by-pick}
 use Rattle.model.proofs.Cards.{clip-clip}
+use Rattle.safety.proofs.Bytewise.{patched}
 use Rattle.safety.proofs.Theorem.{demand3}
 use Rattle.worked.specs.CardK.{boot-sector, log-fat, card-k, window-k, k}
 use Rattle.worked.specs.Worked.{volume-k}
 use Rattle.worked.proofs.Rows.{first-row}
 
-patch-small : (n v at : ℕ) (b : Bytes) → ((j : ℕ) → b j < 256) → (j : ℕ) → patch n v at b j < 256
-unfolding overlay byte-of
-patch-small n v at b h j = by-pick (λ x. x < 256) (leb at j && ltb j (at + n)) (v / 256 ^ (j - at) % 256) (b j)
-    (λ _. mod-lt (v / 256 ^ (j - at)) (omega arith)) (λ _. h j)
-
 boot-small : (j : ℕ) → boot-sector 16 4150 0 j < 256
 unfolding boot-sector
-boot-small = patch-small 2 512 11 _ (patch-small 1 1 13 _ (patch-small 2 1 14 _ (patch-small 1 2 16 _ (patch-small 2 512 17 _
-    (patch-small 2 4150 19 _ (patch-small 2 16 22 _ (patch-small 4 0 32 _ (patch-small 2 0xAA55 510 zeros (λ j. omega arith)))))))))
+boot-small = patched 2 512 11 _ (patched 1 1 13 _ (patched 2 1 14 _ (patched 1 2 16 _ (patched 2 512 17 _
+    (patched 2 4150 19 _ (patched 2 16 22 _ (patched 4 0 32 _ (patched 2 0xAA55 510 zeros (λ j. omega arith)))))))))
 
 fat-small : (j : ℕ) → log-fat j < 256
 unfolding log-fat

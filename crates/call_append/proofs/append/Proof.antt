@@ -2,6 +2,7 @@ use mathlib.Core.Path.{sym, ap, _∙_}
 use Rattle.model.specs.Bytes.{view}
 use Rattle.model.specs.Sector.{window-of}
 use Rattle.volume.specs.Examined.{examined-of}
+use Rattle.volume.proofs.Ready.{opened-with}
 use Rattle.log_steps.proofs.Ends.{did-refused}
 use Rattle.call_append.proofs.Laws.{append-refused, append-clean}
 use borrow.Author.Needs.{needs}
@@ -13,11 +14,7 @@ use Rattle.call_append.proofs.append_on.Reads as append-on-reads
 use Rattle.volume.proofs.clean.Reads as clean-reads
 
 append-on-requires : tie.Need-append-on-requires
-append-on-requires c κs =
-    let clean = c .before .before .before .before .clean in
-    let e2 = c .before .before .e2 in
-    let k = rw (e2 .given .1) at (clean .ensures .1) in
-    record { passes = sym (clean .ensures .0) ∙ ap examined-of (e2 .given .1); held = k .0; lies = k .1 }
+append-on-requires c κs = opened-with _ _ _ (c .before .before .before .before .clean .ensures) _ (c .before .before .e2 .given .1)
 
 returns : tie.Need-returns
 returns c =

@@ -1,6 +1,7 @@
 use mathlib.Core.Path.{sym, ap, _∙_}
 use Rattle.model.specs.Sector.{window-of}
 use Rattle.volume.specs.Examined.{examined-of}
+use Rattle.volume.proofs.Ready.{opened-with}
 use Rattle.log_steps.proofs.Ends.{did-refused}
 use Rattle.call_recover.proofs.Laws.{recover-refused, recover-granted}
 use borrow.Author.Needs.{needs}
@@ -12,11 +13,7 @@ use Rattle.call_recover.proofs.recover_on.Reads as recover-on-reads
 use Rattle.volume.proofs.examine.Reads as examine-reads
 
 recover-on-requires : tie.Need-recover-on-requires
-recover-on-requires c κs =
-    let examine = c .before .before .before .before .examine in
-    let e2 = c .before .before .e2 in
-    let k = rw (e2 .given .1) at (examine .ensures .1) in record
-    { passes = sym (examine .ensures .0) ∙ ap examined-of (e2 .given .1); held = k .0; lies = k .1 }
+recover-on-requires c κs = opened-with _ _ _ (c .before .before .before .before .examine .ensures) _ (c .before .before .e2 .given .1)
 
 returns : tie.Need-returns
 returns c =

@@ -2,6 +2,7 @@ use mathlib.Core.Path.{sym, ap, _∙_}
 use Rattle.model.specs.Bytes.{view}
 use Rattle.model.specs.Sector.{window-of}
 use Rattle.volume.specs.Examined.{examined-of}
+use Rattle.volume.proofs.Ready.{opened-with}
 use Rattle.log_steps.proofs.Ends.{did-refused}
 use Rattle.call_truncate.proofs.Laws.{delete-refused, delete-granted}
 use borrow.Author.Needs.{needs}
@@ -13,7 +14,7 @@ use Rattle.call_truncate.proofs.delete_on.Reads as delete-on-reads
 use Rattle.volume.proofs.clean.Reads as clean-reads
 
 delete-on-requires : tie.Need-delete-on-requires
-delete-on-requires c κs = rw (c .before .before .e2 .given .1) at (c .before .before .before .before .clean .ensures .1)
+delete-on-requires c κs = opened-with _ _ _ (c .before .before .before .before .clean .ensures) _ (c .before .before .e2 .given .1)
 
 returns : tie.Need-returns
 returns c =

@@ -21,7 +21,7 @@ shorten-requires c κs =
     let s = p .1 .seated .slot in (
       p .0,
       (
-        rw (k .clusters-for .ensures) (all-inside (a .v .layout) (p .0 .0 .fits) (old-fat (a .v) (card-of (a .w .now))) (a .f) (p .1 .chain)),
+        rw (k .clusters-for .ensures) (all-inside (a .v .layout) (p .0 .held .fits) (old-fat (a .v) (card-of (a .w .now))) (a .f) (p .1 .chain)),
         subst (Slots (a .v .layout .entries)) (sym (c .plain .ensures)) ((s, s), tt),
       ),
     )

@@ -1,8 +1,9 @@
+use mathlib.Core.List.{[]}
 use borrow.Author.Tests.{not-true, not-false}
 use Rattle.model.specs.Sector.{card-of}
 use Rattle.operations.specs.Plan.{old-fat}
 use Rattle.fat_release.specs.Release.{cut}
-use Rattle.call_truncate.proofs.Steps.{steps-cut, steps-ran}
+use Rattle.log_steps.proofs.Parts.{operate-cut, operate-ran}
 use borrow.Author.Needs.{needs}
 use Rattle.call_truncate.proofs.shorten.Statement.{statement}
 use Rattle.call_truncate.proofs.shorten.Tie as tie
@@ -19,8 +20,8 @@ returns c =
     let a = c .before .before .before .before .before .before .before .before .args in
     let end = not-true (shorten-fat .result .whole) (c .if1 .taken) in
     rw end
-    (steps-cut (a .v) (cut (old-fat (a .v) (card-of (a .w .now))) (a .c .kept) (a .c .from) (a .c .freed)) (a .x) (pre .0 .0 .fits .shape)
-    (pre .0 .1) (a .limit) (a .w .now) _ _ (rw end at (shorten-fat .ensures)))
+    (operate-cut (a .v) [] (cut (old-fat (a .v) (card-of (a .w .now))) (a .c .kept) (a .c .from) (a .c .freed)) (a .x)
+    (pre .0 .held .fits .shape) (pre .0 .lies .above) (λ s less. tt) (a .limit) (a .w .now) _ _ (rw end at (shorten-fat .ensures)))
 
 returns-2 : tie.Need-returns-2
 returns-2 c =
@@ -30,8 +31,9 @@ returns-2 c =
     let log-steps = c .before .before .before .log-steps in
     let a = c .before .before .before .before .before .before .before .before .before .before .before .before .before .before .args in
     rw (c .joined .ensures .0, c .joined .ensures .1)
-    (steps-ran (a .v) (cut (old-fat (a .v) (card-of (a .w .now))) (a .c .kept) (a .c .from) (a .c .freed)) (a .x) (pre .0 .0 .fits .shape)
-    (pre .0 .1) (a .limit) (a .w .now) _ _ (rw (not-false (shorten-fat .result .whole) (if1 .left)) at (shorten-fat .ensures)) _ _ _
+    (operate-ran (a .v) [] (cut (old-fat (a .v) (card-of (a .w .now))) (a .c .kept) (a .c .from) (a .c .freed)) (a .x)
+    (pre .0 .held .fits .shape) (pre .0 .lies .above) (λ s less. tt) (a .limit) (a .w .now) _ _
+    (rw (not-false (shorten-fat .result .whole) (if1 .left)) at (shorten-fat .ensures)) _ _ _
     (log-steps .ensures))
 
 pub shorten-spec : {M : Type 1} → statement M

@@ -2,6 +2,7 @@ use mathlib.Core.Path.{sym, ap, _∙_}
 use Rattle.model.specs.Bytes.{view}
 use Rattle.model.specs.Sector.{window-of}
 use Rattle.volume.specs.Examined.{examined-of}
+use Rattle.volume.proofs.Ready.{opened-with}
 use Rattle.log_steps.proofs.Ends.{did-refused}
 use Rattle.call_truncate.proofs.Laws.{truncate-refused, truncate-granted}
 use borrow.Author.Needs.{needs}
@@ -13,7 +14,7 @@ use Rattle.call_truncate.proofs.truncate_on.Reads as truncate-on-reads
 use Rattle.volume.proofs.clean.Reads as clean-reads
 
 truncate-on-requires : tie.Need-truncate-on-requires
-truncate-on-requires c κs = rw (c .before .before .e2 .given .1) at (c .before .before .before .before .clean .ensures .1)
+truncate-on-requires c κs = opened-with _ _ _ (c .before .before .before .before .clean .ensures) _ (c .before .before .e2 .given .1)
 
 returns : tie.Need-returns
 returns c =

@@ -12,7 +12,7 @@ use Rattle.call_truncate.proofs.cut_at.Reads as cut-at-reads
 use Rattle.call_truncate.proofs.shorten.Reads as shorten-reads
 
 cut-at-requires : tie.Need-cut-at-requires
-cut-at-requires c κs = (c .before .before .before .pre .0 .0, c .before .before .before .pre .1 .0 .chain, omega arith)
+cut-at-requires c κs = (c .before .before .before .pre .0 .held, c .before .before .before .pre .1 .0 .chain, omega arith)
 
 shorten-requires : tie.Need-shorten-requires
 unfolding edits operation-edits
