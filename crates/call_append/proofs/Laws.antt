@@ -33,15 +33,15 @@ use Rattle.fat_read.specs.Located.{holds}
 use Rattle.volume.specs.Opened.{Ready}
 use Rattle.volume.proofs.Ready.{ready-run, ready-log}
 use Rattle.file_read.specs.Files.{Proper}
-use Rattle.fat_link.specs.Allocate.{grown}
-use Rattle.fat_link.proofs.Extends.{extend-grown}
+use Rattle.fat_write.specs.Allocate.{grown}
+use Rattle.fat_write.proofs.Extends.{extend-grown}
+use Rattle.fat_write.proofs.Kept.{free-kept, grown-kept}
 use Rattle.file_append.specs.Extents.{append-data, Room}
 use Rattle.file_append.proofs.Clusters.{indices-next}
 use Rattle.file_append.proofs.Apart.{append-inside, append-off-log}
 use Rattle.log_steps.specs.Steps.{log-steps}
 use Rattle.log_steps.proofs.Parts.{operate-cut, operate-ran}
 use Rattle.call_append.specs.Append.{append-to, append-on, chain-stores, first-of}
-use Rattle.fat_link.proofs.Kept.{free-kept, grown-kept}
 
 -- ---- grounds
 

@@ -14,7 +14,7 @@ use Rattle.model.specs.declared.Ground.the-variants as Ground
 use Rattle.operations.specs.Program.{Program}
 use Rattle.operations.specs.Plan.{added, append-stores}
 use Rattle.operations.specs.Calls.{file-of, unless-none}
-use Rattle.fat_link.specs.Allocate.{grown}
+use Rattle.fat_write.specs.Allocate.{grown}
 use Rattle.file_append.specs.Extents.{append-data}
 
 -- To a file that was found,

@@ -22,7 +22,7 @@ fn recover_on(w: &mut [u8], v: Volume, limit: u32) -> Outcome
         Pending::Broken => Outcome::Done(0),
         Pending::Held(s) => {
             let g = log_group::group_at(w, s);
-            log_steps::ended(log_redo::redo(w, l, g, limit))
+            log_steps::ended(log_steps::redo(w, l, g, limit))
         }
     }
 }

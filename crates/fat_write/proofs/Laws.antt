@@ -17,14 +17,14 @@ use Rattle.model.specs.declared.Layout.{Layout}
 use Rattle.model.proofs.Entries.{release-local}
 use Rattle.fat_copy.specs.Change.{lead, renewal, sectors-of, own-fat}
 use Rattle.fat_copy.proofs.Laws.{renewal-same, renewals, next-kept, fat-kept}
-use Rattle.fat_link.specs.Allocate.{grown, news, Above, Moved}
-use Rattle.fat_link.proofs.Grown.{grown-some}
 use Rattle.fat_read.specs.Located.{holds}
-use Rattle.fat_link.proofs.Passes.{linked}
-use Rattle.fat_link.proofs.Passes.{unchanged as stays}
 use Rattle.fat_release.specs.Release.{cut, cleared, mark-of, Inside, Marked}
 use Rattle.fat_release.proofs.Laws.{cleared-is, own-chain, cut-none, cut-some}
+use Rattle.fat_write.specs.Allocate.{grown, news, Above, Moved}
 use Rattle.fat_write.specs.Renew.{renewed, passed}
+use Rattle.fat_write.proofs.Grown.{grown-some}
+use Rattle.fat_write.proofs.Passes.{linked}
+use Rattle.fat_write.proofs.Passes.{unchanged as stays}
 
 -- ---- a sector
 

@@ -1,1 +1,2 @@
+pub mod Allocate
 pub mod Renew

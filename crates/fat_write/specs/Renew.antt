@@ -8,7 +8,7 @@ use Rattle.model.specs.Fat.{Fat, entry, link, release}
 use Rattle.model.specs.Chain.{chain}
 use Rattle.model.specs.declared.Layout.{Layout}
 use Rattle.fat_copy.specs.Change.{lead}
-use Rattle.fat_link.specs.Allocate.{news}
+use Rattle.fat_write.specs.Allocate.{news}
 
 -- `last`, the last cluster kept (0 where none is), leads to the first of the clusters `new`, each of these to the next, and the
 -- end of the chain follows; the entries of the clusters `freed` are 0. Where nothing is new and nothing freed, all stays.

@@ -4,15 +4,77 @@ use model::Progress;
 ghost use mathlib.Core.Path.{_≡_};
 ghost use mathlib.Core.Bool.{false};
 ghost use Prim.Native.Nat.{ℕ, _+_, _*_, _/_, _%_, _≤_, _<_};
-ghost use lib.ListN.{length, take};
+ghost use lib.ListN.{length, getD, take};
 ghost use Rattle.model.specs.Sector.{card-of};
 ghost use Rattle.model.specs.Fat.{entry, fat1-of, fat2-of, free-clusters, link, write-fat};
 ghost use Rattle.model.specs.Chain.{chain};
 ghost use Rattle.model.specs.Promises.{Held, Ran};
 ghost use Rattle.fat_copy.specs.Change.{lead, own-fat, renewal};
-ghost use Rattle.fat_link.specs.Allocate.{grown, news, Cursor, Above, Moved};
 ghost use Rattle.fat_release.specs.Release.{cut, cleared, mark-of, Inside};
+ghost use Rattle.fat_write.specs.Allocate.{grown, news, following, NextNew, Above, Moved};
 ghost use Rattle.fat_write.specs.Renew.{renewed, passed};
+
+// A sector with its new values, and the new cluster that comes after it, with how many are left.
+pub struct Built {
+    pub buf: [u8; 512],
+    pub at: u32,
+    pub left: u32,
+}
+
+// What new cluster `at` leads to: the next, or the end where it is the last.
+fn next_new(w: &[u8], l: Layout, at: u32, left: u32) -> u32
+    requires { ⌜ Held l (now w) × (at < l .clusters + 2) ⌝ }
+    ensures { λ r. ⌜ (r ≡ following l (own-fat l (now (w .entry))) at left) × (r < 65536) ⌝ }
+{
+    if left == 1 {
+        return 0xFFFF;
+    }
+    fat_read::find_entry(w, l.fat1, at + 1, l.clusters + 1 - at, 0)
+}
+
+// Sector s of FAT1 with `last` leading to `first`, and the new clusters in it linked.
+fn link_sector(w: &[u8], l: Layout, s: u32, last: u32, first: u32, at: u32, left: u32) -> Built
+    requires { ⌜ Held l (now w) × (s < l .fatsize) × (first < 65536) × NextNew l (own-fat l (now w)) at left × Above s at left ⌝ }
+    ensures { λ r. ⌜
+        ((j : ℕ) → j < 512 → getD (r .buf) j 0 ≡ link (news l (own-fat l (now (w .entry))) at left) (lead last first (own-fat l (now (w .entry)))) s
+        j) × Moved l (own-fat l (now (w .entry))) (s + 1) at left (r .at) (r .left) × Above (s + 1) (r .at) (r .left) ⌝ }
+{
+    let end = 256 * (s + 1);
+    let mut buf = fat_copy::load_leading(w, l.fat1, s, last, first);
+    let mut k = at;
+    let mut n = left;
+    while 0 < n {
+        if end <= k {
+            return Built {
+                buf,
+                at: k,
+                left: n,
+            };
+        }
+        let next = next_new(w, l, k, n);
+        fat_copy::put_entry(&mut buf, k, next);
+        k = next;
+        n -= 1;
+    }
+    Built {
+        buf,
+        at: k,
+        left: n,
+    }
+}
+
+// Whether sector s may hold `last` or a new cluster.
+fn gains_links(s: u32, last: u32, at: u32, left: u32) -> bool
+    ensures { λ r. ⌜ (r ≡ false → (s ≡ last / 256 → ⊥) × (0 < left → s ≡ at / 256 → ⊥)) ⌝ }
+{
+    if last / 256 == s {
+        return true;
+    }
+    if left == 0 {
+        return false;
+    }
+    at / 256 == s
+}
 
 // What a sector's turn made, and the new cluster that comes after it, with how many are left.
 pub struct Turn {
@@ -28,7 +90,7 @@ fn is_changed(marks: &[u8], s: u32, last: u32, at: u32, left: u32) -> bool
     ensures { λ r. ⌜
         (r ≡ false → (s ≡ last / 256 → ⊥) × (0 < left → s ≡ at / 256 → ⊥) × ((i : ℕ) → i < 256 → mark-of (now (marks .entry)) (256 * (s % 32) + i) ≡ 0)) ⌝ }
 {
-    if fat_link::is_changed(s, last, at, left) {
+    if gains_links(s, last, at, left) {
         return true;
     }
     fat_release::has_mark(marks, 256 * sector::index(s % 32))
@@ -48,7 +110,7 @@ fn renew_sector(
     limit: u32,
 ) -> Turn
     requires { ⌜
-        Held l (now w) × (s < l .fatsize) × (value < 65536) × Cursor l (own-fat l (now w)) at left × Above s at left × (length (now marks) % 1024 ≡ 0) ⌝ }
+        Held l (now w) × (s < l .fatsize) × (value < 65536) × NextNew l (own-fat l (now w)) at left × Above s at left × (length (now marks) % 1024 ≡ 0) ⌝ }
     ensures { λ r. ⌜
         Ran limit
         (renewal (l .fat2 + s)
@@ -65,7 +127,7 @@ fn renew_sector(
             left,
         };
     }
-    let b = fat_link::link_sector(w, l, s, last, value, at, left);
+    let b = link_sector(w, l, s, last, value, at, left);
     let mut buf = b.buf;
     fat_release::clear_marked(&mut buf, marks, 256 * sector::index(s % 32));
     let p = fat_copy::store_changed(w, l.fat2 + s, &buf, limit);
@@ -91,7 +153,7 @@ fn renew_all(
     marks: &mut [u8],
     limit: u32,
 ) -> Progress
-    requires { ⌜ Held l (now w) × (value < 65536) × Cursor l (own-fat l (now w)) first n × Inside l (chain (entry (own-fat l (now w))) m old) ⌝ }
+    requires { ⌜ Held l (now w) × (value < 65536) × NextNew l (own-fat l (now w)) first n × Inside l (chain (entry (own-fat l (now w))) m old) ⌝ }
     requires { ⌜ (length (now marks) % 1024 ≡ 0) × (0 < m → length (now marks) ≡ 1024) ⌝ }
     ensures { λ r. ⌜
         Ran limit (write-fat l (l .fat2) (passed l (own-fat l (now (w .entry))) last value first n m old) (fat2-of l (card-of (now (w .entry)))))

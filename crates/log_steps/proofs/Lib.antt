@@ -1,3 +1,4 @@
+pub mod Kept
 pub mod Laws
 pub mod Ends
 pub mod Parts

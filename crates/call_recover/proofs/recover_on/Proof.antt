@@ -17,7 +17,7 @@ use Rattle.call_recover.proofs.recover_on.Lts as lts
 use Rattle.log_group.proofs.group_at.Reads as group-at-reads
 use Rattle.fat_copy.proofs.to_fat2.Reads as to-fat2-reads
 use Rattle.log_steps.proofs.ended.Reads as ended-reads
-use Rattle.log_redo.proofs.redo.Reads as redo-reads
+use Rattle.log_steps.proofs.redo.Reads as redo-reads
 
 group-at-requires : tie.Need-group-at-requires
 group-at-requires c κs =

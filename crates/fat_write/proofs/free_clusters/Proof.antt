@@ -4,10 +4,10 @@ use native.Mathlib.Omega.{arith}
 use Rattle.model.specs.Chain.{chain}
 use Rattle.fat_copy.specs.Change.{own-fat}
 use Rattle.fat_copy.proofs.Laws.{write-same}
-use Rattle.fat_link.proofs.News.{no-cursor}
 use Rattle.fat_release.specs.Release.{cut}
 use Rattle.fat_release.proofs.Laws.{own-chain}
 use Rattle.fat_write.specs.Renew.{passed}
+use Rattle.fat_write.proofs.News.{no-new}
 use Rattle.fat_write.proofs.Laws.{passed-none, passed-cut}
 use borrow.Author.Needs.{needs}
 use Rattle.fat_write.proofs.free_clusters.Statement.{statement}
@@ -18,7 +18,7 @@ use Rattle.fat_write.proofs.renew_all.Reads as renew-all-reads
 
 renew-all-requires : tie.Need-renew-all-requires
 unfolding chain
-renew-all-requires c κs = ((search needs, search needs, no-cursor _ _, tt), (c .before .before .before .before .before .pre .1 .0, λ p. absurd (omega arith)))
+renew-all-requires c κs = ((search needs, search needs, no-new _ _, tt), (c .before .before .before .before .before .pre .1 .0, λ p. absurd (omega arith)))
 
 returns : tie.Need-returns
 returns c = let a = c .before .before .before .before .before .before .before .before .before .before .args in
@@ -34,7 +34,7 @@ renew-all-requires-2 : tie.Need-renew-all-requires-2
 renew-all-requires-2 c κs =
     let h0 = c .before .before .before .before .before .pre in
     let a = c .before .before .before .before .before .args in (
-      (search needs, search needs, no-cursor _ _, rw (own-chain (a .l) (card-of (a .w .now)) (h0 .0 .0 .fits .shape) (a .m) (a .old) (h0 .0 .1)) (h0 .0 .1)),
+      (search needs, search needs, no-new _ _, rw (own-chain (a .l) (card-of (a .w .now)) (h0 .0 .0 .fits .shape) (a .m) (a .old) (h0 .0 .1)) (h0 .0 .1)),
       h0 .1,
     )
 

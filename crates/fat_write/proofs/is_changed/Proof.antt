@@ -9,7 +9,7 @@ returns c = λ e. clash refl e
 
 returns-2 : tie.Need-returns-2
 returns-2 c = λ e.
-    let away = c .before .before .before .is-changed .ensures (c .before .before .if1 .left) in
+    let away = c .before .before .before .gains-links .ensures (c .before .before .if1 .left) in
     (away .0, away .1, rw (c .before .index .ensures) at (c .has-mark .ensures e))
 
 pub is-changed-spec : {M : Type 1} → statement M

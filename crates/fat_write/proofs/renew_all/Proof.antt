@@ -11,11 +11,11 @@ use Rattle.model.specs.Promises.{Ran, up-to}
 use Rattle.model.proofs.Runs.{turns-none, turns-more, turns-cut}
 use Rattle.fat_copy.specs.Change.{own-fat}
 use Rattle.fat_copy.proofs.Laws.{renewals, write-turns}
-use Rattle.fat_link.specs.Allocate.{Above, Moved}
-use Rattle.fat_link.proofs.Passes.{moved-then}
 use Rattle.fat_release.specs.Release.{Marked}
 use Rattle.fat_release.proofs.Laws.{next-marks}
+use Rattle.fat_write.specs.Allocate.{Above, Moved}
 use Rattle.fat_write.specs.Renew.{passed}
+use Rattle.fat_write.proofs.Passes.{moved-then}
 use Rattle.fat_write.proofs.Laws.{fat-same, turn-same}
 use borrow.Author.Needs.{needs}
 use Rattle.fat_write.proofs.renew_all.Statement.{statement}
@@ -41,7 +41,7 @@ loop-holds c = (
   refl,
   turns-none _ _ _,
   λ ne. absurd (ne refl),
-  record { cursor = c .before .before .pre .0 .2; later = λ f r le. refl },
+  record { next = c .before .before .pre .0 .2; later = λ f r le. refl },
   λ h. omega
       arith,
 )
@@ -62,7 +62,7 @@ renew-sector-requires c κs =
     let o = c .before .before .before .before .before .before .before .before .before .loop in
     let same = fat-same (a .l) (h0 .0 .0 .fits .shape) (a .last) (a .value) (a .first) (a .n) (a .m) (a .old) (a .limit) (a .w .now) (o .w) (o .s) (o .made)
     (o .inv .3) in
-    (search needs, search needs, search needs, rw same (o .inv .5 .cursor), o .inv .6, omega (arith, o .inv .2, h0 .1 .0))
+    (search needs, search needs, search needs, rw same (o .inv .5 .next), o .inv .6, omega (arith, o .inv .2, h0 .1 .0))
 
 returns : tie.Need-returns Inv-loop μ-loop
 returns c =

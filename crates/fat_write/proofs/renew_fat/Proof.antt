@@ -6,9 +6,9 @@ use Rattle.model.specs.Fat.{entry, fat1-of, fat2-of, free-clusters}
 use Rattle.model.specs.Chain.{chain}
 use Rattle.fat_copy.specs.Change.{own-fat}
 use Rattle.fat_copy.proofs.Laws.{write-same}
-use Rattle.fat_link.proofs.Grown.{own-first, first-cursor}
 use Rattle.fat_release.proofs.Laws.{own-chain}
 use Rattle.fat_write.specs.Renew.{renewed, passed}
+use Rattle.fat_write.proofs.Grown.{own-first, new-first}
 use Rattle.fat_write.proofs.Laws.{renewed-cut, passed-some}
 use borrow.Author.Needs.{needs}
 use Rattle.fat_write.proofs.renew_fat.Statement.{statement}
@@ -36,7 +36,7 @@ renew-all-requires c κs =
       (
         search needs,
         omega (arith, find-entry .ensures .2, h0 .0 .0 .fits .shape .few),
-        first-cursor (a .l) x (h0 .0 .0 .fits .shape) (a .n) (find-entry .result) (h0 .0 .1)
+        new-first (a .l) x (h0 .0 .0 .fits .shape) (a .n) (find-entry .result) (h0 .0 .1)
             (find-entry .ensures .0 ∙ own-first (a .l) x 2 (a .l .clusters) (omega (arith, h0 .0 .0))),
         rw (own-chain (a .l) x (h0 .0 .0 .fits .shape) (a .m) (a .old) (h0 .0 .2)) (h0 .0 .2),
       ),

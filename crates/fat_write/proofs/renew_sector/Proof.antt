@@ -6,9 +6,9 @@ use Rattle.model.specs.Bytes.{Bytes, bytes-of}
 use Rattle.model.specs.Sector.{card-of}
 use Rattle.fat_copy.specs.Change.{own-fat}
 use Rattle.fat_copy.proofs.Laws.{own-sector, renewal-same}
-use Rattle.fat_link.proofs.Passes.{linked}
 use Rattle.fat_release.specs.Release.{cleared}
 use Rattle.fat_release.proofs.Laws.{cleared-of}
+use Rattle.fat_write.proofs.Passes.{linked}
 use Rattle.fat_write.proofs.Laws.{unchanged}
 use borrow.Author.Needs.{needs}
 use Rattle.fat_write.proofs.renew_sector.Statement.{statement}
@@ -29,7 +29,7 @@ returns c =
           (λ j h. unchanged (a .marks .now) (a .l) t (a .s) (a .last) (a .value) (a .at) (a .left) (q .0) up (q .2) j h ∙ ap (λ (b : Bytes). b j)
           (own-sector (a .l) (card-of xs) (a .s) (h0 .1))))
           (c .before .before .copy-changed .ensures),
-      record { cursor = h0 .3; later = λ f r le. refl },
+      record { next = h0 .3; later = λ f r le. refl },
       up,
     )
 

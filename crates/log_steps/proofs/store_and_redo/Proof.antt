@@ -5,7 +5,7 @@ use Rattle.log_steps.proofs.store_and_redo.Statement.{statement}
 use Rattle.log_steps.proofs.store_and_redo.Tie as tie
 use Rattle.log_steps.proofs.store_and_redo.Reads as reads
 use Rattle.log_steps.proofs.store_and_redo.Lts as lts
-use Rattle.log_redo.proofs.redo.Reads as redo-reads
+use Rattle.log_steps.proofs.redo.Reads as redo-reads
 use Rattle.log_write.proofs.store_group.Reads as store-group-reads
 use Rattle.sector.proofs.joined.Reads as joined-reads
 

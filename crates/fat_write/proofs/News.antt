@@ -18,7 +18,7 @@ use Rattle.model.proofs.Indices.{indices-all}
 use Rattle.model.proofs.Entries.{link-local}
 use Rattle.model.proofs.Searches.{indices-here, indices-first}
 use Rattle.fat_read.specs.Located.{holds}
-use Rattle.fat_link.specs.Allocate.{free-from, news, following, Cursor, Above}
+use Rattle.fat_write.specs.Allocate.{free-from, news, following, NextNew, Above}
 
 module _ (l : Layout) (t : Fat) where
   -- ---- the free clusters from k on
@@ -59,8 +59,8 @@ module _ (l : Layout) (t : Fat) where
   news-head k zero pos h e = absurd (omega arith)
   news-head k (suc n) pos h e = let f : suc n - 1 ≡ n = omega arith in rw (f, free-here k h e)
 
-  pub no-cursor : Cursor l t 0 0
-  no-cursor = record { enough = omega arith; inside = λ h. absurd (omega arith); free = λ h. absurd (omega arith) }
+  pub no-new : NextNew l t 0 0
+  no-new = record { enough = omega arith; inside = λ h. absurd (omega arith); free = λ h. absurd (omega arith) }
 
   -- None of them lies in sector s, if the first lies after it.
   pub news-away : (s k n : ℕ) → Above (s + 1) k n → All (λ i. s ≡ i / 256 → ⊥) (news l t k n)
@@ -79,7 +79,7 @@ module _ (l : Layout) (t : Fat) where
   unfolding following
   following-next k n e = rw (ne-eqb n 1 e)
 
-  module _ (k n : ℕ) (cur : Cursor l t k (suc n)) where
+  module _ (k n : ℕ) (cur : NextNew l t k (suc n)) where
     rest : free-from l t k ≡ k ∷ free-from l t (after-it k)
     rest =
         let h : k < l .clusters + 2 = cur .inside (omega arith) in
@@ -100,19 +100,19 @@ module _ (l : Layout) (t : Fat) where
     next-above = let h : k + 1 ≤ after-it k = first-ge free (k + 1) (l .clusters + 1 - k) in omega arith
 
   -- What is left after the first of n new clusters; linking n is setting the first's entry and linking the rest.
-  pub next-cursor : (k n : ℕ) → 0 < n → Cursor l t k n → Cursor l t (following l t k n) (n - 1)
-  next-cursor k zero pos cur = absurd (omega arith)
-  next-cursor k (suc zero) pos cur = record { enough = omega arith; inside = λ h. absurd (omega arith); free = λ h. absurd (omega arith) }
-  next-cursor k (suc (suc n)) pos cur =
+  pub new-after : (k n : ℕ) → 0 < n → NextNew l t k n → NextNew l t (following l t k n) (n - 1)
+  new-after k zero pos cur = absurd (omega arith)
+  new-after k (suc zero) pos cur = record { enough = omega arith; inside = λ h. absurd (omega arith); free = λ h. absurd (omega arith) }
+  new-after k (suc (suc n)) pos cur =
       let f : suc (suc n) - 1 ≡ suc n = omega arith in
       rw (f, following-next k (suc (suc n)) (λ e. omega arith))
       (record { enough = many k (suc n) cur; inside = next-inside k (suc n) cur; free = next-free k (suc n) cur })
 
-  pub next-later : (k n : ℕ) → 0 < n - 1 → Cursor l t k n → k < following l t k n
+  pub next-later : (k n : ℕ) → 0 < n - 1 → NextNew l t k n → k < following l t k n
   next-later k zero pos cur = absurd (omega arith)
   next-later k (suc n) pos cur = rw (following-next k (suc n) (λ e. omega arith)) (next-above k n cur)
 
-  pub link-news : (k n : ℕ) → 0 < n → Cursor l t k n → (f : Fat)
+  pub link-news : (k n : ℕ) → 0 < n → NextNew l t k n → (f : Fat)
       → link (news l t k n) f ≡ link (news l t (following l t k n) (n - 1)) (set-entry k (following l t k n) f)
   unfolding news link
   link-news k zero pos cur f = absurd (omega arith)

@@ -3,13 +3,13 @@ use Prim.Native.Nat.{_+_, _-_}
 use native.Mathlib.Omega.{arith}
 use Rattle.model.specs.Sector.{card-of}
 use Rattle.fat_copy.specs.Change.{own-fat}
-use Rattle.fat_link.proofs.News.{following-end, following-next}
-use Rattle.fat_link.proofs.Grown.{own-first}
+use Rattle.fat_write.proofs.News.{following-end, following-next}
+use Rattle.fat_write.proofs.Grown.{own-first}
 use borrow.Author.Needs.{needs}
-use Rattle.fat_link.proofs.next_new.Statement.{statement}
-use Rattle.fat_link.proofs.next_new.Tie as tie
-use Rattle.fat_link.proofs.next_new.Reads as reads
-use Rattle.fat_link.proofs.next_new.Lts as lts
+use Rattle.fat_write.proofs.next_new.Statement.{statement}
+use Rattle.fat_write.proofs.next_new.Tie as tie
+use Rattle.fat_write.proofs.next_new.Reads as reads
+use Rattle.fat_write.proofs.next_new.Lts as lts
 use Rattle.fat_read.proofs.find_entry.Reads as find-entry-reads
 
 returns : tie.Need-returns

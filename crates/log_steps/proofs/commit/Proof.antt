@@ -5,11 +5,11 @@ use Rattle.model.specs.Record.{committed, commit}
 use Rattle.model.proofs.Cards.{store-same}
 use Rattle.model.proofs.Pieces.{loaded-at, committed-agree}
 use borrow.Author.Needs.{needs}
-use Rattle.log_redo.proofs.commit.Statement.{statement}
-use Rattle.log_redo.proofs.commit.Tie as tie
-use Rattle.log_redo.proofs.commit.Reads as reads
-use Rattle.log_redo.proofs.commit.Lts as lts
-use Rattle.log_redo.proofs.mark.Reads as mark-reads
+use Rattle.log_steps.proofs.commit.Statement.{statement}
+use Rattle.log_steps.proofs.commit.Tie as tie
+use Rattle.log_steps.proofs.commit.Reads as reads
+use Rattle.log_steps.proofs.commit.Lts as lts
+use Rattle.log_steps.proofs.mark.Reads as mark-reads
 use Rattle.sector.proofs.load.Reads as load-reads
 use Rattle.sector.proofs.store_sector.Reads as store-sector-reads
 

@@ -4,14 +4,14 @@ use Rattle.model.specs.Sector.{card-of}
 use Rattle.model.specs.Record.{commit}
 use Rattle.model.proofs.Runs.{ran-stop, ran-then}
 use Rattle.operations.specs.Finish.{finish, redo}
-use Rattle.log_redo.proofs.Laws.{group-kept}
+use Rattle.log_steps.proofs.Kept.{group-kept}
 use borrow.Author.Needs.{needs}
-use Rattle.log_redo.proofs.redo.Statement.{statement}
-use Rattle.log_redo.proofs.redo.Tie as tie
-use Rattle.log_redo.proofs.redo.Reads as reads
-use Rattle.log_redo.proofs.redo.Lts as lts
-use Rattle.log_redo.proofs.commit.Reads as commit-reads
-use Rattle.log_redo.proofs.finish.Reads as finish-reads
+use Rattle.log_steps.proofs.redo.Statement.{statement}
+use Rattle.log_steps.proofs.redo.Tie as tie
+use Rattle.log_steps.proofs.redo.Reads as reads
+use Rattle.log_steps.proofs.redo.Lts as lts
+use Rattle.log_steps.proofs.commit.Reads as commit-reads
+use Rattle.log_steps.proofs.finish.Reads as finish-reads
 use Rattle.sector.proofs.joined.Reads as joined-reads
 
 returns : tie.Need-returns

@@ -26,8 +26,8 @@ news l t at left = take left (free-from l t at)
 unfoldable pub following : Layout → Fat → ℕ → ℕ → ℕ
 following l t at left = pick (eqb left 1) end-value (first-from (holds 0 t) (at + 1) (l .clusters + 1 - at))
 
--- `left` new clusters are left to link, and `at` is the first of them.
-pub record Cursor (l : Layout) (t : Fat) (at left : ℕ) : Type 0 where
+-- The next new cluster: `left` are still to be linked, from `at` on as many are free, and `at` is the first of them.
+pub record NextNew (l : Layout) (t : Fat) (at left : ℕ) : Type 0 where
   pub enough : left ≤ length (free-from l t at)
   pub inside : 0 < left → at < l .clusters + 2
   pub free : 0 < left → holds 0 t at ≡ true
@@ -36,7 +36,7 @@ pub record Cursor (l : Layout) (t : Fat) (at left : ℕ) : Type 0 where
 abbrev pub Above : ℕ → ℕ → ℕ → Type 0
 Above s at left = 0 < left → 256 * s ≤ at
 
--- A cursor has moved on; from sector s on this makes no difference.
+-- The next new cluster was `at` and is k, with n left; from sector s on this makes no difference.
 pub record Moved (l : Layout) (t : Fat) (s at left k n : ℕ) : Type 0 where
-  pub cursor : Cursor l t k n
+  pub next : NextNew l t k n
   pub later : (f : Fat) (r : ℕ) → s ≤ r → link (news l t k n) f r ≡ link (news l t at left) f r

@@ -3,12 +3,12 @@ use Rattle.model.specs.Sector.{card-of}
 use Rattle.model.specs.Fat.{fat1-of, fat2-of, write-fat}
 use Rattle.model.proofs.Runs.{ran-stop, ran-then}
 use Rattle.operations.specs.Finish.{root-stores, finish}
-use Rattle.log_redo.proofs.Laws.{root-kept}
+use Rattle.log_steps.proofs.Kept.{root-kept}
 use borrow.Author.Needs.{needs}
-use Rattle.log_redo.proofs.finish.Statement.{statement}
-use Rattle.log_redo.proofs.finish.Tie as tie
-use Rattle.log_redo.proofs.finish.Reads as reads
-use Rattle.log_redo.proofs.finish.Lts as lts
+use Rattle.log_steps.proofs.finish.Statement.{statement}
+use Rattle.log_steps.proofs.finish.Tie as tie
+use Rattle.log_steps.proofs.finish.Reads as reads
+use Rattle.log_steps.proofs.finish.Lts as lts
 use Rattle.fat_copy.proofs.to_fat1.Reads as to-fat1-reads
 use Rattle.root_write.proofs.store_root.Reads as store-root-reads
 use Rattle.sector.proofs.joined.Reads as joined-reads

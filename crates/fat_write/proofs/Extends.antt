@@ -12,7 +12,7 @@ use Rattle.model.specs.declared.Layout.{Layout}
 use Rattle.model.proofs.All.{All}
 use Rattle.operations.specs.Plan.{extend, last-cluster}
 use Rattle.operations.proofs.Lasts.{last-list}
-use Rattle.fat_link.specs.Allocate.{grown}
+use Rattle.fat_write.specs.Allocate.{grown}
 
 module _ (old : List ℕ) (used : All (λ k. k ≡ 0 → ⊥) old) (t : Fat) where
   taken : (n : ℕ) (ks : List ℕ) → n ≤ length ks

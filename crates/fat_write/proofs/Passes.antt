@@ -10,8 +10,8 @@ use Rattle.model.specs.declared.Layout.{Layout}
 use Rattle.model.proofs.Entries.{set-here, set-away, link-local, link-away}
 use Rattle.fat_copy.specs.Change.{lead}
 use Rattle.fat_copy.proofs.Laws.{lead-away}
-use Rattle.fat_link.specs.Allocate.{news, following, Cursor, Above, Moved}
-use Rattle.fat_link.proofs.News.{news-away, next-cursor, next-later, link-news, link-sector}
+use Rattle.fat_write.specs.Allocate.{news, following, NextNew, Above, Moved}
+use Rattle.fat_write.proofs.News.{news-away, new-after, next-later, link-news, link-sector}
 
 -- ---- a sector being built
 
@@ -23,12 +23,12 @@ pub record Linking (l : Layout) (t base : Fat) (s at left : ℕ) (buf : List ℕ
   pub above : Above s k n
 
 module _ (l : Layout) (t base : Fat) (s at left : ℕ) where
-  pub linking-none : (buf : List ℕ) → length buf ≡ 512 → ((j : ℕ) → j < 512 → getD buf j 0 ≡ base s j) → Cursor l t at left → Above s at left
+  pub linking-none : (buf : List ℕ) → length buf ≡ 512 → ((j : ℕ) → j < 512 → getD buf j 0 ≡ base s j) → NextNew l t at left → Above s at left
       → Linking l t base s at left buf at left
   linking-none buf w h cur up = record {
     width = w;
     bytes = λ j less. link-local (news l t at left) (λ _. bytes-of buf) base s j (h j less);
-    moved = record { cursor = cur; later = λ f r le. refl };
+    moved = record { next = cur; later = λ f r le. refl };
     above = up;
   }
 
@@ -37,7 +37,7 @@ module _ (l : Layout) (t base : Fat) (s at left : ℕ) where
         → ((j : ℕ) → getD out j 0 ≡ patch 2 next (2 * (k % 256)) (bytes-of buf) j) → Linking l t base s at left out next (n - 1)
     linking-more pos less next e out w put =
         let lo : 256 * s ≤ k = so .above pos in
-        let cur = so .moved .cursor in
+        let cur = so .moved .next in
         let here : s ≡ k / 256 = omega arith in
         let step : (f : Fat) → link (news l t k n) f ≡ link (news l t next (n - 1)) (set-entry k next f) = rw e (link-news l t k n pos cur) in
         record {
@@ -47,7 +47,7 @@ module _ (l : Layout) (t base : Fat) (s at left : ℕ) where
               (put j ∙ ap (λ (b : Bytes). b j) (sym (set-here k next (λ _. bytes-of buf) s here)))
               ∙ ap (λ (g : Fat). g s j) (sym (step (λ _. bytes-of buf))) ∙ so .bytes j b;
           moved = record {
-            cursor = rw e (next-cursor l t k n pos cur);
+            next = rw e (new-after l t k n pos cur);
             later = λ f r le.
                 link-sector (news l t next (n - 1)) f (set-entry k next f) r (sym (set-away k next f r (λ q. omega arith)))
                 ∙ ap (λ (g : Fat). g r) (sym (step f)) ∙ so .moved .later f r le;
@@ -70,4 +70,4 @@ unchanged l t s last first at left ne up = link-away (news l t at left) (lead la
 
 pub moved-then : (l : Layout) (t : Fat) (s first n at left k m : ℕ) → Moved l t s first n at left → Moved l t (s + 1) at left k m
     → Moved l t (s + 1) first n k m
-moved-then l t s first n at left k m a b = record { cursor = b .cursor; later = λ f r le. b .later f r le ∙ a .later f r (omega arith) }
+moved-then l t s first n at left k m a b = record { next = b .next; later = λ f r le. b .later f r le ∙ a .later f r (omega arith) }

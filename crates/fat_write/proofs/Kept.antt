@@ -15,7 +15,7 @@ use Rattle.model.proofs.Scan.{indices-same}
 use Rattle.model.proofs.Fats.{free, entry-same}
 use Rattle.model.proofs.Entries.{link-local}
 use Rattle.fat_copy.proofs.Laws.{write-same}
-use Rattle.fat_link.specs.Allocate.{grown}
+use Rattle.fat_write.specs.Allocate.{grown}
 
 -- A FAT that had the same sectors needs the same stores,
 pub write-old : (l : Layout) (at : ℕ) (new f g : Fat) → ((s : ℕ) → s < l .fatsize → f s ≡ g s) → write-fat l at new f ≡ write-fat l at new g

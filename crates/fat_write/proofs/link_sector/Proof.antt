@@ -6,13 +6,13 @@ use Rattle.model.specs.Sector.{card-of}
 use Rattle.model.specs.Fat.{fat-at}
 use Rattle.fat_copy.specs.Change.{lead, own-fat}
 use Rattle.fat_copy.proofs.Laws.{own-sector, lead-local}
-use Rattle.fat_link.proofs.Passes.{Linking, linking-none, linking-more, linking-done}
+use Rattle.fat_write.proofs.Passes.{Linking, linking-none, linking-more, linking-done}
 use borrow.Author.Needs.{needs}
-use Rattle.fat_link.proofs.link_sector.Statement.{statement}
-use Rattle.fat_link.proofs.link_sector.Tie as tie
-use Rattle.fat_link.proofs.link_sector.Reads as reads
-use Rattle.fat_link.proofs.link_sector.Lts as lts
-use Rattle.fat_link.proofs.next_new.Reads as next-new-reads
+use Rattle.fat_write.proofs.link_sector.Statement.{statement}
+use Rattle.fat_write.proofs.link_sector.Tie as tie
+use Rattle.fat_write.proofs.link_sector.Reads as reads
+use Rattle.fat_write.proofs.link_sector.Lts as lts
+use Rattle.fat_write.proofs.next_new.Reads as next-new-reads
 use Rattle.fat_copy.proofs.load_leading.Reads as load-leading-reads
 use Rattle.fat_copy.proofs.put_entry.Reads as put-entry-reads
 
@@ -42,7 +42,7 @@ returns c =
     (linking-done _ _ _ _ _ _ _ _ _ so up, so .moved, up)
 
 next-new-requires : tie.Need-next-new-requires Inv-loop μ-loop
-next-new-requires c κs = (search needs, c .before .before .loop .inv .moved .cursor .inside (omega arith))
+next-new-requires c κs = (search needs, c .before .before .loop .inv .moved .next .inside (omega arith))
 
 loop-again : tie.Need-loop-again Inv-loop μ-loop
 loop-again c =

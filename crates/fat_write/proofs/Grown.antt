@@ -21,9 +21,9 @@ use Rattle.model.proofs.Searches.{indices-first}
 use Rattle.fat_read.specs.Located.{holds}
 use Rattle.fat_copy.specs.Change.{lead, sectors-of}
 use Rattle.fat_copy.proofs.Laws.{own-sector, own-entry, lead-local}
-use Rattle.fat_link.specs.Allocate.{grown, free-from, news, Cursor}
-use Rattle.fat_link.proofs.News.{free-end, news-head}
-use Rattle.fat_link.proofs.Passes.{linked}
+use Rattle.fat_write.specs.Allocate.{grown, free-from, news, NextNew}
+use Rattle.fat_write.proofs.News.{free-end, news-head}
+use Rattle.fat_write.proofs.Passes.{linked}
 
 -- A first cluster linked after `last`.
 grown-lead : (last k : ℕ) (ks : List ℕ) (f : Fat) → link (pick (eqb last 0) [] (last ∷ []) ++ (k ∷ ks)) f ≡ link (k ∷ ks) (lead last k f)
@@ -56,8 +56,8 @@ module _ (l : Layout) (c : Card) where
     first-free : 0 < n → holds 0 (sectors-of l c) first ≡ true
     first-free pos = rw is (first-has (holds 0 (sectors-of l c)) 2 (l .clusters) (let h : first < l .clusters + 2 = first-inside pos in omega arith))
 
-    pub first-cursor : Cursor l (sectors-of l c) first n
-    first-cursor = record { enough = rw own-free at enough; inside = first-inside; free = first-free }
+    pub new-first : NextNew l (sectors-of l c) first n
+    new-first = record { enough = rw own-free at enough; inside = first-inside; free = first-free }
 
     pub grown-some : 0 < n → (last s j : ℕ) → s < l .fatsize → grown l (fat1-of l c) last n s j ≡ linked l (sectors-of l c) last first first n s j
     unfolding grown news

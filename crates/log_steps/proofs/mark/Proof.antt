@@ -6,10 +6,10 @@ use Rattle.model.specs.Bytes.{bytes-of}
 use Rattle.model.specs.Record.{committed}
 use Rattle.model.proofs.Pieces.{committed-none, committed-more}
 use borrow.Author.Needs.{needs}
-use Rattle.log_redo.proofs.mark.Statement.{statement}
-use Rattle.log_redo.proofs.mark.Tie as tie
-use Rattle.log_redo.proofs.mark.Reads as reads
-use Rattle.log_redo.proofs.mark.Lts as lts
+use Rattle.log_steps.proofs.mark.Statement.{statement}
+use Rattle.log_steps.proofs.mark.Tie as tie
+use Rattle.log_steps.proofs.mark.Reads as reads
+use Rattle.log_steps.proofs.mark.Lts as lts
 use Rattle.sector.proofs.index.Reads as index-reads
 
 abbrev Inv-loop : tie.InvT-loop
