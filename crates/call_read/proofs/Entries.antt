@@ -3,20 +3,22 @@ use mathlib.Core.Path.{_≡_, refl, sym, ap, _∙_}
 use mathlib.Core.Logic.{⊎-elim}
 use mathlib.Core.Bool.{Bool, true, false}
 use mathlib.Core.List.{List, [], _∷_, _++_, append-nil}
-use Prim.Native.Nat.{ℕ, _+_, _*_, _/_, _%_, _<_, _≤_, min}
+use Prim.Native.Nat.{ℕ, zero, suc, _+_, _*_, _/_, _%_, _<_, _≤_, min}
 use native.Mathlib.Omega.{arith}
 use lib.ListN.{length, getD, length-append, List·getD-append}
 use lib.Seq.{getD-append-add}
-use lib.Dec.{leb, ltb}
+use lib.Dec.{eqb, leb, ltb}
 use borrow.Author.Tests.{leb-true, leb-false, lt-ltb, le-ltb}
 use Rattle.model.specs.Bytes.{pick, overlay, bytes-of}
+use Rattle.model.specs.Scan.{all-from}
 use Rattle.model.specs.Sector.{Card}
 use Rattle.model.specs.Root.{slot-at, listed}
 use Rattle.operations.specs.Reading.{Filled, directory-listing}
 use Rattle.operations.specs.Promises.{Fills}
 use Rattle.call_read.specs.Filled.{Listed, shown-to}
 use Rattle.model.specs.declared.Layout.{Layout}
-use Rattle.model.proofs.Scan.{indices-step}
+use Rattle.model.proofs.Scan.{indices-step, all-at}
+use Rattle.root_read.proofs.Laws.{blank-unlisted}
 use Rattle.model.proofs.Tests.{less?}
 use Rattle.model.proofs.Overlays.{overlay-in, overlay-below, overlay-above, over-first}
 
@@ -126,3 +128,18 @@ module _ (l : Layout) (c : Card) (k n : ℕ) (e x y : List ℕ) (m : ℕ) (t : L
           let counted : m ≡ n = (rw p at (t .counted)) ∙ omega arith in
           rw (z, p, append-nil, counted)
           (fills-same (directory-listing l c (shown-to l c k) (length e)) e x y n so (λ i. rw p at (t .bytes i)))
+
+-- A sector of slots that were never used adds nothing.
+pub shown-past : (l : Layout) (c : Card) (k n : ℕ) → all-from (λ m. eqb (slot-at l c m 0) 0) k n ≡ true → shown-to l c (k + n) ≡ shown-to l c k
+shown-past l c k n blank = go n (omega arith)
+  where
+    unlisted : (m : ℕ) → m < n → listed (slot-at l c (0 + (k + m))) ≡ false
+    unlisted m less =
+        let z : 0 + (k + m) ≡ k + m = omega arith in
+        rw z (blank-unlisted (slot-at l c (k + m)) (all-at (λ m. eqb (slot-at l c m 0) 0) k n blank (k + m) (omega arith) (omega arith)))
+
+    go : (m : ℕ) → m ≤ n → shown-to l c (k + m) ≡ shown-to l c k
+    go zero le = ap (shown-to l c) (omega arith)
+    go (suc m) le =
+        let z : k + suc m ≡ k + m + 1 = omega arith in
+        rw (z, indices-step (λ j. listed (slot-at l c j)) 0 (k + m), unlisted m (omega arith), append-nil) (go m (omega arith))

@@ -52,6 +52,10 @@ fn copy_listed(out: &mut [u8], w: &[u8], l: Layout) -> u32
     let mut k = 0;
     let mut n = 0;
     while k < entries {
+        if root_read::is_blank(w, l, k) {
+            k += 16;
+            continue;
+        }
         n = list_slot(out, w, l, k, n);
         k += 1;
     }

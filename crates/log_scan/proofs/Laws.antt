@@ -9,16 +9,16 @@ use lib.ListN.{length, take, drop, length-take, length-drop}
 use lib.Dec.{leb, ltb, eqb}
 use borrow.Author.Tests.{ltb-true, ltb-false, lt-ltb, le-ltb, le-leb, lt-leb}
 use Rattle.model.specs.Bytes.{pick}
-use Rattle.model.specs.Scan.{every, all-from, first-from}
+use Rattle.model.specs.Scan.{every, all, all-from, first-from}
 use Rattle.model.specs.Sector.{card-of}
 use Rattle.model.specs.Log.{Log, log-of}
-use Rattle.model.specs.Record.{pends, record-at, group-size}
+use Rattle.model.specs.Record.{tells, pends, record-at, group-size}
 use Rattle.model.specs.Pending.{pending-at, first-pending, group-ok, alone, accepted, pending-in}
 use Rattle.model.specs.declared.Area.{Area}
 use Rattle.model.specs.declared.Pending.{Pending}
 use Rattle.model.specs.declared.Pending.the-variants as Pending
 use Rattle.model.proofs.Tests.{less?}
-use Rattle.model.proofs.Scan.{Sofar, none-below, first-is, first-has, first-ge, first-before, all-of, all-not}
+use Rattle.model.proofs.Scan.{Sofar, none-below, first-is, first-has, first-ge, first-before, all-of, all-not, all-at0}
 use Rattle.model.proofs.Sectors.{part-sector}
 use Rattle.model.proofs.Logs.{first-pending-same, pending-same}
 use Rattle.log_scan.specs.Place.{place-of, judged}
@@ -31,6 +31,18 @@ at-place g s r h =
     let a : (16 * s + r) / 16 ≡ s = omega arith in
     let b : (16 * s + r) % 16 ≡ r = omega arith in
     rw (a, b)
+
+-- A sector whose records all begin 0 has none that pends.
+pub blank-idle : (g : Log) (s : ℕ) → all (λ i. eqb (g s (32 * i)) 0) 16 ≡ true → Sofar (pending-at g) false 0 (16 * s) → Sofar (pending-at g) false 0 (16 * (s + 1))
+unfolding pends tells
+blank-idle g s blank inv m l h =
+    ⊎-elim
+    (λ low. inv m l low)
+    (λ up.
+    let d : m / 16 ≡ s = omega arith in
+    let z : eqb (g s (32 * (m % 16))) 0 ≡ true = all-at0 (λ i. eqb (g s (32 * i)) 0) 16 blank (m % 16) (omega arith) in
+    rw (d, z))
+    (less? m (16 * s))
 
 -- The first pending record of n sectors is record r of sector s.
 pub record FirstAt (n : ℕ) (g : Log) (s r : ℕ) : Type 0 where

@@ -37,6 +37,10 @@ fn scan(log: &[u8]) -> Place
         if s == sectors {
             break 'log Place::Nowhere;
         }
+        if sector::is_blank(log, s) {
+            s += 1;
+            continue;
+        }
         let mut r = 0;
         while r < 16 {
             if log_record::pends(log, s, r) {

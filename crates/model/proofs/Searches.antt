@@ -8,9 +8,9 @@ use lib.ListN.{length}
 use mathlib.Core.Logic.{⊎-elim}
 use mathlib.Core.Bool.{Bool, true, false}
 use Rattle.model.specs.Bytes.{pick}
-use Rattle.model.specs.Scan.{walk, first-from, count-from, indices-from}
+use Rattle.model.specs.Scan.{walk, first-from, count-from, indices-from, all-from}
 use Rattle.model.proofs.Tests.{told, less?, same?}
-use Rattle.model.proofs.Scan.{Sofar, first-before, first-le, first-ge, count-step}
+use Rattle.model.proofs.Scan.{Sofar, all-at, first-before, first-le, first-ge, count-step}
 
 -- A count, one number further: k.
 module _ (p : ℕ → Bool) (i n m k : ℕ) (so : m ≡ count-from p i n) (at : k ≡ i + n) where
@@ -103,3 +103,8 @@ sofar-over p i k n inv none m l h =
     (λ low. inv m l low)
     (λ up. ⊎-elim (λ e. absurd (let s = count-some p k n m up h e in omega arith)) (λ e. e) (told (p m)))
     (less? m k)
+
+-- A search that passes over numbers of each of which another test says enough.
+pub sofar-past : (p q : ℕ → Bool) (v : Bool) (i k n : ℕ) → Sofar p v i k → all-from q k n ≡ true → ((m : ℕ) → q m ≡ true → p m ≡ v)
+    → Sofar p v i (k + n)
+sofar-past p q v i k n inv all tells m l h = ⊎-elim (λ low. inv m l low) (λ up. tells m (all-at q k n all m up h)) (less? m k)

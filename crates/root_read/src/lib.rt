@@ -4,7 +4,10 @@ use model::File;
 use model::Layout;
 use model::Name;
 ghost use mathlib.Core.Path.{_≡_};
-ghost use Prim.Native.Nat.{_/_, _≤_, _<_};
+ghost use mathlib.Core.Bool.{true};
+ghost use Prim.Native.Nat.{_+_, _/_, _≤_, _<_};
+ghost use lib.Dec.{eqb};
+ghost use Rattle.model.specs.Scan.{all-from};
 ghost use Rattle.model.specs.Sector.{card-of};
 ghost use Rattle.model.specs.Promises.{Fits, Held};
 ghost use Rattle.model.specs.Root.{root-place, slot-at, listed, is-directory, bears, find, free-slot, first-bytes, end-slot, root-ok, file-at};
@@ -41,6 +44,17 @@ pub fn end_slot(w: &[u8], l: Layout) -> u32
     n
 }
 
+// Whether a sector of the root begins at slot k, and all of its slots begin 0: what seeks other slots passes it over whole.
+pub fn is_blank(w: &[u8], l: Layout, k: u32) -> bool
+    requires { ⌜ Held l (now w) × (k < l .entries) ⌝ }
+    ensures { λ r. ⌜ (r ≡ true → (k + 16 ≤ l .entries) × (all-from (λ m. eqb (slot-at l (card-of (now (w .entry))) m 0) 0) k 16 ≡ true)) ⌝ }
+{
+    if k % 16 != 0 {
+        return false;
+    }
+    sector::is_blank(w, root_place(l, k / 16))
+}
+
 // Whether no slot after z, the lowest one beginning 0, begins otherwise.
 pub fn root_ok(w: &[u8], l: Layout, z: u32) -> bool
     requires { ⌜ Held l (now w) × (z ≡ end-slot (l .entries) (first-bytes l (card-of (now w)))) × (z ≤ l .entries) ⌝ }
@@ -49,6 +63,10 @@ pub fn root_ok(w: &[u8], l: Layout, z: u32) -> bool
     let n = l.entries;
     let mut k = z + 1;
     while k < n {
+        if is_blank(w, l, k) {
+            k += 16;
+            continue;
+        }
         if slot_byte(w, l, k, 0) != 0 {
             return false;
         }
@@ -101,6 +119,10 @@ pub fn find_slot(w: &[u8], l: Layout, name: Name) -> u32
     let n = l.entries;
     let mut k = 0;
     while k < n {
+        if is_blank(w, l, k) {
+            k += 16;
+            continue;
+        }
         if has_name(w, l, k, name) {
             return k;
         }

@@ -9,6 +9,8 @@ ghost use mathlib.Core.Bool.{not};
 ghost use mathlib.Core.List.{[], _∷_};
 ghost use Rattle.model.specs.Bytes.{bytes-of, overlay, part};
 ghost use Rattle.model.specs.Fat.{same};
+ghost use Rattle.model.specs.Scan.{all};
+ghost use lib.Dec.{eqb};
 
 pub fn index(x: u32) -> usize
     ensures { λ r. ⌜ r ≡ x ⌝ }
@@ -96,6 +98,22 @@ pub fn differs(w: &[u8], s: u32, t: u32) -> bool
         j += 1;
     }
     !alike
+}
+
+// Whether all sixteen parts of 32 bytes of a sector begin 0: slots or records that were never used. The loop has no way out but its
+// end: so there is one test for all of them.
+pub fn is_blank(w: &[u8], s: u32) -> bool
+    requires { ⌜ 512 * s + 512 ≤ length (now w) ⌝ }
+    ensures { λ r. ⌜ r ≡ all (λ i. eqb (card-of (now (w .entry)) s (32 * i)) 0) 16 ⌝ }
+{
+    let start = 512 * index(s);
+    let mut blank = true;
+    let mut i = 0;
+    while i < 16 {
+        blank = blank & (w[start + 32 * i] == 0);
+        i += 1;
+    }
+    blank
 }
 
 // Whether a buffer holds other bytes than a sector.

@@ -8,13 +8,14 @@ use Rattle.operations.specs.Reading.{shown, directory-listing}
 use Rattle.operations.specs.Promises.{Fills}
 use Rattle.call_read.specs.Filled.{shown-to}
 use Rattle.model.proofs.Scan.{indices-none}
-use Rattle.call_read.proofs.Entries.{listed-le, listing-none, listing-step}
+use Rattle.call_read.proofs.Entries.{listed-le, listing-none, listing-step, shown-past}
 use borrow.Author.Needs.{needs}
 use Rattle.call_read.proofs.copy_listed.Statement.{statement}
 use Rattle.call_read.proofs.copy_listed.Tie as tie
 use Rattle.call_read.proofs.copy_listed.Reads as reads
 use Rattle.call_read.proofs.copy_listed.Lts as lts
 use Rattle.call_read.proofs.list_slot.Reads as list-slot-reads
+use Rattle.root_read.proofs.is_blank.Reads as is-blank-reads
 
 abbrev Inv-loop : tie.InvT-loop
 Inv-loop out₀ w l entries k₀ n₀ out k n = (k ≤ entries) × (n ≤ k) × (length out ≡ length out₀)
@@ -34,10 +35,20 @@ loop-holds c =
           (listing-none (a .l) c′ (length (a .out .now)) (a .out .now)),
     )
 
+add-k : tie.Need-add-k Inv-loop μ-loop
+add-k c = omega (arith, c .before .is-blank .ensures (c .if1 .taken) .0)
+
 loop-again : tie.Need-loop-again Inv-loop μ-loop
 loop-again c =
-    let a = c .before .before .before .before .before .before .before .before .args in
-    let turn = c .before .before .before .before .before .loop in
+    let turn = c .before .before .before .loop in
+    let a = c .before .before .before .before .before .before .args in
+    let b = c .before .is-blank .ensures (c .if1 .taken) in
+    (b .0, search needs, search needs, rw (shown-past (a .l) (card-of (a .w .now)) (turn .k) 16 (b .1)) (turn .inv .3))
+
+loop-again-2 : tie.Need-loop-again-2 Inv-loop μ-loop
+loop-again-2 c =
+    let a = c .before .before .before .before .before .before .before .before .before .before .args in
+    let turn = c .before .before .before .before .before .before .before .loop in
     let list-slot = c .before .before .list-slot in
     let c′ = card-of (a .w .now) in (
       search needs,
@@ -58,5 +69,5 @@ returns c = let e : c .before .loop .k ≡ c .before .before .before .before .ar
 pub copy-listed-spec : {M : Type 1} → statement M
 copy-listed-spec =
     tie.close
-    (tie.spec Inv-loop μ-loop loop-holds (λ c κs. search needs) (λ c. search needs) (λ c. search needs) loop-again (λ c. search needs)
-    returns)
+    (tie.spec Inv-loop μ-loop loop-holds (λ c κs. search needs) add-k (λ c. search needs) loop-again (λ c κs. search needs)
+    (λ c. search needs) (λ c. search needs) loop-again-2 (λ c. search needs) returns)

@@ -2,9 +2,12 @@ use mathlib.Core.Path.{sym, _∙_}
 use mathlib.Core.Bool.{false}
 use Prim.Native.Nat.{_-_, _≤_}
 use native.Mathlib.Omega.{arith}
+use lib.Dec.{eqb}
 use Rattle.model.specs.Sector.{card-of}
 use Rattle.model.specs.Root.{slot-at, bears, find, lowest-slot}
 use Rattle.model.proofs.Scan.{Sofar, sofar-none, sofar-more, none-below, first-is}
+use Rattle.model.proofs.Searches.{sofar-past}
+use Rattle.root_read.proofs.Laws.{blank-nameless}
 use borrow.Author.Needs.{needs}
 use Rattle.root_read.proofs.find_slot.Statement.{statement}
 use Rattle.root_read.proofs.find_slot.Tie as tie
@@ -18,17 +21,31 @@ abbrev μ-loop : tie.MeasureT-loop
 loop-holds : tie.Need-loop-holds Inv-loop μ-loop
 loop-holds c = (search needs, sofar-none _ _ _ _ (omega arith))
 
-returns : tie.Need-returns Inv-loop μ-loop
-unfolding find lowest-slot
-returns c = (
-  sym (first-is _ 0 _ _ (omega arith) (omega arith) (c .before .before .before .loop .inv .1) (sym (c .before .has-name .ensures)
-      ∙ c .if1 .taken)),
-  omega arith,
-)
+add-k : tie.Need-add-k Inv-loop μ-loop
+add-k c = omega (arith, c .before .is-blank .ensures (c .if1 .taken) .0)
 
 loop-again : tie.Need-loop-again Inv-loop μ-loop
 loop-again c =
-    (search needs, sofar-more _ _ _ _ (c .before .before .before .loop .inv .1) (sym (c .before .has-name .ensures) ∙ c .if1 .left))
+    let turn = c .before .before .before .loop in
+    let a = c .before .before .before .before .before .args in
+    let slot = slot-at (a .l) (card-of (a .w .now)) in
+    let b = c .before .is-blank .ensures (c .if1 .taken) in (
+      b .0,
+      sofar-past (λ m. bears (a .name) (slot m)) (λ m. eqb (slot m 0) 0) false 0 (turn .k) 16 (turn .inv .1) (b .1)
+          (λ m h. blank-nameless (a .name) (slot m) h),
+    )
+
+returns : tie.Need-returns Inv-loop μ-loop
+unfolding find lowest-slot
+returns c = (
+  sym (first-is _ 0 _ _ (omega arith) (omega arith) (c .before .before .before .before .before .loop .inv .1) (sym (c .before .has-name .ensures)
+      ∙ c .if2 .taken)),
+  omega arith,
+)
+
+loop-again-2 : tie.Need-loop-again-2 Inv-loop μ-loop
+loop-again-2 c =
+    (search needs, sofar-more _ _ _ _ (c .before .before .before .before .before .loop .inv .1) (sym (c .before .has-name .ensures) ∙ c .if2 .left))
 
 returns-2 : tie.Need-returns-2 Inv-loop μ-loop
 unfolding find lowest-slot
@@ -37,4 +54,5 @@ returns-2 c = (sym (none-below _ _ _ (c .before .loop .inv .1) (omega arith)), o
 pub find-slot-spec : {M : Type 1} → statement M
 find-slot-spec =
     tie.close
-    (tie.spec Inv-loop μ-loop loop-holds (λ c κs. search needs) returns (λ c. search needs) (λ c. search needs) loop-again returns-2)
+    (tie.spec Inv-loop μ-loop loop-holds (λ c κs. search needs) add-k (λ c. search needs) loop-again (λ c κs. search needs) returns
+    (λ c. search needs) (λ c. search needs) loop-again-2 returns-2)
