@@ -23,6 +23,11 @@ impl Times {
     pub fn ratio(&self) -> f64 {
         self.library / self.plain
     }
+
+    /// The library's time against another one, in microseconds.
+    pub fn against(&self, other: f64) -> f64 {
+        self.library / other
+    }
 }
 
 impl fmt::Display for Times {
@@ -78,6 +83,16 @@ pub fn compare_copy(card: &mut [u8], call: &Call, place: Range<usize>) -> Times 
         put_back(card, &undo);
         (library, memcpy)
     })
+}
+
+/// The median time, in microseconds, of one memcpy of so many bytes between two buffers that are used for nothing else.
+pub fn copy_between_buffers(bytes: usize) -> f64 {
+    let from = vec![7_u8; bytes];
+    let mut to = vec![0_u8; bytes];
+    let times = (0..MOST_RUNS)
+        .map(|_| elapsed(&mut || black_box(&mut to).copy_from_slice(black_box(&from))))
+        .collect();
+    median(times)
 }
 
 /// The stores that a call makes, and the bytes that they overwrite, with their places.
