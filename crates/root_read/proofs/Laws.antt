@@ -1,7 +1,7 @@
 -- A slot's name against the one sought, and its first byte; sectors of slots that were never used.
 use Prim.Native.Nat.{ℕ, _+_, _*_, _/_, _%_}
 use native.Mathlib.Omega.{arith}
-use mathlib.Core.Path.{_≡_, refl, ap, _∙_}
+use mathlib.Core.Path.{_≡_, ap}
 use mathlib.Core.Bool.{true, false, _&&_, _||_}
 use lib.Dec.{eqb}
 use Rattle.model.specs.Bytes.{Bytes}

@@ -4,7 +4,7 @@ use Prim.Native.Nat.{ℕ, _+_, _*_, _-_, _≤_}
 use native.Mathlib.Omega.{arith}
 use lib.Dec.{eqb}
 use lib.ListN.{getD}
-use Rattle.model.specs.Scan.{all, all-from}
+use Rattle.model.specs.Scan.{all-from}
 use Rattle.model.specs.Sector.{card-of}
 use Rattle.model.proofs.Scan.{all-same}
 use Rattle.sector.proofs.Stored.{in-sector, all-none, all-more}
