@@ -13,7 +13,7 @@ use Rattle.model.specs.Scan.{first, between, all-from, walk}
 use Rattle.model.specs.Sector.{clip}
 use Rattle.model.specs.Log.{Log}
 use Rattle.model.specs.Record.{pends, tells, committed, record-bytes, record-of, encode, lay, records, group-size, record-at}
-use Rattle.model.specs.Record.{change-of, group-of, group-in}
+use Rattle.model.specs.Record.{change-of, group-of, group-in, last-number}
 use Rattle.model.specs.Pending.{pending-in, first-pending, pending-at, accepted, slot-ok, record-ok, part-ok, alike, records-ok, empty-from, group-ok}
 use Rattle.model.specs.Pending.{alone}
 use Rattle.model.specs.declared.Area.{Area}
@@ -167,7 +167,7 @@ module _ (n z : ℕ) (rs : ℕ → Record) (h : records-ok n z rs ≡ true) wher
   later-ok k low less = all-at (part-ok n z rs) 1 (group-size rs - 1) (every-at _ h 1) k low (omega arith)
 
   -- Record 0's number, and the slot of each record.
-  pub first-number : between 1 5 (rs 0 .number) ≡ true
+  pub first-number : between 1 last-number (rs 0 .number) ≡ true
   unfolding record-ok
   first-number = every-at _ first-ok 0
 
@@ -199,11 +199,11 @@ recorded n z x fits one more live =
       live,
     )
 
-pub record-fine : (n z : ℕ) (e : Entry) (number k from size : ℕ) → 1 ≤ number → number ≤ 5 → from < 65536 → Seat n z (e .slot)
+pub record-fine : (n z : ℕ) (e : Entry) (number k from size : ℕ) → 1 ≤ number → number ≤ last-number → from < 65536 → Seat n z (e .slot)
     → record-ok n z (record-of e number k from size) ≡ true
 unfolding record-ok record-of
 record-fine n z e number k from size low high small seat =
-    each-every _ (between-is 1 5 number low high also refl also refl also refl also lt-ltb from 65536 small also slot-read n z (e .slot) seat also tt)
+    each-every _ (between-is 1 last-number number low high also refl also refl also refl also lt-ltb from 65536 small also slot-read n z (e .slot) seat also tt)
 
 -- The second of two records, with another name, number and slot.
 pub part-fine : (n z : ℕ) (e f : Entry) (number k from size : ℕ) → f .attributes ≡ e .attributes → Seat n z (f .slot) → (e .slot ≡ f .slot → ⊥) → (i : ℕ)
@@ -244,8 +244,8 @@ record-pends x fits live k less =
 some-record : (n z : ℕ) (x : Change) → Recorded n z x → 0 < length (records x)
 some-record n z x w = go (records x) (first-number n z (listed (records x)) (w .0))
   where
-    go : (rs : List Record) → between 1 5 (listed rs 0 .number) ≡ true → 0 < length rs
-    go [] b = absurd (omega (arith, between-true 1 5 0 b .0))
+    go : (rs : List Record) → between 1 last-number (listed rs 0 .number) ≡ true → 0 < length rs
+    go [] b = absurd (omega (arith, between-true 1 last-number 0 b .0))
     go (r ∷ rs) b = omega arith
 
 -- The records of a sector that was stored.

@@ -15,7 +15,7 @@ use Rattle.model.specs.declared.Entry.{Entry}
 use Rattle.model.specs.declared.Record.{Record}
 use Rattle.model.specs.declared.Change.{Change}
 use Rattle.model.specs.declared.Operation.{Operation}
-use Rattle.model.specs.declared.Operation.the-variants.{Create, Update, Delete, Truncate, Rename}
+use Rattle.model.specs.declared.Operation.the-variants.{Create, Update, Delete, Truncate, Rename, Replace}
 use lib.Dec.{eqb}
 use borrow.Author.Tests.{lt-ltb, le-ltb}
 use Rattle.model.proofs.Tests.{less?, by-pick}
@@ -152,6 +152,7 @@ operation-told (Update e last from size) = refl
 operation-told (Delete e first size) = refl
 operation-told (Truncate e first from size) = refl
 operation-told (Rename e first size to renamed) = refl
+operation-told (Replace e first from size) = refl
 
 pub plain-told : (o : Operation) → change-of (listed (records (plain o))) ≡ plain o
 unfolding change-of records
@@ -186,7 +187,8 @@ told-slot rs =
     by-pick (Reads rs) (eqb n 1) _ _ (λ _. one-read rs _ refl) (λ _.
     by-pick (Reads rs) (eqb n 2) _ _ (λ _. one-read rs _ refl) (λ _.
     by-pick (Reads rs) (eqb n 3) _ _ (λ _. one-read rs _ refl) (λ _.
-    by-pick (Reads rs) (eqb n 4) _ _ (λ _. one-read rs _ refl) (λ _. two-read rs _ _ refl refl))))
+    by-pick (Reads rs) (eqb n 4) _ _ (λ _. one-read rs _ refl) (λ _.
+    by-pick (Reads rs) (eqb n 5) _ _ (λ _. two-read rs _ _ refl refl) (λ _. one-read rs _ refl)))))
 
 -- After the records their sector is zero.
 pub zero-after : (rs : List Bytes) (j : ℕ) → 32 * length rs ≤ j → lay rs j ≡ 0

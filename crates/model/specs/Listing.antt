@@ -9,11 +9,11 @@ use Rattle.model.specs.Scan.{every, between, first, all-from, indices, r
 use Rattle.model.specs.Record.{r-number, r-slot, r-high, r-from, r-cluster, r-size, tells}
 use Rattle.model.specs.Text.{ascii, decimal, join, line}
 
--- "operation word (create, update, delete, truncate, rename, part, else unknown)"
+-- "operation word (create, update, delete, truncate, rename, part, else unknown)"; "the listing prints `replace`".
 unfoldable pub op-word : ℕ → String
 op-word n =
     pick (eqb n 0) "part" (pick (eqb n 1) "create" (pick (eqb n 2) "update"
-    (pick (eqb n 3) "delete" (pick (eqb n 4) "truncate" (pick (eqb n 5) "rename" "unknown")))))
+    (pick (eqb n 3) "delete" (pick (eqb n 4) "truncate" (pick (eqb n 5) "rename" (pick (eqb n 6) "replace" "unknown"))))))
 
 -- "state (committed for 0xE5, else pending)"
 unfoldable pub state-word : ℕ → String

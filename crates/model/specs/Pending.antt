@@ -8,7 +8,7 @@ use Rattle.model.specs.Scan.{every, between, first, all, all-from}
 use Rattle.model.specs.Sector.{Card}
 use Rattle.model.specs.Root.{first-bytes, end-slot}
 use Rattle.model.specs.Log.{Log, log-of}
-use Rattle.model.specs.Record.{record-at, group-size, pends}
+use Rattle.model.specs.Record.{last-number, record-at, group-size, pends}
 use Rattle.model.specs.declared.Record.{Record}
 use Rattle.model.specs.declared.Layout.{Layout}
 use Rattle.model.specs.declared.Area.{Area}
@@ -26,11 +26,12 @@ first-pending n g = first (pending-at g) (16 * n)
 unfoldable pub slot-ok : ℕ → ℕ → ℕ → Bool
 slot-ok n z s = ltb s n && leb s z
 
--- "operation 1 to 5, directory cluster, high word and long-name count 0, DIR_Cluster below 65,536, slots .."
+-- "operation 1 to 5" and 6 ("RECORD takes operation 6"), "directory cluster, high word and long-name count 0, DIR_Cluster below
+-- 65,536, slots .."
 unfoldable pub record-ok : ℕ → ℕ → Record → Bool
 record-ok n z r =
     every (
-    between 1 5 (r .number) ∷ eqb (r .directory) 0 ∷ eqb (r .high) 0 ∷ eqb (r .count) 0
+    between 1 last-number (r .number) ∷ eqb (r .directory) 0 ∷ eqb (r .high) 0 ∷ eqb (r .count) 0
     ∷ ltb (r .from) 65536 ∷ slot-ok n z (r .slot) ∷ [])
 
 -- "alike but for name, operation and slot"

@@ -12,7 +12,7 @@ use Rattle.model.specs.declared.Record.{Record}
 use Rattle.model.specs.declared.Change.{Change}
 use Rattle.model.specs.declared.Group.{Group}
 use Rattle.model.specs.declared.Operation.{Operation}
-use Rattle.model.specs.declared.Operation.the-variants.{Create, Update, Delete, Truncate, Rename}
+use Rattle.model.specs.declared.Operation.the-variants.{Create, Update, Delete, Truncate, Rename, Replace}
 
 -- "A record is 32 bytes: name 0 (11), attributes 11 (1), long-name count 12 (1), operation 13 (1), directory cluster 14 (4), slot 18
 -- (2), first/last cluster high 20 (2), DIR_Cluster 22 (4), first/last cluster low 26 (2), size 28 (4)"
@@ -84,9 +84,13 @@ record-of e number cluster from size = record {
   size = size;
 }
 
--- "Operations: 1 create, 2 update, 3 delete, 4 truncate, 5 rename, 0 part of the record before." "First/last: create 0; update,
--- the last cluster before; others, the first cluster." "DIR_Cluster: update and truncate; others 0." "Size: 0 for create."
--- "Rename's record 1 is record 0 with the new name, operation 0 and the new slot."
+-- "Operations: 1 create, 2 update, 3 delete, 4 truncate, 5 rename, 0 part of the record before", and 6 replace: the highest.
+abbrev pub last-number : ℕ
+last-number = 6
+
+-- "First/last: create 0; update, the last cluster before; others, the first cluster." "DIR_Cluster: update and truncate; others 0."
+-- "Size: 0 for create." "Rename's record 1 is record 0 with the new name, operation 0 and the new slot." Replace: "The record has
+-- operation 6, the old first cluster in first/last, the new first cluster (0 for no bytes) in DIR_Cluster, and the new size."
 unfoldable pub operation-records : Operation → List Record
 operation-records (Create e) = record-of e 1 0 0 0 ∷ []
 operation-records (Update e last from size) = record-of e 2 last from size ∷ []
@@ -95,6 +99,7 @@ operation-records (Truncate e first from size) = record-of e 4 first from size �
 operation-records (Rename e first size to renamed) =
     record-of e 5 first 0 size
     ∷ record-of (record { slot = to; name = renamed; attributes = e .attributes }) 0 first 0 size ∷ []
+operation-records (Replace e first from size) = record-of e 6 first from size ∷ []
 
 unfoldable pub records : Change → List Record
 records x = operation-records (x .operation)
@@ -117,7 +122,7 @@ record-at b k = pick (ltb k 16) (record-in (part b (32 * k))) (record-in zeros)
 abbrev pub entry-in : Record → Entry
 entry-in r = record { slot = r .slot; name = r .name; attributes = r .attributes }
 
--- The operation that the records of a sector tell of: its number is record 0's, from 1 to 5.
+-- The operation that the records of a sector tell of: its number is record 0's, from 1 to 6.
 unfoldable pub operation-of : (ℕ → Record) → Operation
 operation-of rs =
     let r = rs 0 in
@@ -126,7 +131,8 @@ operation-of rs =
     (pick (eqb (r .number) 2) (Update e (r .cluster) (r .from) (r .size))
     (pick (eqb (r .number) 3) (Delete e (r .cluster) (r .size))
     (pick (eqb (r .number) 4) (Truncate e (r .cluster) (r .from) (r .size))
-    (Rename e (r .cluster) (r .size) (rs 1 .slot) (rs 1 .name)))))
+    (pick (eqb (r .number) 5) (Rename e (r .cluster) (r .size) (rs 1 .slot) (rs 1 .name))
+    (Replace e (r .cluster) (r .from) (r .size))))))
 
 -- The change that they tell.
 unfoldable pub change-of : (ℕ → Record) → Change

@@ -93,6 +93,12 @@ pub enum Operation {
         to: u32,
         renamed: Name,
     },
+    Replace {
+        entry: Entry,
+        first: u32,
+        from: u32,
+        size: u32,
+    },
 }
 
 // A log record. `count` is the long-name count, `number` the operation's, `high` the high word of first/last cluster, `cluster` its

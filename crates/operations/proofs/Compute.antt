@@ -46,6 +46,8 @@ unfolding ones onesIn
     Rattle.operations.specs.Plan.clusters-of Rattle.operations.specs.Plan.appended Rattle.operations.specs.Plan.append-sector
     Rattle.operations.specs.Plan.data-stores Rattle.operations.specs.Plan.added Rattle.operations.specs.Plan.new-clusters
     Rattle.operations.specs.Plan.extend Rattle.operations.specs.Plan.append-along Rattle.operations.specs.Plan.append-stores
+    Rattle.operations.specs.Plan.fresh-clusters Rattle.operations.specs.Plan.exchange Rattle.operations.specs.Plan.replace-along
+    Rattle.operations.specs.Plan.replace-stores
     Rattle.operations.specs.Plan.shorten Rattle.operations.specs.Plan.truncate-along
     Rattle.operations.specs.Plan.truncate-stores Rattle.operations.specs.Plan.delete-stores
     Rattle.operations.specs.Plan.rename-stores Rattle.operations.specs.Plan.recover-stores
@@ -53,7 +55,7 @@ unfolding ones onesIn
     Rattle.operations.specs.Calls.taken Rattle.operations.specs.Calls.root-full Rattle.operations.specs.Calls.create
     Rattle.operations.specs.Calls.unless-none Rattle.operations.specs.Calls.file-of Rattle.operations.specs.Calls.append
     Rattle.operations.specs.Calls.truncate Rattle.operations.specs.Calls.delete Rattle.operations.specs.Calls.rename
-    Rattle.operations.specs.Calls.recover Rattle.operations.specs.Calls.plan Rattle.operations.specs.Calls.named-file
+    Rattle.operations.specs.Calls.replace Rattle.operations.specs.Calls.recover Rattle.operations.specs.Calls.plan Rattle.operations.specs.Calls.named-file
     Rattle.operations.specs.Calls.taken-by Rattle.operations.specs.Calls.released-by
     Rattle.operations.specs.Outcome.outcome Rattle.operations.specs.Outcome.made Rattle.operations.specs.Outcome.left
     Rattle.operations.specs.Reading.file-byte Rattle.operations.specs.Reading.reading Rattle.operations.specs.Reading.read

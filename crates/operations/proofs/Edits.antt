@@ -17,7 +17,7 @@ use Rattle.model.specs.declared.Layout.{Layout}
 use Rattle.model.specs.declared.Name.{Name}
 use Rattle.model.specs.declared.Change.{Change}
 use Rattle.model.specs.declared.Operation.{Operation}
-use Rattle.model.specs.declared.Operation.the-variants.{Create, Update, Delete, Truncate, Rename}
+use Rattle.model.specs.declared.Operation.the-variants.{Create, Update, Delete, Truncate, Rename, Replace}
 use Rattle.operations.specs.Finish.{set-size, set-first, mark-deleted, set-name, new-entry, Edit, edit, edit-from, set-slots, operation-edits, edits}
 use Rattle.operations.specs.Finish.{effect, Slots, root-sector, concerns}
 use Rattle.model.proofs.Tests.{told, less?, same?, or-false}
@@ -202,6 +202,7 @@ operation-again (Rename e first size to renamed) j = (
   (laid-mark j, ((λ _. (refl, laid-again (λ b. mark-deleted b) j (laid-mark j))), λ ne. absurd (ne refl))),
   ((laid-name renamed j, ((λ _. (refl, name-over renamed j)), λ ne. absurd (ne refl))), tt),
 )
+operation-again (Replace e first from size) j = own-again (e .slot) (λ b. set-size size (set-first from b)) j (laid-resized true from size j)
 
 pub again : (o : Change) (j : ℕ) → Again (edits o) j
 unfolding edits

@@ -9,7 +9,7 @@ use Rattle.model.specs.Record.{operation-records, records, record-of, change-of
 use Rattle.model.specs.Pending.{records-ok}
 use Rattle.model.specs.declared.Record.{Record}
 use Rattle.model.specs.declared.Operation.{Operation}
-use Rattle.model.specs.declared.Operation.the-variants.{Create, Update, Delete, Truncate, Rename}
+use Rattle.model.specs.declared.Operation.the-variants.{Create, Update, Delete, Truncate, Rename, Replace}
 use Rattle.operations.specs.Finish.{Edit, operation-edits, edits, Slots}
 use Rattle.model.proofs.All.{All, all-map}
 use Rattle.model.proofs.Records.{listed, told-slot}
@@ -34,6 +34,7 @@ operation-named (Rename e first size to renamed) = (
   ((0, omega arith, refl), (0, omega arith, refl)),
   (((1, omega arith, refl), (0, omega arith, refl)), tt),
 )
+operation-named (Replace e first from size) = (((0, omega arith, refl), (0, omega arith, refl)), tt)
 
 change-named : (x : Change) → All (Told (records x)) (edits x)
 unfolding records edits

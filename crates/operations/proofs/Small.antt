@@ -9,10 +9,10 @@ use lib.Dec.{leb, eqb}
 use lib.ListN.{getD}
 use Rattle.model.specs.Bytes.{Bytes, Span, pick, patch, zeros}
 use Rattle.model.specs.Sector.{Card, Store, store, put, after}
-use Rattle.model.specs.Fat.{fat1-of}
+use Rattle.model.specs.Fat.{fat1-of, free-clusters}
 use Rattle.model.specs.Root.{slot-at, file-at, file-size}
 use Rattle.model.specs.Pending.{pending}
-use Rattle.model.specs.Record.{r-from, r-cluster}
+use Rattle.model.specs.Record.{r-number, r-from, r-cluster, r-size}
 use Rattle.model.specs.Ground.{refused, granted}
 use Rattle.model.specs.declared.Layout.{Layout}
 use Rattle.model.specs.declared.Area.{Area}
@@ -22,7 +22,8 @@ use Rattle.model.specs.declared.Outcome.the-variants.{Done, Stopped}
 use Rattle.model.specs.declared.Pending.the-variants as Pending
 use Rattle.model.specs.declared.Ground.the-variants as Ground
 use Rattle.operations.specs.Program.{Program, stores}
-use Rattle.operations.specs.Plan.{create-stores, append-stores, truncate-stores, delete-stores, rename-stores, recover-stores, clusters-of}
+use Rattle.operations.specs.Plan.{create-stores, append-stores, truncate-stores, delete-stores, rename-stores, replace-stores, recover-stores}
+use Rattle.operations.specs.Plan.{clusters-of}
 use Rattle.operations.specs.Calls.{whole}
 use Rattle.operations.specs.Outcome.{made, outcome}
 use Rattle.operations.specs.Reading.{reading, file-byte}
@@ -79,6 +80,13 @@ deletion d = delete-stores v (appended d) (file-at l (appended d) 0)
 abbrev renaming : Bytes → Program
 renaming d = rename-stores v (appended d) (file-at l (appended d) 0) two
 
+-- Replace of the 600 bytes by n others, and of no bytes by none.
+abbrev replacing : Bytes → ℕ → Bytes → Program
+replacing d n e = replace-stores v (appended d) (file-at l (appended d) 0) (span n e)
+
+abbrev replacing-none : Bytes → Program
+replacing-none e = replace-stores v created (file-at l created 0) (span 0 e)
+
 -- ---- what is seen of them
 
 abbrev sectors : List Store → List ℕ
@@ -87,6 +95,10 @@ sectors ss = map (λ s. s .sector) ss
 -- A store of a list, by its place.
 abbrev bytes-at : List Store → ℕ → Bytes
 bytes-at ss i = getD ss i (store 0 zeros) .bytes
+
+-- What a record's bytes tell: operation, first/last cluster, DIR_Cluster, size.
+abbrev told : Bytes → List ℕ
+told b = r-number b ∷ r-cluster b ∷ r-from b ∷ r-size b ∷ []
 
 -- The size and the clusters of the file in a slot.
 pub record Seen : Type 0 where
@@ -174,6 +186,35 @@ redone : (d : Bytes) → (sectors (stores (renaming d)) ≡ 5 ∷ 4 ∷ 4 ∷ 3 
     × (seen 1 (recovered (cut 4 (renaming d) (appended d))) ≡ record { size = 600; chain = 4 ∷ 5 ∷ [] })
 unfolding compute
 redone d = (refl, refl)
+
+-- Replace: data to fresh clusters, FAT2 with new links and freed entries in one image, the log cleared (this is its third group), group,
+-- FAT1, root, commit. The record has operation 6, the old first cluster, the new first cluster, the new size; the old clusters are free.
+replacing-row : (d e : Bytes) → (sectors (stores (replacing d 700 e)) ≡ 8 ∷ 9 ∷ 2 ∷ 5 ∷ 4 ∷ 4 ∷ 1 ∷ 3 ∷ 4 ∷ [])
+    × (told (bytes-at (stores (replacing d 700 e)) 5) ≡ 6 ∷ 4 ∷ 6 ∷ 700 ∷ [])
+    × (seen 0 (after (stores (replacing d 700 e)) (appended d)) ≡ record { size = 700; chain = 6 ∷ 7 ∷ [] })
+    × (free-clusters l (fat1-of l (after (stores (replacing d 700 e)) (appended d))) ≡ 4 ∷ 5 ∷ 8 ∷ 9 ∷ [])
+unfolding compute
+replacing-row d e = (refl, refl, refl, refl)
+
+-- The new bytes, to the last, and zeros after them.
+replaced-bytes : (d e : Bytes) → map (file-byte l (after (stores (replacing d 700 e)) (appended d)) (file-at l (after (stores (replacing d 700 e)) (appended d)) 0))
+    (0 ∷ 511 ∷ 512 ∷ 699 ∷ 700 ∷ 1023 ∷ []) ≡ e 0 ∷ e 511 ∷ e 512 ∷ e 699 ∷ 0 ∷ 0 ∷ []
+unfolding compute
+replaced-bytes d e = refl
+
+-- By no bytes: no data sector, DIR_Cluster 0, and the file has no cluster. By as many bytes as it has, a group is written too, and of an
+-- empty file by no bytes: three stores.
+emptying-row : (d e : Bytes) → (sectors (stores (replacing d 0 e)) ≡ 2 ∷ 5 ∷ 4 ∷ 4 ∷ 1 ∷ 3 ∷ 4 ∷ [])
+    × (r-from (bytes-at (stores (replacing d 0 e)) 3) ≡ 0) × (seen 0 (after (stores (replacing d 0 e)) (appended d)) ≡ record { size = 0; chain = [] })
+    × (sectors (stores (replacing d 600 d)) ≡ 8 ∷ 9 ∷ 2 ∷ 5 ∷ 4 ∷ 4 ∷ 1 ∷ 3 ∷ 4 ∷ []) × (sectors (stores (replacing-none e)) ≡ 5 ∷ 3 ∷ 5 ∷ [])
+unfolding compute
+emptying-row d e = (refl, refl, refl, refl, refl)
+
+-- Cut one store before its group's and recovered, the old file; cut at it, the new one.
+replacing-cut : (d e : Bytes) → (seen 0 (recovered (cut 5 (replacing d 700 e) (appended d))) ≡ record { size = 600; chain = 4 ∷ 5 ∷ [] })
+    × (seen 0 (recovered (cut 6 (replacing d 700 e) (appended d))) ≡ record { size = 700; chain = 6 ∷ 7 ∷ [] })
+unfolding compute
+replacing-cut d e = (refl, refl)
 
 -- A file that has fewer clusters than its size needs, though the last of them holds an end value.
 abbrev stretched : Bytes → Card

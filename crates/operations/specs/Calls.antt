@@ -17,7 +17,7 @@ use Rattle.model.specs.declared.Volume.{Volume}
 use Rattle.model.specs.declared.Ground.the-variants as Ground
 use Rattle.operations.specs.Program.{Program, ending}
 use Rattle.operations.specs.Plan.{clusters-of, old-fat, added, new-clusters, create-stores, append-stores, truncate-stores, delete-stores}
-use Rattle.operations.specs.Plan.{rename-stores, recover-stores}
+use Rattle.operations.specs.Plan.{rename-stores, fresh-clusters, replace-stores, recover-stores}
 
 -- The name in a span of 11 bytes, and the slot that it means.
 abbrev pub name-of : Span → Name
@@ -72,6 +72,15 @@ append w n d = do
   Ground.Nospace when ltb (length (free-clusters (v .layout) (old-fat v (w .card)))) (added (v .layout) f (d .size))
   granted (unless-none (d .size) (append-stores v (w .card) f d))
 
+-- "One call should replace a file's bytes." "Answers: append's grounds", NOSPACE for all clusters of the new bytes. "A replace always
+-- writes a group."
+unfoldable pub replace : Window → Span → Span → Answer Program
+replace w n d = do
+  v ← clean w
+  f ← file-of v (w .card) n
+  Ground.Nospace when ltb (length (free-clusters (v .layout) (old-fat v (w .card)))) (needed (v .layout) (d .size))
+  granted (replace-stores v (w .card) f d)
+
 -- "14. LENGTH: truncate asks more than the present size."
 unfoldable pub truncate : Window → Span → ℕ → Answer Program
 truncate w n size = do
@@ -109,6 +118,7 @@ pub data Call : Type 0 where
   truncates : (name : Span) (size : ℕ) → Call
   deletes : (name : Span) → Call
   renames : (name new-name : Span) → Call
+  replaces : (name bytes : Span) → Call
   recovers : Call
 
 -- What a call would store on a window, or its refusal.
@@ -118,6 +128,7 @@ plan (appends n d) w = append w n d
 plan (truncates n size) w = truncate w n size
 plan (deletes n) w = delete w n
 plan (renames n m) w = rename w n m
+plan (replaces n d) w = replace w n d
 plan recovers w = recover w
 
 -- The clusters that a call takes, and those that it releases, if it is not refused: "Free clusters after a finished call are those
@@ -131,6 +142,7 @@ taken-by v c (appends n d) = new-clusters v c (named-file v c n) (d .size)
 taken-by v c (truncates n size) = []
 taken-by v c (deletes n) = []
 taken-by v c (renames n m) = []
+taken-by v c (replaces n d) = fresh-clusters v c (d .size)
 taken-by v c recovers = []
 
 unfoldable pub released-by : Volume → Card → Call → List ℕ
@@ -139,4 +151,5 @@ released-by v c (appends n d) = []
 released-by v c (truncates n size) = drop (needed (v .layout) size) (clusters-of (v .layout) (old-fat v c) (named-file v c n))
 released-by v c (deletes n) = clusters-of (v .layout) (old-fat v c) (named-file v c n)
 released-by v c (renames n m) = []
+released-by v c (replaces n d) = clusters-of (v .layout) (old-fat v c) (named-file v c n)
 released-by v c recovers = []

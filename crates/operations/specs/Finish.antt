@@ -15,7 +15,7 @@ use Rattle.model.specs.declared.Name.{Name}
 use Rattle.model.specs.declared.Change.{Change}
 use Rattle.model.specs.declared.Group.{Group}
 use Rattle.model.specs.declared.Operation.{Operation}
-use Rattle.model.specs.declared.Operation.the-variants.{Create, Update, Delete, Truncate, Rename}
+use Rattle.model.specs.declared.Operation.the-variants.{Create, Update, Delete, Truncate, Rename, Replace}
 use Rattle.operations.specs.Program.{Program, ending, segment}
 
 -- An edit gives a slot what it makes of a slot's bytes: of its own, or of another's. The directory after a list of edits, each made
@@ -54,7 +54,7 @@ new-entry n = set-name n (patch 1 0x20 11 (patch 2 0x21 16 (patch 2 0x21 18 (pat
 
 -- "Root effect. Create: a new slot .. Update: size; first cluster becomes DIR_Cluster if the last was 0. Truncate: size; first
 -- cluster 0 if size is 0. Delete: first byte 0xE5. Rename: the new slot gets the new name and bytes 11 to 31 of the old, the old
--- gets 0xE5."
+-- gets 0xE5." Replace: "The root slot gets that first cluster and size", those of the record.
 unfoldable pub operation-edits : Operation → List Edit
 operation-edits (Create e) = edit (e .slot) (λ b. new-entry (e .name)) ∷ []
 operation-edits (Update e last from size) = edit (e .slot) (λ b. set-size size (pick (eqb last 0) (set-first from b) b)) ∷ []
@@ -62,6 +62,7 @@ operation-edits (Delete e first size) = edit (e .slot) (λ b. mark-deleted b) �
 operation-edits (Truncate e first from size) = edit (e .slot) (λ b. set-size size (pick (eqb size 0) (set-first 0 b) b)) ∷ []
 operation-edits (Rename e first size to renamed) =
     edit (e .slot) (λ b. mark-deleted b) ∷ edit-from (e .slot) to (λ b. set-name renamed b) ∷ []
+operation-edits (Replace e first from size) = edit (e .slot) (λ b. set-size size (set-first from b)) ∷ []
 
 unfoldable pub edits : Change → List Edit
 edits x = operation-edits (x .operation)

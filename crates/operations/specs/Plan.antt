@@ -18,7 +18,7 @@ use Rattle.model.specs.declared.File.{File}
 use Rattle.model.specs.declared.Change.{Change}
 use Rattle.model.specs.declared.Group.{Group}
 use Rattle.model.specs.declared.Volume.{Volume}
-use Rattle.model.specs.declared.Operation.the-variants.{Create, Update, Delete, Truncate, Rename}
+use Rattle.model.specs.declared.Operation.the-variants.{Create, Update, Delete, Truncate, Rename, Replace}
 use Rattle.model.specs.declared.Pending.{Pending}
 use Rattle.model.specs.declared.Pending.the-variants as Pending
 use Rattle.operations.specs.Program.{Program, ending, segment}
@@ -130,6 +130,24 @@ delete-stores v c f =
 unfoldable pub rename-stores : Volume → Card → File → Name → Program
 rename-stores v c f name =
     operate v c [] (old-fat v c) (plain (Rename (f .entry) (f .first) (f .size) (free-slot (v .layout) c) name))
+
+-- Replace "takes new clusters, for which the old ones do not count as free": the lowest free ones, as many as n bytes need.
+unfoldable pub fresh-clusters : Volume → Card → ℕ → List ℕ
+fresh-clusters v c n = take (needed (v .layout) n) (free-clusters (v .layout) (old-fat v c))
+
+-- It links them among themselves "and releases the old in the same group".
+unfoldable pub exchange : List ℕ → List ℕ → Fat → Fat
+exchange old new t = release old (link new t)
+
+-- "Data sectors go first, as in append": from the file's first byte on, along the new clusters alone. "The record has .. the old first
+-- cluster in first/last, the new first cluster (0 for no bytes) in DIR_Cluster, and the new size."
+unfoldable pub replace-along : Volume → Card → File → Span → List ℕ → List ℕ → Program
+replace-along v c f d old new =
+    operate v c (data-stores (v .layout) c new 0 d) (exchange old new (old-fat v c))
+    (plain (Replace (f .entry) (f .first) (getD new 0 0) (d .size)))
+
+unfoldable pub replace-stores : Volume → Card → File → Span → Program
+replace-stores v c f d = replace-along v c f d (clusters-of (v .layout) (old-fat v c) f) (fresh-clusters v c (d .size))
 
 -- "Recovery, pending group: FAT2 sectors that differ go to FAT1, rising, then 5 and 6 from the record. No pending group: FAT1
 -- sectors that differ go to FAT2, rising."
