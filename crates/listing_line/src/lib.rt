@@ -35,6 +35,7 @@ fn put_operation(out: &mut [u8], at: usize, number: u32) -> usize
         3 => listing_text::put_text(out, at, b" delete"),
         4 => listing_text::put_text(out, at, b" truncate"),
         5 => listing_text::put_text(out, at, b" rename"),
+        6 => listing_text::put_text(out, at, b" replace"),
         _ => listing_text::put_text(out, at, b" unknown"),
     }
 }

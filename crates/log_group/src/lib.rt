@@ -42,6 +42,12 @@ pub fn records_of(x: Change) -> u32
             to: _,
             renamed: _,
         } => 2,
+        Operation::Replace {
+            entry: _,
+            first: _,
+            from: _,
+            size: _,
+        } => 1,
     }
 }
 
@@ -77,7 +83,7 @@ fn decode(log: &[u8], s: u32) -> Operation
             from: r.from,
             size: r.size,
         },
-        _ => {
+        5 => {
             let d = log_record::load(log, s, 1);
             let renamed = d.name;
             Operation::Rename {
@@ -88,6 +94,12 @@ fn decode(log: &[u8], s: u32) -> Operation
                 renamed,
             }
         }
+        _ => Operation::Replace {
+            entry,
+            first: r.cluster,
+            from: r.from,
+            size: r.size,
+        },
     }
 }
 

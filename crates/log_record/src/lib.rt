@@ -66,7 +66,7 @@ fn record_ok(r: Record, entries: u32, z: u32) -> bool
     if r.number < 1 {
         return false;
     }
-    if 5 < r.number {
+    if 6 < r.number {
         return false;
     }
     if r.directory != 0 {

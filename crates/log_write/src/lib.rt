@@ -160,6 +160,12 @@ fn record_of(x: Change, k: u32) -> Record
             };
             record_about(e, 0, first, 0, size)
         }
+        Operation::Replace {
+            entry,
+            first,
+            from,
+            size,
+        } => record_about(entry, 6, first, from, size),
     }
 }
 

@@ -16,7 +16,7 @@ use Rattle.model.specs.declared.Layout.{Layout}
 use Rattle.model.specs.declared.Name.{Name}
 use Rattle.model.specs.declared.Entry.{Entry}
 use Rattle.model.specs.declared.Change.{Change}
-use Rattle.model.specs.declared.Operation.the-variants.{Create, Update, Delete, Truncate, Rename}
+use Rattle.model.specs.declared.Operation.the-variants.{Create, Update, Delete, Truncate, Rename, Replace}
 use Rattle.model.proofs.Tests.{less?}
 use Rattle.model.proofs.All.{All}
 use Rattle.model.proofs.Cards.{store-same, put-case, clip-clip}
@@ -69,6 +69,12 @@ module _ (d : Directory) (k : ℕ) (b r : Bytes) (same : (j : ℕ) → j < 32 �
   in-rename e first size to renamed h is j s =
       ap (λ (x : Bytes). x j) is ∙ own-made (e .slot) (λ x. mark-deleted x) (edit-from (e .slot) to (λ x. set-name renamed x) ∷ []) d k j b h
       (laid-mark j) (same j s)
+
+  pub in-replace : (e : Entry) (first from size : ℕ) → k ≡ e .slot → r ≡ resized b true from size
+      → (j : ℕ) → j < 32 → r j ≡ effect (plain (Replace e first from size)) d k j
+  unfolding effect edits operation-edits
+  in-replace e first from size h is j s =
+      ap (λ (x : Bytes). x j) is ∙ own-made (e .slot) (λ x. resized x true from size) [] d k j b h (laid-resized true from size j) (same j s)
 
 -- A rename's new slot, made of the old one's bytes.
 pub in-renamed : (d : Directory) (k : ℕ) (e : Entry) (first size to : ℕ) (renamed : Name) (b r : Bytes) → ((j : ℕ) → j < 32 → b j ≡ d (e .slot) j)

@@ -78,6 +78,12 @@ fn concerns(x: Change, r: u32) -> bool
             }
             to / 16 == r
         }
+        Operation::Replace {
+            entry,
+            first: _,
+            from: _,
+            size: _,
+        } => entry.slot / 16 == r,
     }
 }
 
@@ -140,6 +146,17 @@ fn slot_after(w: &[u8], l: Layout, x: Change, k: u32) -> [u8; 32]
             }
             if k == to {
                 return sector_build::set_name(load_slot(w, l, entry.slot), renamed);
+            }
+            b
+        }
+        Operation::Replace {
+            entry,
+            first: _,
+            from,
+            size,
+        } => {
+            if k == entry.slot {
+                return resize(b, true, from, size);
             }
             b
         }

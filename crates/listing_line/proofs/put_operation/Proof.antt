@@ -69,19 +69,30 @@ returns-6 c = (
 
 returns-7 : tie.Need-returns-7
 unfolding operation-text op-word ascii
-returns-7 c =
+returns-7 c = (
+  rw (c .before .before .before .before .before .match .keys7) (c .before .before .put-text7 .ensures),
+  omega (
+    arith,
+    c .before .before .put-text7 .ensures .ends,
+  ),
+)
+
+returns-8 : tie.Need-returns-8
+unfolding operation-text op-word ascii
+returns-8 c =
     let r = c .before .before .before .before .before .match .rest in (
       rw (
+        ne-eqb _ _ (r .0 .0 .0 .0 .0 .0 .1),
         ne-eqb _ _ (r .0 .0 .0 .0 .0 .1),
         ne-eqb _ _ (r .0 .0 .0 .0 .1),
         ne-eqb _ _ (r .0 .0 .0 .1),
         ne-eqb _ _ (r .0 .0 .1),
         ne-eqb _ _ (r .0 .1),
         ne-eqb _ _ (r .1),
-      ) (c .before .before .put-text7 .ensures),
+      ) (c .before .before .put-text8 .ensures),
       omega (
         arith,
-        c .before .before .put-text7 .ensures .ends,
+        c .before .before .put-text8 .ensures .ends,
       ),
     )
 
@@ -90,6 +101,6 @@ put-operation-spec =
     tie.close
     (tie.spec (λ c. search needs) (λ c κs. search needs) (λ c. search needs) (λ c κs. search needs) (λ c. search needs)
     (λ c κs. search needs) (λ c. search needs) (λ c κs. search needs) (λ c. search needs) (λ c κs. search needs) (λ c. search needs)
-    (λ c κs. search needs) (λ c. search needs) (λ c κs. search needs) (λ c. search needs) returns (λ c. search needs) returns-2
-    (λ c. search needs) returns-3 (λ c. search needs) returns-4 (λ c. search needs) returns-5 (λ c. search needs) returns-6
-    (λ c. search needs) returns-7)
+    (λ c κs. search needs) (λ c. search needs) (λ c κs. search needs) (λ c. search needs) (λ c κs. search needs) (λ c. search needs) returns
+    (λ c. search needs) returns-2 (λ c. search needs) returns-3 (λ c. search needs) returns-4 (λ c. search needs) returns-5
+    (λ c. search needs) returns-6 (λ c. search needs) returns-7 (λ c. search needs) returns-8)

@@ -2,8 +2,8 @@ use mathlib.Core.Path.{sym, ap, _∙_}
 use Rattle.model.specs.Sector.{card-of}
 use Rattle.model.specs.Record.{entry-in, record-at}
 use Rattle.model.specs.declared.Record.{Record}
-use Rattle.model.specs.declared.Operation.the-variants.{Create, Update, Delete, Truncate, Rename}
-use Rattle.log_group.proofs.Laws.{told-create, told-update, told-delete, told-truncate, told-rename}
+use Rattle.model.specs.declared.Operation.the-variants.{Create, Update, Delete, Truncate, Rename, Replace}
+use Rattle.log_group.proofs.Laws.{told-create, told-update, told-delete, told-truncate, told-rename, told-replace}
 use borrow.Author.Needs.{needs}
 use Rattle.log_group.proofs.decode.Statement.{statement}
 use Rattle.log_group.proofs.decode.Tie as tie
@@ -43,15 +43,23 @@ returns-5 : tie.Need-returns-5
 returns-5 c =
     let a = c .before .before .before .before .before .before .args in
     let load = c .before .before .before .before .load in
-    let match = c .before .before .match in
     (λ i. Rename (entry-in (load .ensures i)) (load .ensures i .cluster) (load .ensures i .size) (c .before .load2 .ensures i .slot)
     (c .before .load2 .ensures i .name)) ∙ sym
-    (told-rename (record-at (card-of (a .log .now) (a .s))) (λ q. (match .rest .0 .0 .0 .1) (ap (λ (x : Record). x .number) (load .ensures) ∙ q))
-    (λ q. (match .rest .0 .0 .1) (ap (λ (x : Record). x .number) (load .ensures) ∙ q))
-    (λ q. (match .rest .0 .1) (ap (λ (x : Record). x .number) (load .ensures) ∙ q))
-    (λ q. (match .rest .1) (ap (λ (x : Record). x .number) (load .ensures) ∙ q)))
+    (told-rename (record-at (card-of (a .log .now) (a .s)))
+    (ap (λ (x : Record). x .number) (sym (load .ensures)) ∙ c .before .before .match .keys5))
+
+returns-6 : tie.Need-returns-6
+returns-6 c =
+    let a = c .before .before .before .before .args in
+    let load = c .before .before .load in
+    let same = ap (λ (x : Record). x .number) (load .ensures) in
+    let match = c .match in
+    ap (λ (x : Record). Replace (entry-in x) (x .cluster) (x .from) (x .size)) (load .ensures)
+    ∙ sym (told-replace (record-at (card-of (a .log .now) (a .s))) (λ q. (match .rest .0 .0 .0 .0 .1) (same ∙ q))
+    (λ q. (match .rest .0 .0 .0 .1) (same ∙ q)) (λ q. (match .rest .0 .0 .1) (same ∙ q)) (λ q. (match .rest .0 .1) (same ∙ q))
+    (λ q. (match .rest .1) (same ∙ q)))
 
 pub decode-spec : {M : Type 1} → statement M
 decode-spec =
     tie.close
-    (tie.spec (λ c κs. search needs) (λ c κs. search needs) returns returns-2 returns-3 returns-4 returns-5)
+    (tie.spec (λ c κs. search needs) (λ c κs. search needs) returns returns-2 returns-3 returns-4 returns-5 returns-6)

@@ -53,9 +53,17 @@ returns-6 c =
     let less = rw (o5 .given .1) at (pre) in let second : a .k ≡ 1 = omega (arith, c .before .if1 .left) in rw (o5 .given .1, second)
     (c .record-about6 .ensures)
 
+returns-7 : tie.Need-returns-7
+unfolding records operation-records
+returns-7 c =
+    let pre = c .before .before .before .before .pre in
+    let a = c .before .before .before .before .args in
+    let o6 = c .before .before .o6 in
+    let less = rw (o6 .given .1) at (pre) in let first : a .k ≡ 0 = omega arith in rw (o6 .given .1, first) (c .record-about7 .ensures)
+
 pub record-of-spec : {M : Type 1} → statement M
 record-of-spec =
     tie.close
     (tie.spec (λ c. search needs) (λ c κs. search needs) (λ c. search needs) (λ c κs. search needs) (λ c. search needs)
     (λ c κs. search needs) (λ c. search needs) (λ c κs. search needs) (λ c. search needs) (λ c κs. search needs) returns
-    (λ c κs. search needs) returns-2 returns-3 returns-4 returns-5 returns-6)
+    (λ c κs. search needs) (λ c. search needs) (λ c κs. search needs) returns-2 returns-3 returns-4 returns-5 returns-6 returns-7)

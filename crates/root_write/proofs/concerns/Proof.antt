@@ -32,8 +32,12 @@ returns-6 : tie.Need-returns-6
 unfolding concerns edits operation-edits any
 returns-6 c = rw (c .before .before .before .o5 .given .1, ne-eqb _ _ (c .if1 .left)) (or-one _)
 
+returns-7 : tie.Need-returns-7
+unfolding concerns edits operation-edits any
+returns-7 c = rw (c .before .before .o6 .given .1) (or-one _)
+
 pub concerns-spec : {M : Type 1} → statement M
 concerns-spec =
     tie.close
-    (tie.spec (λ c. search needs) (λ c. search needs) (λ c. search needs) (λ c. search needs) (λ c. search needs) returns returns-2
-    returns-3 returns-4 returns-5 returns-6)
+    (tie.spec (λ c. search needs) (λ c. search needs) (λ c. search needs) (λ c. search needs) (λ c. search needs) returns (λ c. search needs)
+    returns-2 returns-3 returns-4 returns-5 returns-6 returns-7)

@@ -2,7 +2,7 @@ use Rattle.model.specs.Bytes.{bytes-of}
 use Rattle.model.specs.Sector.{card-of}
 use Rattle.model.specs.Root.{slot-at}
 use Rattle.operations.specs.Finish.{effect, edits, operation-edits}
-use Rattle.root_write.proofs.Laws.{out, in-create, in-update, in-delete, in-truncate, in-rename, in-renamed}
+use Rattle.root_write.proofs.Laws.{out, in-create, in-update, in-delete, in-truncate, in-rename, in-renamed, in-replace}
 use borrow.Author.Needs.{needs}
 use Rattle.root_write.proofs.slot_after.Statement.{statement}
 use Rattle.root_write.proofs.slot_after.Tie as tie
@@ -80,14 +80,14 @@ returns-6 c =
     (bytes-of (c .set-name .result)) (c .before .load-slot2 .ensures) (if5 .left) (c .before .before .if6 .taken) (c .set-name .ensures))
 
 returns-7 : tie.Need-returns-7
-unfolding edits operation-edits
+unfolding effect edits
 returns-7 c =
-    let o = c .before .before .before in
-    let l = o .before .before in
-    let b = l .before .before in
-    let a = b .args in
-    out (a .x) (slot-at (a .l) (card-of (a .w .now))) (a .k) (bytes-of (l .load-slot .result)) (rw (o .o .given .1) (c .if1 .left, tt))
-    (l .load-slot .ensures)
+    let args = c .before .before .before .before .before .before .before .before .args in
+    let load-slot = c .before .before .before .before .before .before .load-slot in
+    let o6 = c .before .before .before .before .o6 in
+    rw (o6 .given .1) (in-replace (slot-at (args .l) (card-of (args .w .now))) (args .k) (bytes-of (load-slot .result))
+    (bytes-of (c .resize3 .result)) (load-slot .ensures) (o6 .given .0 .0) (o6 .given .0 .1 .0) (o6 .given .0 .1 .1 .0) (o6 .given .0 .1 .1 .1 .0)
+    (c .before .if7 .taken) (c .resize3 .ensures))
 
 returns-8 : tie.Need-returns-8
 unfolding edits operation-edits
@@ -96,7 +96,7 @@ returns-8 c =
     let l = o .before .before in
     let b = l .before .before in
     let a = b .args in
-    out (a .x) (slot-at (a .l) (card-of (a .w .now))) (a .k) (bytes-of (l .load-slot .result)) (rw (o .o2 .given .1) (c .if2 .left, tt))
+    out (a .x) (slot-at (a .l) (card-of (a .w .now))) (a .k) (bytes-of (l .load-slot .result)) (rw (o .o .given .1) (c .if1 .left, tt))
     (l .load-slot .ensures)
 
 returns-9 : tie.Need-returns-9
@@ -106,7 +106,7 @@ returns-9 c =
     let l = o .before .before in
     let b = l .before .before in
     let a = b .args in
-    out (a .x) (slot-at (a .l) (card-of (a .w .now))) (a .k) (bytes-of (l .load-slot .result)) (rw (o .o3 .given .1) (c .if3 .left, tt))
+    out (a .x) (slot-at (a .l) (card-of (a .w .now))) (a .k) (bytes-of (l .load-slot .result)) (rw (o .o2 .given .1) (c .if2 .left, tt))
     (l .load-slot .ensures)
 
 returns-10 : tie.Need-returns-10
@@ -116,12 +116,22 @@ returns-10 c =
     let l = o .before .before in
     let b = l .before .before in
     let a = b .args in
-    out (a .x) (slot-at (a .l) (card-of (a .w .now))) (a .k) (bytes-of (l .load-slot .result)) (rw (o .o4 .given .1) (c .if4 .left, tt))
+    out (a .x) (slot-at (a .l) (card-of (a .w .now))) (a .k) (bytes-of (l .load-slot .result)) (rw (o .o3 .given .1) (c .if3 .left, tt))
     (l .load-slot .ensures)
 
 returns-11 : tie.Need-returns-11
 unfolding edits operation-edits
 returns-11 c =
+    let o = c .before .before .before in
+    let l = o .before .before in
+    let b = l .before .before in
+    let a = b .args in
+    out (a .x) (slot-at (a .l) (card-of (a .w .now))) (a .k) (bytes-of (l .load-slot .result)) (rw (o .o4 .given .1) (c .if4 .left, tt))
+    (l .load-slot .ensures)
+
+returns-12 : tie.Need-returns-12
+unfolding edits operation-edits
+returns-12 c =
     let o = c .before .before .before .before in
     let l = o .before .before in
     let b = l .before .before in
@@ -129,10 +139,20 @@ returns-11 c =
     out (a .x) (slot-at (a .l) (card-of (a .w .now))) (a .k) (bytes-of (l .load-slot .result))
     (rw (o .o5 .given .1) (c .before .if5 .left, (c .if6 .left, tt))) (l .load-slot .ensures)
 
+returns-13 : tie.Need-returns-13
+unfolding edits operation-edits
+returns-13 c =
+    let o = c .before .before .before in
+    let l = o .before .before in
+    let b = l .before .before in
+    let a = b .args in
+    out (a .x) (slot-at (a .l) (card-of (a .w .now))) (a .k) (bytes-of (l .load-slot .result)) (rw (o .o6 .given .1) (c .if7 .left, tt))
+    (l .load-slot .ensures)
+
 pub slot-after-spec : {M : Type 1} → statement M
 slot-after-spec =
     tie.close
     (tie.spec (λ c κs. search needs) (λ c. search needs) (λ c κs. search needs) returns (λ c. search needs) (λ c κs. search needs) returns-2
     (λ c. search needs) (λ c κs. search needs) returns-3 (λ c. search needs) (λ c κs. search needs) returns-4 (λ c. search needs)
-    (λ c κs. search needs) returns-5 load-slot-requires-2 (λ c κs. search needs) returns-6 returns-7 returns-8 returns-9 returns-10
-    returns-11)
+    (λ c κs. search needs) returns-5 load-slot-requires-2 (λ c κs. search needs) returns-6 (λ c. search needs) (λ c κs. search needs)
+    returns-7 returns-8 returns-9 returns-10 returns-11 returns-12 returns-13)
