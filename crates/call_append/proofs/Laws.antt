@@ -1,14 +1,13 @@
 -- Append by its parts: grounds, the stores of the chain, and the steps through the log.
-use Prim.Native.Nat.{ℕ, zero, suc, _+_, _-_, _<_, _≤_}
+use Prim.Native.Nat.{ℕ, _+_, _-_, _<_, _≤_}
 use native.Mathlib.Omega.{arith}
-use mathlib.Core.Path.{_≡_, sym, ap, _∙_, subst}
+use mathlib.Core.Path.{_≡_, sym, ap, subst}
 use mathlib.Core.Bool.{Bool, true, false}
-use mathlib.Core.List.{List, [], _∷_}
-use lib.ListN.{length, take, getD}
+use mathlib.Core.List.{List, []}
+use lib.ListN.{length}
 use borrow.Author.Tests.{lt-ltb, le-ltb, ne-eqb}
 use Rattle.model.specs.Bytes.{Span}
 use Rattle.model.specs.Sector.{Card, card-of, Window, Store}
-use Rattle.model.specs.Scan.{first-from}
 use Rattle.model.specs.Fat.{Fat, entry, fat1-of, fat2-of, free-clusters, write-fat}
 use Rattle.model.specs.Ground.{refused, granted, _when_, _>>=_, _>>_}
 use Rattle.model.specs.Volume.{clean}
@@ -24,24 +23,22 @@ use Rattle.model.specs.declared.Change.{Change}
 use Rattle.model.specs.declared.Operation.the-variants.{Update}
 use Rattle.model.proofs.All.{All, all-map}
 use Rattle.model.proofs.Cards.{Away}
-use Rattle.model.proofs.Runs.{ran-then, ran-stop, ran-away}
 use Rattle.model.proofs.Chains.{Used, chain-used}
 use Rattle.operations.specs.Program.{ending, stores}
 use Rattle.operations.specs.Plan.{clusters-of, last-cluster, added, new-clusters, operate, append-along, append-stores}
 use Rattle.operations.specs.Calls.{append, unless-none}
-use Rattle.fat_read.specs.Located.{holds}
 use Rattle.volume.specs.Opened.{Ready}
 use Rattle.volume.proofs.Ready.{ready-run, ready-log}
 use Rattle.file_read.specs.Files.{Proper}
 use Rattle.fat_write.specs.Allocate.{grown}
 use Rattle.fat_write.proofs.Extends.{extend-grown}
 use Rattle.fat_write.proofs.Kept.{free-kept, grown-kept}
-use Rattle.file_append.specs.Extents.{append-data, Room}
-use Rattle.file_append.proofs.Clusters.{indices-next}
-use Rattle.file_append.proofs.Apart.{append-inside, append-off-log}
+use Rattle.file_append.specs.Extents.{append-data, Room, first-of}
+use Rattle.file_append.proofs.Apart.{append-off-log}
+use Rattle.file_append.proofs.Front.{front-kept, data-cut, data-then}
 use Rattle.log_steps.specs.Steps.{log-steps}
 use Rattle.log_steps.proofs.Parts.{operate-cut, operate-ran}
-use Rattle.call_append.specs.Append.{append-to, append-on, chain-stores, first-of}
+use Rattle.call_append.specs.Append.{append-to, append-on, chain-stores}
 
 -- ---- grounds
 
@@ -78,43 +75,23 @@ unfolding clusters-of
 old-used l c f sh h = all-map (Used l (entry (fat1-of l c))) (λ k. k ≡ 0 → ⊥) (λ k u e. let low : 2 ≤ k = u .low in omega arith)
     (clusters-of l (fat1-of l c) f) (chain-used l (sh .few) (entry (fat1-of l c)) (sh .factor-low) (f .first) (f .size) h)
 
-taken-first : (n k : ℕ) (ks js : List ℕ) → 0 < n → ks ≡ k ∷ js → getD (take n ks) 0 0 ≡ k
-taken-first zero k ks js pos e = absurd (omega arith)
-taken-first (suc n) k ks js pos e = ap (λ (zs : List ℕ). getD (take (suc n) zs) 0 0) e
-
--- The first new cluster is the lowest free one.
-pub first-is-free : (l : Layout) (c : Card) (n r : ℕ) → 0 < n → n ≤ length (free-clusters l (fat1-of l c))
-    → r ≡ first-from (holds 0 (fat1-of l c)) 2 (l .clusters + 2 - 2) → r ≡ first-of l c n
-unfolding free-clusters
-first-is-free l c n r pos enough e =
-    let z : l .clusters + 2 - 2 ≡ l .clusters = omega arith in
-    let i = indices-next (holds 0 (fat1-of l c)) 2 (l .clusters) (omega arith) in
-    e ∙ ap (first-from (holds 0 (fat1-of l c)) 2) z ∙ sym (taken-first n _ (free-clusters l (fat1-of l c)) _ pos (i .1))
-
 -- ---- data and FAT2 under one limit
 
 module _ (l : Layout) (f : File) (d : Span) (last n limit : ℕ) (e x : List ℕ) (m : ℕ) where
+  abbrev linked : Card → List Store
+  linked c = write-fat l (l .fat2) (grown l (fat1-of l c) last n) (fat2-of l c)
+
   pub chain-cut : Ran limit (append-data l (card-of e) f d) e x m false → Ran limit (chain-stores l (card-of e) f d last n) e x m false
-  chain-cut so = ran-stop limit (append-data l (card-of e) f d) e x m so
-      (write-fat l (l .fat2) (grown l (fat1-of l (card-of e)) last n) (fat2-of l (card-of e)))
+  chain-cut so = data-cut l f d limit e x m linked so
 
-  module _ (sh : Shape l) (h : Proper l (card-of e) f) (w : Bool) (so : Ran limit (append-data l (card-of e) f d) e x m w) where
-    -- The data sectors leave what is before them.
-    front-kept : (s : ℕ) → s < l .start → card-of x s ≡ card-of e s
-    front-kept s less = ran-away limit (append-data l (card-of e) f d) e x m w so s
-        (all-map (λ t. (l .start ≤ t .sector) × (t .sector < l .total)) (λ t. s ≡ t .sector → ⊥)
-        (λ t q same. let low : l .start ≤ t .sector = q .0 in omega arith)
-        (append-data l (card-of e) f d) (append-inside l (card-of e) f d sh h))
+  module _ (sh : Shape l) (h : Proper l (card-of e) f) where
+    pub enough-kept : (w : Bool) → Ran limit (append-data l (card-of e) f d) e x m w → n ≤ length (free-clusters l (fat1-of l (card-of e)))
+        → n ≤ length (free-clusters l (fat1-of l (card-of x)))
+    enough-kept w so enough = rw (free-kept l sh (card-of e) (card-of x) (front-kept l f d limit e x m sh h w so)) enough
 
-    pub enough-kept : n ≤ length (free-clusters l (fat1-of l (card-of e))) → n ≤ length (free-clusters l (fat1-of l (card-of x)))
-    enough-kept h = rw (free-kept l sh (card-of e) (card-of x) front-kept) h
-
-  pub chain-ran : Shape l → Proper l (card-of e) f → Ran limit (append-data l (card-of e) f d) e x m true → (y : List ℕ) (k : ℕ) (w : Bool)
-      → Ran (limit - m) (write-fat l (l .fat2) (grown l (fat1-of l (card-of x)) last n) (fat2-of l (card-of x))) x y k w
-      → Ran limit (chain-stores l (card-of e) f d last n) e y (m + k) w
-  chain-ran sh h so y k w next =
-      ran-then limit (append-data l (card-of e) f d) e x m so (write-fat l (l .fat2) (grown l (fat1-of l (card-of e)) last n) (fat2-of l (card-of e))) y k w
-      (rw (grown-kept l sh (card-of e) (card-of x) (front-kept sh h true so) last n) at next)
+    pub chain-ran : Ran limit (append-data l (card-of e) f d) e x m true → (y : List ℕ) (k : ℕ) (w : Bool) → Ran (limit - m) (linked (card-of x)) x y k w
+        → Ran limit (chain-stores l (card-of e) f d last n) e y (m + k) w
+    chain-ran so = data-then l f d limit e x m linked so (grown-kept l sh (card-of e) (card-of x) (front-kept l f d limit e x m sh h true so) last n)
 
 -- ---- the steps through the log
 

@@ -2,7 +2,7 @@
 use Prim.Native.Nat.{ℕ}
 use mathlib.Core.List.{List, _++_}
 use lib.Dec.{ltb}
-use lib.ListN.{length, take, getD}
+use lib.ListN.{length}
 use Rattle.model.specs.Bytes.{Span}
 use Rattle.model.specs.Sector.{Card, Store}
 use Rattle.model.specs.Fat.{fat1-of, fat2-of, free-clusters, write-fat}
@@ -30,7 +30,3 @@ append-on c v n d = file-of v c n >>= λ f. append-to c v f d
 -- Steps 1 and 2: the data sectors; FAT2 with n new clusters linked after the last.
 abbrev pub chain-stores : Layout → Card → File → Span → ℕ → ℕ → List Store
 chain-stores l c f d last n = append-data l c f d ++ write-fat l (l .fat2) (grown l (fat1-of l c) last n) (fat2-of l c)
-
--- The first of n new clusters, 0 if there is none.
-abbrev pub first-of : Layout → Card → ℕ → ℕ
-first-of l c n = getD (take n (free-clusters l (fat1-of l c))) 0 0

@@ -9,11 +9,11 @@ use model::Volume;
 use root_lookup::Found;
 use volume::Examined;
 ghost use mathlib.Core.Path.{_≡_};
-ghost use Prim.Native.Nat.{_≤_, _<_};
+ghost use Prim.Native.Nat.{_<_};
 ghost use lib.ListN.{length};
 ghost use Rattle.model.specs.Bytes.{view};
 ghost use Rattle.model.specs.Sector.{card-of, window-of};
-ghost use Rattle.model.specs.Fat.{fat1-of, free-clusters};
+ghost use Rattle.model.specs.Fat.{fat1-of};
 ghost use Rattle.model.specs.Promises.{Held, Ran};
 ghost use Rattle.operations.specs.Program.{stores};
 ghost use Rattle.operations.specs.Plan.{clusters-of, last-cluster, added, append-stores};
@@ -22,7 +22,7 @@ ghost use Rattle.volume.specs.Opened.{Ready};
 ghost use Rattle.root_lookup.specs.Found.{Chained};
 ghost use Rattle.file_append.specs.Extents.{Room};
 ghost use Rattle.log_steps.specs.Did.{Did};
-ghost use Rattle.call_append.specs.Append.{append-to, append-on, chain-stores, first-of};
+ghost use Rattle.call_append.specs.Append.{append-to, append-on, chain-stores};
 
 // Steps 1 and 2: the data sectors, then FAT2.
 fn store_chain(
@@ -47,17 +47,6 @@ fn store_chain(
     sector::joined(p, q)
 }
 
-// The first of n new clusters, 0 if there is none.
-fn first_new(w: &[u8], l: Layout, n: u32) -> u32
-    requires { ⌜ Held l (now w) × (n ≤ length (free-clusters l (fat1-of l (card-of (now w))))) ⌝ }
-    ensures { λ r. ⌜ r ≡ first-of l (card-of (now (w .entry))) n ⌝ }
-{
-    if n == 0 {
-        return 0;
-    }
-    fat_chain::next_free(w, l, 2)
-}
-
 // The stores of an append of some bytes that there is room for.
 fn store_append(
     w: &mut [u8],
@@ -74,7 +63,7 @@ fn store_append(
         Ran limit (stores (append-stores v (card-of (now (w .entry))) f (view (now (bytes .entry))))) (now (w .entry)) (now (w .exit)) (r .made) (r .whole) ⌝ }
 {
     let l = v.layout;
-    let from = first_new(w, l, n);
+    let from = file_append::first_new(w, l, n);
     let p = store_chain(w, l, f, last, n, bytes, limit);
     if !p.whole {
         return p;

@@ -3,7 +3,7 @@ use Prim.Native.Nat.{ℕ, zero, suc, _+_, _-_, _*_, _/_, _<_, _≤_}
 use native.Mathlib.Omega.{arith}
 use mathlib.Core.Path.{_≡_, refl, sym, ap, _∙_}
 use mathlib.Core.Logic.{⊎-elim}
-use mathlib.Core.List.{_∷_}
+use mathlib.Core.List.{List, _∷_}
 use mathlib.Core.Bool.{Bool, true, false}
 use lib.ListN.{length, getD, take, drop, length-append, length-take, length-drop, List·getD-append}
 use lib.Seq.{drop-cons, getD-append-add, getD-take}
@@ -28,7 +28,8 @@ use Rattle.operations.specs.Plan.{clusters-of, last-cluster, added}
 use Rattle.operations.proofs.Added.{added-sum}
 use Rattle.file_read.specs.Files.{Proper}
 use Rattle.file_append.specs.declared.Cursor.{Cursor}
-use Rattle.file_append.specs.Extents.{extended, Room, moved}
+use Rattle.fat_read.specs.Located.{holds}
+use Rattle.file_append.specs.Extents.{extended, Room, first-of, moved}
 
 -- ---- the clusters
 
@@ -112,6 +113,19 @@ indices-next p i (suc n) h = go (p i) h (indices-next p (i + 1) n)
         ≡ pick b i (first-from p (i + 1) n) ∷ indices-from p (pick b i (first-from p (i + 1) n) + 1) (i + suc n - (pick b i (first-from p (i + 1) n) + 1)))
     go true h rec = let z : i + suc n - (i + 1) ≡ n = omega arith in (omega arith, rw z)
     go false h rec = let r = rec h in let z : i + 1 + n ≡ i + suc n = omega arith in (rw z at (r .0), rw z at (r .1))
+
+taken-first : (n k : ℕ) (ks js : List ℕ) → 0 < n → ks ≡ k ∷ js → getD (take n ks) 0 0 ≡ k
+taken-first zero k ks js pos e = absurd (omega arith)
+taken-first (suc n) k ks js pos e = ap (λ (zs : List ℕ). getD (take (suc n) zs) 0 0) e
+
+-- The first new cluster is the lowest free one.
+pub first-is-free : (l : Layout) (c : Card) (n r : ℕ) → 0 < n → n ≤ length (free-clusters l (fat1-of l c))
+    → r ≡ first-from (holds 0 (fat1-of l c)) 2 (l .clusters + 2 - 2) → r ≡ first-of l c n
+unfolding free-clusters
+first-is-free l c n r pos enough e =
+    let z : l .clusters + 2 - 2 ≡ l .clusters = omega arith in
+    let i = indices-next (holds 0 (fat1-of l c)) 2 (l .clusters) (omega arith) in
+    e ∙ ap (first-from (holds 0 (fat1-of l c)) 2) z ∙ sym (taken-first n _ (free-clusters l (fat1-of l c)) _ pos (i .1))
 
 -- A cursor that has passed all clusters of the file and some free ones.
 pub record Stands (l : Layout) (t : Fat) (f : File) (n : ℕ) (p : Cursor) : Type 0 where

@@ -2,7 +2,7 @@
 use Prim.Native.Nat.{ℕ, _+_, _-_, _<_, _≤_}
 use mathlib.Core.List.{List, _++_}
 use lib.Dec.{ltb}
-use lib.ListN.{length, take}
+use lib.ListN.{length, take, getD}
 use Rattle.model.specs.Bytes.{Span, pick}
 use Rattle.model.specs.Scan.{first-from}
 use Rattle.model.specs.Sector.{Card, Store}
@@ -26,6 +26,10 @@ pub record Room (l : Layout) (c : Card) (f : File) (n : ℕ) : Type 0 where
   pub chain : Proper l c f
   pub enough : added l f n ≤ length (free-clusters l (fat1-of l c))
   pub small : f .size + n < 4294967296
+
+-- The first of n new clusters, 0 if there is none.
+abbrev pub first-of : Layout → Card → ℕ → ℕ
+first-of l c n = getD (take n (free-clusters l (fat1-of l c))) 0 0
 
 -- A cursor moved to cluster number x: where it is, or at the next free cluster.
 unfoldable pub moved : Layout → Fat → Cursor → ℕ → Cursor

@@ -1,4 +1,4 @@
-// An append's first step: the data sectors that get new bytes; and how many clusters an append takes.
+// An append's first step: the data sectors that get new bytes; how many clusters an append takes, and the first of them.
 use model::File;
 use model::Layout;
 use model::Progress;
@@ -9,10 +9,10 @@ ghost use Prim.Native.Nat.{ℕ, _+_, _-_, _*_, _/_, _≤_, _<_, min};
 ghost use lib.ListN.{length, getD};
 ghost use Rattle.model.specs.Bytes.{bytes-of, overlay, part, view, zeros};
 ghost use Rattle.model.specs.Sector.{card-of, clip};
-ghost use Rattle.model.specs.Fat.{fat1-of};
+ghost use Rattle.model.specs.Fat.{fat1-of, free-clusters};
 ghost use Rattle.model.specs.Promises.{Fits, Held, Ran};
 ghost use Rattle.operations.specs.Plan.{clusters-of, last-cluster, appended, append-sector, added};
-ghost use Rattle.file_append.specs.Extents.{append-data, Room, moved};
+ghost use Rattle.file_append.specs.Extents.{append-data, Room, first-of, moved};
 
 // Where an append stands: the cluster reached, how many of the file's clusters are passed, that one among them, and where
 // the search for the next free one begins.
@@ -33,6 +33,17 @@ pub fn added_clusters(l: Layout, f: File, n: usize) -> usize
         return 0;
     }
     (n - spare - 1) / bytes + 1
+}
+
+// The first of n new clusters, 0 if there is none.
+pub fn first_new(w: &[u8], l: Layout, n: u32) -> u32
+    requires { ⌜ Held l (now w) × (n ≤ length (free-clusters l (fat1-of l (card-of (now w))))) ⌝ }
+    ensures { λ r. ⌜ r ≡ first-of l (card-of (now (w .entry))) n ⌝ }
+{
+    if n == 0 {
+        return 0;
+    }
+    fat_chain::next_free(w, l, 2)
 }
 
 // How many of the 512 bytes from an offset on lie below n.

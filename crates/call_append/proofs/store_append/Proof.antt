@@ -9,7 +9,7 @@ use Rattle.call_append.proofs.store_append.Statement.{statement}
 use Rattle.call_append.proofs.store_append.Tie as tie
 use Rattle.call_append.proofs.store_append.Reads as reads
 use Rattle.call_append.proofs.store_append.Lts as lts
-use Rattle.call_append.proofs.first_new.Reads as first-new-reads
+use Rattle.file_append.proofs.first_new.Reads as first-new-reads
 use Rattle.call_append.proofs.store_chain.Reads as store-chain-reads
 use Rattle.log_steps.proofs.log_steps.Reads as log-steps-reads
 use Rattle.sector.proofs.joined.Reads as joined-reads

@@ -1,11 +1,11 @@
 use native.Mathlib.Omega.{arith}
 use Rattle.model.specs.Sector.{card-of}
-use Rattle.call_append.proofs.Laws.{first-is-free}
+use Rattle.file_append.proofs.Clusters.{first-is-free}
 use borrow.Author.Needs.{needs}
-use Rattle.call_append.proofs.first_new.Statement.{statement}
-use Rattle.call_append.proofs.first_new.Tie as tie
-use Rattle.call_append.proofs.first_new.Reads as reads
-use Rattle.call_append.proofs.first_new.Lts as lts
+use Rattle.file_append.proofs.first_new.Statement.{statement}
+use Rattle.file_append.proofs.first_new.Tie as tie
+use Rattle.file_append.proofs.first_new.Reads as reads
+use Rattle.file_append.proofs.first_new.Lts as lts
 use Rattle.fat_chain.proofs.next_free.Reads as next-free-reads
 
 returns-2 : tie.Need-returns-2
