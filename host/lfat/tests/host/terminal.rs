@@ -26,24 +26,24 @@ fn on_a_terminal_only() {
     let folder = folder_with("terminal", &card_with_route(1_300));
     folder.write("terminal.py", ON_A_TERMINAL.as_bytes());
     let lfat = env!("CARGO_BIN_EXE_lfat");
-    let long = "rack card append ROUTE.CUT path --depth 0 --random 20000";
-    let run = folder.run(
-        "python3",
-        &format!("terminal.py {lfat} {long}"),
-        Stdio::null(),
-    );
-    let text = run.done().text();
+    let on_a_terminal = |arguments: &str| {
+        let command = format!("terminal.py {lfat} {arguments}");
+        let run = folder.run("python3", &command, Stdio::null());
+        run.done().text()
+    };
+    // A run of more than a second, whatever the machine.
+    let long = "rack card append ROUTE.CUT path --depth 0 --random";
+    let text = [20_000, 200_000, 2_000_000]
+        .into_iter()
+        .map(|many| on_a_terminal(&format!("{long} {many}")))
+        .find(|text| !text.is_empty())
+        .expect("a bar");
     assert!(
         text.contains(" %  cut ") && text.contains(" of 10"),
         "{text:?}"
     );
     assert!(text.ends_with("\r\u{1b}[K"), "the line is cleared");
     let short = "rack card append ROUTE.CUT path --depth 0 --random 1";
-    let run = folder.run(
-        "python3",
-        &format!("terminal.py {lfat} {short}"),
-        Stdio::null(),
-    );
-    assert_eq!(run.done().text(), "");
+    assert_eq!(on_a_terminal(short), "");
     folder.lfat(short).done();
 }
