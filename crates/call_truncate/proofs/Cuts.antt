@@ -23,7 +23,7 @@ use Rattle.operations.specs.Plan.{clusters-of, old-fat, last-cluster, operate, 
 use Rattle.file_read.specs.Files.{links}
 use Rattle.file_read.proofs.Laws.{chain-at, links-none, links-more, link-inside}
 use Rattle.fat_release.specs.Release.{cut, Inside}
-use Rattle.fat_release.proofs.Shortens.{release-cut, truncate-cut, used-inside, inside-drop}
+use Rattle.fat_release.proofs.Shortens.{release-cut, truncate-cut, whole-inside, inside-drop}
 use Rattle.call_truncate.specs.declared.Tail.{Tail}
 use Rattle.call_truncate.specs.Calls.{Parts}
 
@@ -36,7 +36,7 @@ module _ (l : Layout) (fits : Fits l) (t : Fat) (f : File) (h : keeps-chain l (e
 
   -- All clusters of a file lie on the card.
   pub all-inside : Inside l ks
-  all-inside = used-inside l (entry t) ks used
+  all-inside = whole-inside l (fits .shape) (entry t) (f .first) (f .size) h
 
   pub first-low : 0 < needed l (f .size) → f .first < 65536
   first-low pos =

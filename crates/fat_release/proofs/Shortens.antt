@@ -2,14 +2,16 @@
 use Prim.Native.Nat.{ℕ, zero, suc, _+_, _-_, _<_, _≤_}
 use native.Mathlib.Omega.{arith}
 use mathlib.Core.Path.{_≡_, refl, ap, _∙_}
+use mathlib.Core.Bool.{true}
 use mathlib.Core.List.{List, [], _∷_}
 use lib.ListN.{getD, take, drop}
 use borrow.Author.Tests.{ne-eqb}
 use Rattle.model.specs.Fat.{Fat, entry, link, release}
-use Rattle.model.specs.Chain.{chain}
+use Rattle.model.specs.Chain.{chain, needed, keeps-chain}
+use Rattle.model.specs.Promises.{Shape}
 use Rattle.model.specs.declared.Layout.{Layout}
 use Rattle.model.proofs.All.{All}
-use Rattle.model.proofs.Chains.{Used}
+use Rattle.model.proofs.Chains.{Used, chain-used}
 use Rattle.model.proofs.Walks.{chain-drop}
 use Rattle.operations.specs.Plan.{shorten, last-cluster}
 use Rattle.operations.proofs.Lasts.{last-list}
@@ -37,6 +39,10 @@ truncate-cut t m n k h used =
 pub used-inside : (l : Layout) (e : ℕ → ℕ) (ks : List ℕ) → All (Used l e) ks → Inside l ks
 used-inside l e [] h = tt
 used-inside l e (k ∷ ks) h = (let less : k < 2 + l .clusters = h .0 .high in omega arith, used-inside l e ks (h .1))
+
+-- All clusters of a file that keeps the chain rule do.
+pub whole-inside : (l : Layout) → Shape l → (e : ℕ → ℕ) (first size : ℕ) → keeps-chain l e first size ≡ true → Inside l (chain e (needed l size) first)
+whole-inside l sh e first size h = used-inside l e (chain e (needed l size) first) (chain-used l (sh .few) e (sh .factor-low) first size h)
 
 pub inside-drop : (l : Layout) (n : ℕ) (ks : List ℕ) → Inside l ks → Inside l (drop n ks)
 inside-drop l zero ks h = h

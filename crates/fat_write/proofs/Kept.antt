@@ -8,14 +8,20 @@ use lib.Dec.{eqb}
 use lib.ListN.{take}
 use Rattle.model.specs.Bytes.{Bytes, pick}
 use Rattle.model.specs.Sector.{Card, store}
-use Rattle.model.specs.Fat.{Fat, is-free, fat1-of, fat2-of, free-clusters, link, same, differing, write-fat}
+use Rattle.model.specs.Fat.{Fat, is-free, entry, fat1-of, fat2-of, free-clusters, link, same, differing, write-fat}
+use Rattle.model.specs.Chain.{chain}
 use Rattle.model.specs.Promises.{Shape}
 use Rattle.model.specs.declared.Layout.{Layout}
 use Rattle.model.proofs.Scan.{indices-same}
 use Rattle.model.proofs.Fats.{free, entry-same}
-use Rattle.model.proofs.Entries.{link-local}
+use Rattle.model.proofs.All.{All}
+use Rattle.model.proofs.Chains.{chain-same}
+use Rattle.model.proofs.Entries.{link-local, release-local}
+use Rattle.operations.specs.Plan.{exchange}
 use Rattle.fat_copy.proofs.Laws.{write-same}
+use Rattle.fat_release.specs.Release.{Inside}
 use Rattle.fat_write.specs.Allocate.{grown}
+use Rattle.fat_write.specs.Renew.{exchanged}
 
 -- A FAT that had the same sectors needs the same stores,
 pub write-old : (l : Layout) (at : ℕ) (new f g : Fat) → ((s : ℕ) → s < l .fatsize → f s ≡ g s) → write-fat l at new f ≡ write-fat l at new g
@@ -58,3 +64,24 @@ module _ (l : Layout) (sh : Shape l) (c x : Card) (front : (s : ℕ) → s < l .
       → write-fat l (l .fat2) (grown l (fat1-of l x) last n) (fat2-of l x) ≡ write-fat l (l .fat2) (grown l (fat1-of l c) last n) (fat2-of l c)
   grown-kept last n = write-both l (grown l (fat1-of l x) last n) (grown l (fat1-of l c) last n) (fat2-of l x) (fat2-of l c)
       (λ s j less b. grown-local l (fat1-of l x) (fat1-of l c) last n s j free-kept (ap (λ (b : Bytes). b j) (fat1-kept s less))) fat2-kept
+
+  entries-kept : (ks : List ℕ) → Inside l ks → All (λ k. entry (fat1-of l x) k ≡ entry (fat1-of l c) k) ks
+  entries-kept [] h = tt
+  entries-kept (k ∷ ks) h =
+      let less : k < l .clusters + 2 = h .0 in
+      (entry-same (fat1-of l c) (fat1-of l x) k (fat1-kept (k / 256) (omega (arith, sh .enough))), entries-kept ks (h .1))
+
+  -- Clusters that are freed, and the FAT in which new ones take their place.
+  module _ (old m : ℕ) (h : Inside l (chain (entry (fat1-of l c)) m old)) where
+    pub chain-kept : chain (entry (fat1-of l x)) m old ≡ chain (entry (fat1-of l c)) m old
+    chain-kept = chain-same (entry (fat1-of l c)) (entry (fat1-of l x)) m old (entries-kept (chain (entry (fat1-of l c)) m old) h)
+
+    pub exchange-kept : (n : ℕ)
+        → write-fat l (l .fat2) (exchanged l (fat1-of l x) n old m) (fat2-of l x) ≡ write-fat l (l .fat2) (exchanged l (fat1-of l c) n old m) (fat2-of l c)
+    unfolding exchange
+    exchange-kept n = write-both l (exchanged l (fat1-of l x) n old m) (exchanged l (fat1-of l c) n old m) (fat2-of l x) (fat2-of l c)
+        (λ s j less b.
+        rw (chain-kept, free-kept) (release-local (chain (entry (fat1-of l c)) m old) (link (take n (free-clusters l (fat1-of l c))) (fat1-of l x))
+        (link (take n (free-clusters l (fat1-of l c))) (fat1-of l c)) s j
+        (link-local (take n (free-clusters l (fat1-of l c))) (fat1-of l x) (fat1-of l c) s j (ap (λ (b : Bytes). b j) (fat1-kept s less)))))
+        fat2-kept

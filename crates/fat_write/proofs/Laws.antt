@@ -15,6 +15,7 @@ use Rattle.model.specs.Chain.{chain}
 use Rattle.model.specs.Promises.{Ran, up-to, Shape}
 use Rattle.model.specs.declared.Layout.{Layout}
 use Rattle.model.proofs.Entries.{release-local}
+use Rattle.operations.specs.Plan.{exchange}
 use Rattle.fat_copy.specs.Change.{lead, renewal, sectors-of, own-fat}
 use Rattle.fat_copy.proofs.Laws.{renewal-same, renewals, next-kept, fat-kept}
 use Rattle.fat_read.specs.Located.{holds}
@@ -88,6 +89,13 @@ pub renewed-append : (l : Layout) (t : Fat) (last n old : ℕ) → n ≤ length 
 unfolding renewed grown chain release
 renewed-append l t last zero old h = refl
 renewed-append l t last (suc n) old h = renewed-grown l t last (suc n) [] (omega arith) h
+
+-- None is kept.
+pub renewed-exchange : (new freed : List ℕ) (t : Fat) → renewed 0 new freed t ≡ exchange freed new t
+unfolding renewed exchange link release
+renewed-exchange [] [] t = refl
+renewed-exchange [] (k ∷ ks) t = rw (ne-eqb (0 + suc (length ks)) 0 (λ e. omega arith))
+renewed-exchange (k ∷ ks) freed t = rw (ne-eqb (suc (length ks) + length freed) 0 (λ e. omega arith))
 
 module _ (l : Layout) (c : Card) where
   pub passed-none : (last old s j : ℕ) → s < l .fatsize → cut (fat1-of l c) last old 0 s j ≡ passed l (sectors-of l c) 0 0 0 0 0 0 s j

@@ -2,11 +2,12 @@
 use Prim.Native.Nat.{ℕ, _+_}
 use mathlib.Core.List.{List, [], _∷_, _++_}
 use lib.Dec.{eqb}
-use lib.ListN.{length}
+use lib.ListN.{length, take}
 use Rattle.model.specs.Bytes.{pick}
-use Rattle.model.specs.Fat.{Fat, entry, link, release}
+use Rattle.model.specs.Fat.{Fat, entry, free-clusters, link, release}
 use Rattle.model.specs.Chain.{chain}
 use Rattle.model.specs.declared.Layout.{Layout}
+use Rattle.operations.specs.Plan.{exchange}
 use Rattle.fat_copy.specs.Change.{lead}
 use Rattle.fat_write.specs.Allocate.{news}
 
@@ -14,6 +15,10 @@ use Rattle.fat_write.specs.Allocate.{news}
 -- end of the chain follows; the entries of the clusters `freed` are 0. Where nothing is new and nothing freed, all stays.
 unfoldable pub renewed : ℕ → List ℕ → List ℕ → Fat → Fat
 renewed last new freed t = pick (eqb (length new + length freed) 0) t (release freed (link (pick (eqb last 0) [] (last ∷ []) ++ new) t))
+
+-- No cluster is kept: the n lowest free ones are linked among themselves, the m clusters from `old` on freed.
+abbrev pub exchanged : Layout → Fat → ℕ → ℕ → ℕ → Fat
+exchanged l t n old m = exchange (chain (entry t) m old) (take n (free-clusters l t)) t
 
 -- As a pass makes it: `last` leads to `value`, the n new clusters from `first` on are linked, the m clusters of the chain from
 -- `old` on are freed.

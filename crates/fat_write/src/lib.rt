@@ -12,7 +12,7 @@ ghost use Rattle.model.specs.Promises.{Held, Ran};
 ghost use Rattle.fat_copy.specs.Change.{lead, own-fat, renewal};
 ghost use Rattle.fat_release.specs.Release.{cut, cleared, mark-of, Inside};
 ghost use Rattle.fat_write.specs.Allocate.{grown, news, following, NextNew, Above, Moved};
-ghost use Rattle.fat_write.specs.Renew.{renewed, passed};
+ghost use Rattle.fat_write.specs.Renew.{renewed, passed, exchanged};
 
 // A sector with its new values, and the new cluster that comes after it, with how many are left.
 pub struct Built {
@@ -249,4 +249,17 @@ pub fn extend_fat(w: &mut [u8], l: Layout, last: u32, n: u32, limit: u32) -> Pro
 {
     let mut none = [0u8; 0];
     renew_fat(w, l, last, n, 0, 0, &mut none, limit)
+}
+
+// Step 2 of a replace, where no cluster is kept: the sectors of FAT2 that change when the n lowest free clusters are linked among
+// themselves, and the m clusters from `old` on are freed.
+pub fn exchange_fat(w: &mut [u8], l: Layout, n: u32, old: u32, m: u32, limit: u32) -> Progress
+    requires { ⌜
+        Held l (now w) × (n ≤ length (free-clusters l (fat1-of l (card-of (now w))))) × Inside l (chain (entry (fat1-of l (card-of (now w)))) m old) ⌝ }
+    ensures { λ r. ⌜
+        Ran limit (write-fat l (l .fat2) (exchanged l (fat1-of l (card-of (now (w .entry)))) n old m) (fat2-of l (card-of (now (w .entry)))))
+        (now (w .entry)) (now (w .exit)) (r .made) (r .whole) ⌝ }
+{
+    let mut marks = [0u8; 1024];
+    renew_fat(w, l, 0, n, old, m, &mut marks, limit)
 }

@@ -9,7 +9,7 @@ ghost use Rattle.model.specs.Sector.{window-of};
 ghost use Rattle.model.specs.Ground.{ground-number};
 ghost use Rattle.operations.specs.Outcome.{outcome-number};
 ghost use Rattle.operations.specs.Reading.{read, list};
-ghost use Rattle.operations.specs.Calls.{create, append, truncate, delete, rename, recover};
+ghost use Rattle.operations.specs.Calls.{create, append, replace, truncate, delete, rename, recover};
 ghost use Rattle.operations.specs.Promises.{Called, Answered};
 
 fn ground_number(g: Ground) -> u32
@@ -61,6 +61,16 @@ pub extern "C" fn lfat_append(card: &mut [u8], name: &[u8], bytes: &[u8], limit:
         (now (card .exit)) r ⌝ }
 {
     number_of(call_append::append(card, name, bytes, limit))
+}
+
+// Other bytes in the place of a file's.
+#[no_mangle]
+pub extern "C" fn lfat_replace(card: &mut [u8], name: &[u8], bytes: &[u8], limit: u32) -> u64
+    ensures { λ r. ⌜
+        Called limit (replace (window-of (now (card .entry))) (view (now (name .entry))) (view (now (bytes .entry)))) (now (card .entry))
+        (now (card .exit)) r ⌝ }
+{
+    number_of(call_replace::replace(card, name, bytes, limit))
 }
 
 // The file's first `size` bytes are kept.

@@ -55,7 +55,8 @@ unfolding ones onesIn
     Rattle.operations.specs.Calls.taken Rattle.operations.specs.Calls.root-full Rattle.operations.specs.Calls.create
     Rattle.operations.specs.Calls.unless-none Rattle.operations.specs.Calls.file-of Rattle.operations.specs.Calls.append
     Rattle.operations.specs.Calls.truncate Rattle.operations.specs.Calls.delete Rattle.operations.specs.Calls.rename
-    Rattle.operations.specs.Calls.replace Rattle.operations.specs.Calls.recover Rattle.operations.specs.Calls.plan Rattle.operations.specs.Calls.named-file
+    Rattle.operations.specs.Calls.replace Rattle.operations.specs.Calls.recover Rattle.operations.specs.Calls.plan
+    Rattle.operations.specs.Calls.named-file
     Rattle.operations.specs.Calls.taken-by Rattle.operations.specs.Calls.released-by
     Rattle.operations.specs.Outcome.outcome Rattle.operations.specs.Outcome.made Rattle.operations.specs.Outcome.left
     Rattle.operations.specs.Reading.file-byte Rattle.operations.specs.Reading.reading Rattle.operations.specs.Reading.read

@@ -84,6 +84,9 @@ renaming d = rename-stores v (appended d) (file-at l (appended d) 0) two
 abbrev replacing : Bytes → ℕ → Bytes → Program
 replacing d n e = replace-stores v (appended d) (file-at l (appended d) 0) (span n e)
 
+abbrev replaced : Bytes → Bytes → Card
+replaced d e = after (stores (replacing d 700 e)) (appended d)
+
 abbrev replacing-none : Bytes → Program
 replacing-none e = replace-stores v created (file-at l created 0) (span 0 e)
 
@@ -191,13 +194,13 @@ redone d = (refl, refl)
 -- FAT1, root, commit. The record has operation 6, the old first cluster, the new first cluster, the new size; the old clusters are free.
 replacing-row : (d e : Bytes) → (sectors (stores (replacing d 700 e)) ≡ 8 ∷ 9 ∷ 2 ∷ 5 ∷ 4 ∷ 4 ∷ 1 ∷ 3 ∷ 4 ∷ [])
     × (told (bytes-at (stores (replacing d 700 e)) 5) ≡ 6 ∷ 4 ∷ 6 ∷ 700 ∷ [])
-    × (seen 0 (after (stores (replacing d 700 e)) (appended d)) ≡ record { size = 700; chain = 6 ∷ 7 ∷ [] })
-    × (free-clusters l (fat1-of l (after (stores (replacing d 700 e)) (appended d))) ≡ 4 ∷ 5 ∷ 8 ∷ 9 ∷ [])
+    × (seen 0 (replaced d e) ≡ record { size = 700; chain = 6 ∷ 7 ∷ [] })
+    × (free-clusters l (fat1-of l (replaced d e)) ≡ 4 ∷ 5 ∷ 8 ∷ 9 ∷ [])
 unfolding compute
 replacing-row d e = (refl, refl, refl, refl)
 
 -- The new bytes, to the last, and zeros after them.
-replaced-bytes : (d e : Bytes) → map (file-byte l (after (stores (replacing d 700 e)) (appended d)) (file-at l (after (stores (replacing d 700 e)) (appended d)) 0))
+replaced-bytes : (d e : Bytes) → map (file-byte l (replaced d e) (file-at l (replaced d e) 0))
     (0 ∷ 511 ∷ 512 ∷ 699 ∷ 700 ∷ 1023 ∷ []) ≡ e 0 ∷ e 511 ∷ e 512 ∷ e 699 ∷ 0 ∷ 0 ∷ []
 unfolding compute
 replaced-bytes d e = refl
