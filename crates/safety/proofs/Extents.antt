@@ -30,7 +30,7 @@ use Rattle.model.proofs.Chains.{chain-distinct, Used, needed-holds, in-cluster,
 use Rattle.model.proofs.Names.{Live}
 use Rattle.model.proofs.Volumes.{layout-of, first-fat}
 use Rattle.safety.proofs.Start.{Start, shape-of, Clear}
-use Rattle.safety.proofs.Clusters.{Fresh, free-fresh, Plain, used-plain, fresh-plain, sector-clear}
+use Rattle.safety.proofs.Clusters.{Fresh, free-fresh, used-off, Plain, used-plain, fresh-plain, sector-clear}
 use Rattle.safety.proofs.Files.{SparesFiles, file-within, file-used, file-clear, chains-apart}
 use Rattle.safety.proofs.Linked.{Off}
 use Rattle.safety.proofs.Operations.{KeepsChain, the-chain, old-used}
@@ -104,7 +104,7 @@ module _ {size : ℕ} {c : Card} (st : Start size c) where
 
     -- A cluster in use is none of the new ones.
     pub new-off : (k : ℕ) → Used l (entry fat) k → Off new k
-    new-off k u = all-map (Fresh l fat) (λ j. k ≡ j → ⊥) (λ j w e. u .busy (ap (entry fat) e ∙ w .none)) new (x .fresh)
+    new-off = used-off l fat new (x .fresh)
 
     pub all-distinct : Distinct both
     all-distinct = distinct-append ks new (x .base .distinct) (x .distinct) (all-map (Used l (entry fat)) (Off new) new-off ks (x .base .used))
@@ -197,3 +197,8 @@ module _ {size : ℕ} {c : Card} (st : Start size c) where
   append-spared s live whole x file sound = data-spared x sound (λ t in-root is. ⊎-elim
       (λ e. inl (ap (chain-of l c) e, ap (λ k. file-size (slot-at l c k)) e))
       (λ ne. inr (chains-apart l c sound t s in-root (live .in-root) is file ne)) (same? t s))
+
+  -- Data in new clusters alone.
+  pub replace-spared : {new : List ℕ} {d : Span} (x : Extent c [] new 0 d) → Sound l c → SparesFiles c (ds x)
+  replace-spared x sound = data-spared x sound
+      (λ t in-root is. inr (all-map (Used l (entry fat)) (Off []) (λ k u. tt) (chain-of l c t) (file-used st t (sound .chains t in-root is))))

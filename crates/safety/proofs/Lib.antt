@@ -27,6 +27,7 @@ pub mod Means
 pub mod Cut
 pub mod Written
 pub mod Grown
+pub mod Replaced
 pub mod Saved
 pub mod Others
 pub mod Sounds

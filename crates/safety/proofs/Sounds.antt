@@ -21,8 +21,8 @@ use Rattle.model.specs.declared.Pending.{Pending}
 use Rattle.model.specs.declared.Volume.{Volume}
 use Rattle.operations.specs.Program.{Program, ending}
 use Rattle.operations.specs.Finish.{new-entry, mark-deleted}
-use Rattle.operations.specs.Plan.{clusters-of, new-clusters}
-use Rattle.operations.specs.Calls.{Call, plan, creates, appends, truncates, deletes, renames, recovers, slot-of, name-of}
+use Rattle.operations.specs.Plan.{clusters-of, new-clusters, fresh-clusters}
+use Rattle.operations.specs.Calls.{Call, plan, creates, appends, truncates, deletes, renames, replaces, recovers, slot-of, name-of}
 use Rattle.operations.specs.Outcome.{left, made, largest}
 use Rattle.safety.specs.Sound.{Sound, chain-of}
 use Rattle.safety.specs.Saved.{Names, Holds, SameFile, AllKeep}
@@ -35,23 +35,24 @@ use Rattle.safety.proofs.Before.{start-rests}
 use Rattle.safety.proofs.Clusters.{Fresh}
 use Rattle.safety.proofs.Files.{SparesFiles, file-used, no-data, chains-apart}
 use Rattle.safety.proofs.Theorem.{after-calls}
-use Rattle.safety.proofs.Linked.{Off, all-zip, release-other, shorten-other, extend-other}
+use Rattle.safety.proofs.Linked.{Off, all-zip, release-other, shorten-other, extend-other, exchange-other}
 use Rattle.safety.proofs.Ended.{Ended, ended, SameHead, same-size, same-directory, same-is-file}
 use Rattle.safety.proofs.Chained.{HasChain, empty-then}
 use Rattle.safety.proofs.Readings.{Read, holds-read, holds-of}
 use Rattle.safety.proofs.Slots.{Resizes, new-first, new-size, deleted-file}
 use Rattle.safety.proofs.Supplied.{creates-as, create-supplies, renames-as, deletes-as, truncates-as, truncate-supplies, cut-fat, updates-as}
-use Rattle.safety.proofs.Supplied.{append-supplies, longer-fat, ks}
+use Rattle.safety.proofs.Supplied.{append-supplies, longer-fat, replaces-as, exchanged-fat, replace-supplies, ks}
 use Rattle.safety.proofs.Granted.{file-at-name, Created, create-granted, Renamed, rename-granted, NamedFile, Deleted, delete-granted, Truncated}
-use Rattle.safety.proofs.Granted.{truncate-granted, Growth, Appended, append-granted}
+use Rattle.safety.proofs.Granted.{truncate-granted, Growth, Appended, append-granted, Renewal, Replaced, replace-granted}
 use Rattle.safety.proofs.Moved.{finish-with, new-slot, old-slot, left-slot, rest-slot, rename-chain, rename-end, gone-slot, kept-slot, delete-end}
 use Rattle.safety.proofs.Cut.{cut-edit, cut-chain}
 use Rattle.safety.proofs.Grown.{grown-edit, grown-chain}
+use Rattle.safety.proofs.Replaced.{replaced-edit, replaced-chain}
 use Rattle.safety.proofs.Others.{file-not-free, Spares, Owner, owned-old, other-same, Owned, owned-by, file-by, other-owned}
 use Rattle.safety.proofs.Others.{sound-then}
 use Rattle.safety.proofs.Means.{resized-means, create-means, rename-means, delete-means}
 use Rattle.safety.proofs.Saved.{started, volume-is}
-use Rattle.safety.proofs.Extents.{ds, new-off, append-spared}
+use Rattle.safety.proofs.Extents.{ds, new-off, append-spared, replace-spared}
 use Rattle.model.specs.declared.Pending.the-variants as Pending
 
 -- What is kept on a card t that a call leaves of c.
@@ -224,6 +225,13 @@ module _ {size : ℕ} {c : Card} (st : Start size c) (is : clean (window size c)
       sound = sound-then st sound resized-spares end (λ r. r) (at n) (λ s less file. resized-owned s less file (same? s (at n)));
     }
 
+  -- A file's own clusters, and free ones that it takes.
+  old-owned : (s : ℕ) → s < l .entries → is-file (d s) ≡ true → All (Owner c (λ r. r) s s) (chain-of l c s)
+  old-owned s less file = owned-old st sound (λ r. r) s s s less file refl
+
+  new-owned : (s : ℕ) (js : List ℕ) → All (Fresh l fat) js → All (Owner c (λ r. r) s s) js
+  new-owned s js a = all-map (Fresh l fat) (Owner c (λ r. r) s s) (λ k q. Owner.new (q .none) refl) js a
+
   cut-keeps : (n : Span) (m : ℕ) (g : NamedFile st is n) (shorter : m < file-size (d (at n))) {t : Card}
       → Ended size c [] (cut-fat st (at n) (g .live) (g .keeps) m) (truncates-as st (at n) (g .live) (g .keeps) m) t → Keeping v c (truncates n m) t
   unfolding chain-of clusters-of file-at
@@ -234,7 +242,7 @@ module _ {size : ℕ} {c : Card} (st : Start size c) (is : clean (window size c)
       resized-keeps n g end (cut-edit st s (g .live) (g .keeps) m shorter end)
       (λ k u off. shorten-other (take i mine) (drop i mine) fat k (all-take (λ j. k ≡ j → ⊥) i mine off) (all-drop (λ j. k ≡ j → ⊥) i mine off))
       (no-data st sound) (take i mine) (cut-chain st s (g .live) (g .keeps) m shorter end)
-      (all-take (Owner c (λ r. r) s s) i mine (owned-old st sound (λ r. r) s s s (g .live .in-root) (g .file) refl)) (truncates n m) (λ s e. e)
+      (all-take (Owner c (λ r. r) s s) i mine (old-owned s (g .live .in-root) (g .file))) (truncates n m) (λ s e. e)
 
   append-keeps : (n b : Span) (g : NamedFile st is n) (x : Growth st is n b g) (some : b .size ≡ 0 → ⊥) {t : Card}
       → Ended size c (ds st x) (longer-fat st (at n) (g .live) (g .keeps) x) (updates-as st (at n) (g .live) (g .keeps) x) t → Keeping v c (appends n b) t
@@ -245,8 +253,17 @@ module _ {size : ℕ} {c : Card} (st : Start size c) (is : clean (window size c)
       let new : List ℕ = new-clusters v c (file-at l c s) (b .size) in
       resized-keeps n g end (grown-edit st s (g .live) (g .keeps) x some end) (λ k u off. extend-other old new fat k off (new-off st x k u))
       (append-spared st s (g .live) (g .keeps) x (g .file) sound) (old ++ new) (grown-chain st s (g .live) (g .keeps) x some end)
-      (all-append (Owner c (λ r. r) s s) old new (owned-old st sound (λ r. r) s s s (g .live .in-root) (g .file) refl)
-      (all-map (Fresh l fat) (Owner c (λ r. r) s s) (λ k q. Owner.new (q .none) refl) new (x .fresh))) (appends n b) (λ s e. e)
+      (all-append (Owner c (λ r. r) s s) old new (old-owned s (g .live .in-root) (g .file)) (new-owned s new (x .fresh))) (appends n b) (λ s e. e)
+
+  replace-keeps : (n b : Span) (g : NamedFile st is n) (x : Renewal st is b) {t : Card}
+      → Ended size c (ds st x) (exchanged-fat st (at n) (g .live) (g .keeps) x) (replaces-as st (at n) (g .live) (g .keeps) x) t → Keeping v c (replaces n b) t
+  unfolding chain-of clusters-of file-at
+  replace-keeps n b g x end =
+      let s : ℕ = at n in
+      let new : List ℕ = fresh-clusters v c (b .size) in
+      resized-keeps n g end (replaced-edit st s (g .live) (g .keeps) x end)
+      (λ k u off. exchange-other (ks st s (g .live) (g .keeps)) new fat k off (new-off st x k u)) (replace-spared st x sound)
+      new (replaced-chain st s (g .live) (g .keeps) x end) (new-owned s new (x .fresh)) (replaces n b) (λ s e. e)
 
   -- ---- every call
 
@@ -280,6 +297,12 @@ module _ {size : ℕ} {c : Card} (st : Start size c) (is : clean (window size c)
       (λ a. finish-with st is (AllKept (appends n b)) (appends n b) p _ h (a .1)
       (append-keeps n b f x (a .0) (ended st _ _ (updates-as st (at n) (f .live) (f .keeps) x) (append-supplies st (at n) (f .live) (f .keeps) x))))
       (g .same)
+  granted-keeps (replaces n b) p h =
+      let g : Replaced st is n b p = replace-granted st is n b p h in
+      let f : NamedFile st is n = g .it in
+      let x : Renewal st is b = g .extent in
+      finish-with st is (AllKept (replaces n b)) (replaces n b) p _ h (g .same)
+      (replace-keeps n b f x (ended st _ _ (replaces-as st (at n) (f .live) (f .keeps) x) (replace-supplies st (at n) (f .live) (f .keeps) x)))
   granted-keeps recovers p h =
       let e : granted (ending []) ≡ granted p = sym (start-rests st) ∙ h in
       let same : ending [] ≡ p = cc in

@@ -16,16 +16,16 @@ use Rattle.model.specs.declared.Entry.{Entry}
 use Rattle.model.specs.declared.Layout.{Layout}
 use Rattle.model.specs.declared.Change.{Change}
 use Rattle.model.specs.declared.Operation.{Operation}
-use Rattle.model.specs.declared.Operation.the-variants.{Create, Update, Rename, Delete, Truncate}
+use Rattle.model.specs.declared.Operation.the-variants.{Create, Update, Rename, Delete, Truncate, Replace}
 use Rattle.operations.specs.Finish.{operation-edits, edits, new-entry}
-use Rattle.operations.specs.Plan.{shorten, extend, last-cluster}
+use Rattle.operations.specs.Plan.{shorten, extend, exchange, last-cluster}
 use Rattle.model.proofs.All.{All, all-take, all-drop}
 use Rattle.model.proofs.Names.{name-starts, name-fits, free-low, Live, live-not-free}
 use Rattle.model.proofs.Volumes.{layout-of, first-fat, SameMarks}
 use Rattle.safety.proofs.Start.{Start, shape-of, entries-few, Clear}
 use Rattle.safety.proofs.Effect.{Lives, resized-lives}
 use Rattle.safety.proofs.Operate.{Supplies}
-use Rattle.safety.proofs.Clusters.{Plain, released-marks, plain-fits, shorten-marks, extend-marks}
+use Rattle.safety.proofs.Clusters.{Plain, released-marks, plain-fits, shorten-marks, extend-marks, exchange-marks}
 use Rattle.model.proofs.Records.{EntryFits, ChangeFits, entry-record, plain-told}
 use Rattle.model.proofs.Pendings.{recorded, record-fine, part-fine, starts-not-zero}
 use Rattle.model.specs.Record.{operation-records, records, record-of, plain, last-number}
@@ -176,3 +176,19 @@ module _ {size : ℕ} {c : Card} (st : Start size c) where
             (plain-fits l few fat new (new-plain st x) 0) (total-fits st x) (outside st x)
             (λ k low high. extend-marks l few fat ks old (old-busy st s live whole) new (new-plain st x) k)
             (resized-lives (eqb last 0) from n b (slot-lives st s live), tt)
+
+      module _ {new : List ℕ} {d : Span} (x : Extent c [] new 0 d) where
+        abbrev pub exchanged-fat : Fat
+        exchanged-fat = exchange ks new fat
+
+        abbrev pub replaces-as : Change
+        replaces-as = plain (Replace e (first-cluster b) (getD new 0 0) (d .size))
+
+        pub replace-supplies : Supplies c (ds st x) exchanged-fat replaces-as
+        unfolding entry-at records operation-records edits operation-edits
+        replace-supplies =
+            let from : ℕ = getD new 0 0 in
+            entry-supplies (Replace e (first-cluster b) from (d .size)) 6 (first-cluster b) from (d .size) refl (omega arith) (omega arith)
+            (first-fits st s live) (plain-fits l (sh .few) fat new (new-plain st x) 0) (omega (arith, total-fits st x)) (outside st x)
+            (λ k low high. exchange-marks l (sh .few) fat ks new (old-plain st s live whole) (new-plain st x) k)
+            (resized-lives true from (d .size) b (slot-lives st s live), tt)
