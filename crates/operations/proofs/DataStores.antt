@@ -31,14 +31,18 @@ in-data l sh k q less =
     (omega arith, omega (arith, sh .data-end, mod-lt q {m = l .factor} (sh .factor-low)))
 
 module _ (l : Layout) (c : Card) (ks : List ℕ) (old : ℕ) (d : Span) where
-  -- What holds of each sector's store holds of all.
-  pub data-all : (P : Store → Type 0) → ((q : ℕ) → 512 * q < old + d .size → P (append-sector c (file-sector l ks q) old d q))
+  -- What holds of each sector's store holds of all: of those from that of byte `old` on, or of any that has bytes.
+  pub data-each : (P : Store → Type 0) → ((q : ℕ) → old / 512 ≤ q → 512 * q < old + d .size → P (append-sector c (file-sector l ks q) old d q))
       → All P (data-stores l c ks old d)
   unfolding data-stores
-  data-all P h =
+  data-each P h =
       let n : ℕ = (old + d .size + 511) / 512 - old / 512 in
       all-image P (λ q. append-sector c (file-sector l ks q) old d q) (range (old / 512) n)
-      (indices-all (λ q. P (append-sector c (file-sector l ks q) old d q)) (λ k. true) (old / 512) n (λ q lo hi e. h q (omega arith)))
+      (indices-all (λ q. P (append-sector c (file-sector l ks q) old d q)) (λ k. true) (old / 512) n (λ q lo hi e. h q lo (omega arith)))
+
+  pub data-all : (P : Store → Type 0) → ((q : ℕ) → 512 * q < old + d .size → P (append-sector c (file-sector l ks q) old d q))
+      → All P (data-stores l c ks old d)
+  data-all P h = data-each P (λ q lo less. h q less)
 
   -- They lie in the data region,
   pub data-inside : Shape l → All (λ k. k < 2 + l .clusters) ks → All (λ s. (l .start ≤ s .sector) × (s .sector < l .total)) (data-stores l c ks old d)

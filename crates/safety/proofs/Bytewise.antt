@@ -26,9 +26,9 @@ use Rattle.model.specs.declared.Pending.{Pending}
 use Rattle.model.specs.declared.Volume.{Volume}
 use Rattle.operations.specs.Program.{Program, stores, ending}
 use Rattle.operations.specs.Finish.{Edit, set-slots, edits, effect, root-sector, finish, redo}
-use Rattle.operations.specs.Plan.{prepare, group-store, operate, journal, new-group, last-of, extend, shorten, appended, append-sector, data-stores}
+use Rattle.operations.specs.Plan.{prepare, group-store, operate, journal, new-group, last-of, extend, shorten, exchange, appended, append-sector, data-stores}
 use Rattle.operations.specs.Plan.{recover-stores}
-use Rattle.operations.specs.Calls.{Call, plan, creates, appends, truncates, deletes, renames, recovers, recover}
+use Rattle.operations.specs.Calls.{Call, plan, creates, appends, truncates, deletes, renames, replaces, recovers, recover}
 use Rattle.operations.specs.Outcome.{left, made}
 use Rattle.safety.specs.Demand3.{Genuine, recoveries}
 use Rattle.safety.specs.Saved.{OfBytes, StaysGenuine}
@@ -45,7 +45,7 @@ use Rattle.operations.proofs.Edits.{Laid, laid-small, Bears, again}
 use Rattle.safety.proofs.Start.{Start}
 use Rattle.safety.proofs.Before.{start-rests}
 use Rattle.safety.proofs.Steps.{prepare-all, finish-all}
-use Rattle.safety.proofs.Granted.{create-granted, rename-granted, delete-granted, truncate-granted, append-granted, Unless}
+use Rattle.safety.proofs.Granted.{create-granted, rename-granted, delete-granted, truncate-granted, append-granted, replace-granted, Unless}
 use Rattle.model.specs.declared.Pending.the-variants as Pending
 
 -- Bytes are below 256: of a run, of a store, of a card, of a FAT.
@@ -134,10 +134,14 @@ unfolding extend
 extend-small old [] f h = h
 extend-small old (k ∷ ks) f h = link-small (last-of old ++ (k ∷ ks)) f h
 
+exchange-small : (old new : List ℕ) (f : Fat) → SmallCard f → SmallCard (exchange old new f)
+unfolding exchange
+exchange-small old new f h = release-small old (link new f) (link-small new f h)
+
 shorten-small : (kept freed : List ℕ) (f : Fat) → SmallCard f → SmallCard (shorten kept freed f)
-unfolding shorten
+unfolding shorten exchange
 shorten-small kept [] f h = h
-shorten-small kept (k ∷ ks) f h = release-small (k ∷ ks) (link (last-of kept) f) (link-small (last-of kept) f h)
+shorten-small kept (k ∷ ks) f h = exchange-small (k ∷ ks) (last-of kept) f h
 
 -- ---- stores
 
@@ -215,6 +219,8 @@ module _ {size : ℕ} {c : Card} (st : Start size c) (is : clean (window size c)
   granted-fine (appends n d) p b h =
       unless-fine _ _ p (append-granted st is n d p h .same)
       (fine _ _ _ (data-small (layout-of c) c _ _ d (st .small) b) (extend-small _ _ (first-fat c) old-small))
+  granted-fine (replaces n d) p b h = subst Fine (replace-granted st is n d p h .same)
+      (fine _ _ _ (data-small (layout-of c) c _ _ d (st .small) b) (exchange-small _ _ (first-fat c) old-small))
   granted-fine recovers p b h = let e : granted (ending []) ≡ granted p = sym (start-rests st) ∙ h in let same : ending [] ≡ p = cc in subst Fine same tt
 
   made-fine : (k : Call) (limit : ℕ) (a : Answer Program) → OfBytes k → plan k w ≡ a → All SmallStore (made limit a)

@@ -18,8 +18,9 @@ use Rattle.model.specs.declared.Layout.{Layout}
 use Rattle.model.specs.declared.Pending.{Pending}
 use Rattle.model.specs.declared.Volume.{Volume}
 use Rattle.operations.specs.Program.{Program, stores, ending}
-use Rattle.operations.specs.Plan.{clusters-of, new-clusters, added}
-use Rattle.operations.specs.Calls.{Call, taken-by, released-by, slot-of, creates, renames, deletes, named-file, truncates, appends, recover, recovers, plan}
+use Rattle.operations.specs.Plan.{clusters-of, new-clusters, added, fresh-clusters}
+use Rattle.operations.specs.Calls.{Call, taken-by, released-by, slot-of, creates, renames, deletes, named-file, truncates, appends, replaces}
+use Rattle.operations.specs.Calls.{recover, recovers, plan}
 use Rattle.operations.specs.Outcome.{left, made, largest}
 use Rattle.safety.specs.Cuts.{program-of}
 use Rattle.model.proofs.All.{All, all-take}
@@ -28,13 +29,14 @@ use Rattle.model.proofs.Walks.{chain-length}
 use Rattle.model.proofs.Volumes.{window, volume-of, layout-of, first-fat}
 use Rattle.safety.proofs.Start.{Start, shape-of}
 use Rattle.safety.proofs.Before.{start-rests}
-use Rattle.safety.proofs.Clusters.{Plain, none-free, released-free, shorten-free, extend-free}
+use Rattle.safety.proofs.Clusters.{Plain, none-free, released-free, shorten-free, extend-free, exchange-free}
 use Rattle.safety.proofs.Fair.{Fair, idle-fair, plain-fair, operate-fair}
 use Rattle.safety.proofs.Operations.{old-plain, old-busy}
-use Rattle.safety.proofs.Appends.{new, ds, new-plain, few-data, append-spared}
+use Rattle.safety.proofs.Extents.{ds, new-plain, few-data, append-spared, replace-spared}
 use Rattle.safety.proofs.Supplied.{creates-as, create-supplies, renames-as, rename-supplies, ks, deletes-as, delete-supplies, cut-fat, truncates-as}
-use Rattle.safety.proofs.Supplied.{truncate-supplies, longer-fat, updates-as, append-supplies}
-use Rattle.safety.proofs.Granted.{create-granted, rename-granted, delete-granted, Truncated, truncate-granted, Appended, append-granted}
+use Rattle.safety.proofs.Supplied.{truncate-supplies, longer-fat, updates-as, append-supplies, exchanged-fat, replaces-as, replace-supplies}
+use Rattle.safety.proofs.Granted.{create-granted, rename-granted, delete-granted, Truncated, truncate-granted, Growth, Appended, append-granted}
+use Rattle.safety.proofs.Granted.{Renewal, Replaced, replace-granted}
 use Rattle.model.specs.declared.Pending.the-variants as Pending
 
 -- A refused call takes and releases no cluster.
@@ -123,24 +125,34 @@ module _ {size : ℕ} {c : Card} (st : Start size c) (is : clean (window size c)
       rw none
 
   append-shown : (n d : Span) (a : Answer Program) → plan (appends n d) (window size c) ≡ a → Shown (appends n d) a
-  unfolding taken-by released-by named-file new-clusters added file-at
+  unfolding taken-by released-by named-file
   append-shown n d (refused g) h = idle-fair st is
   append-shown n d (granted p) h =
       let a : Appended st is n d p = append-granted st is n d p h in
       let s : ℕ = at n in
       let live = a .it .live in
       let keeps = a .it .keeps in
-      let js : List ℕ = ks st s live keeps in
-      let more : List ℕ = new st s live keeps d (a .room) in
+      let x : Growth st is n d (a .it) = a .extent in
+      let new : List ℕ = new-clusters v c (file-at l c s) (d .size) in
       ⊎-elim
-      (λ z. idle-shown more [] p (nothing-taken s (d .size) (z .0)) refl (z .1))
-      (λ z. subst (Fair size c more []) (z .1)
-      (operate-fair st (ds st s live keeps d (a .room)) (longer-fat st s live keeps d (a .room)) (updates-as st s live keeps d (a .room))
-      (append-supplies st s live keeps d (a .room))
-      more [] (few-data st s live keeps d (a .room))
-      (extend-free l (sh .few) fat js (old-plain st s live keeps) (old-busy st s live keeps) more (new-plain st s live keeps d (a .room)))
-      (λ sound t i in-root file less. append-spared st s live keeps d (a .room) sound (a .it .file) t i in-root file less)))
+      (λ z. idle-shown new [] p (nothing-taken s (d .size) (z .0)) refl (z .1))
+      (λ z. subst (Fair size c new []) (z .1)
+      (operate-fair st (ds st x) (longer-fat st s live keeps x) (updates-as st s live keeps x) (append-supplies st s live keeps x) new [] (few-data st x)
+      (extend-free l (sh .few) fat (ks st s live keeps) (old-plain st s live keeps) (old-busy st s live keeps) new (new-plain st x))
+      (append-spared st s live keeps x (a .it .file))))
       (a .same)
+
+  replace-shown : (n d : Span) (a : Answer Program) → plan (replaces n d) (window size c) ≡ a → Shown (replaces n d) a
+  unfolding taken-by released-by named-file clusters-of file-at
+  replace-shown n d (refused g) h = idle-fair st is
+  replace-shown n d (granted p) h =
+      let a : Replaced st is n d p = replace-granted st is n d p h in
+      let live = a .it .live in
+      let keeps = a .it .keeps in
+      let x : Renewal st is d = a .extent in
+      subst (Fair size c _ _) (a .same)
+      (operate-fair st (ds st x) (exchanged-fat st (at n) live keeps x) (replaces-as st (at n) live keeps x) (replace-supplies st (at n) live keeps x) _ _
+      (few-data st x) (exchange-free l (sh .few) fat (ks st (at n) live keeps) (fresh-clusters v c (d .size)) (new-plain st x)) (replace-spared st x))
 
   -- Recovery of a clean card stores nothing.
   recover-shown : (a : Answer Program) → recover (window size c) ≡ a → Shown recovers a
@@ -154,6 +166,7 @@ module _ {size : ℕ} {c : Card} (st : Start size c) (is : clean (window size c)
   shown (truncates n m) = truncate-shown n m (plan (truncates n m) (window size c)) refl
   shown (deletes n) = delete-shown n (plan (deletes n) (window size c)) refl
   shown (renames n m) = rename-shown n m (plan (renames n m) (window size c)) refl
+  shown (replaces n d) = replace-shown n d (plan (replaces n d) (window size c)) refl
   shown recovers = recover-shown (recover (window size c)) refl
 
   -- With the largest limit all is stored.

@@ -17,7 +17,7 @@ use Rattle.model.specs.Log.{marked, run, area, run-ok}
 use Rattle.model.specs.Promises.{Shape}
 use Rattle.model.specs.declared.Layout.{Layout}
 use Rattle.model.specs.declared.Run.{Run}
-use Rattle.operations.specs.Plan.{last-of, extend, shorten}
+use Rattle.operations.specs.Plan.{last-of, extend, shorten, exchange}
 use Rattle.model.proofs.Tests.{clash, told, less?, every-at}
 use Rattle.model.proofs.Scan.{all-at}
 use Rattle.model.proofs.All.{All, all-map, all-drop, all-append}
@@ -26,6 +26,7 @@ use Rattle.model.proofs.Fats.{free, release-free, release-marks, link-marks, li
 use Rattle.model.proofs.Chains.{Used, apart-low}
 use Rattle.model.proofs.Volumes.{layout-of, first-fat, run-low}
 use Rattle.safety.proofs.Start.{Start, shape-of, Clear, run-fine}
+use Rattle.safety.proofs.Linked.{Off}
 
 -- A cluster in range that is not the log's.
 pub record Plain (l : Layout) (f : Fat) (k : ℕ) : Type 0 where
@@ -45,6 +46,13 @@ module _ (l : Layout) (f : Fat) where
 
   pub fresh-plain : (ks : List ℕ) → All (Fresh l f) ks → All (Plain l f) ks
   fresh-plain = all-map (Fresh l f) (Plain l f) (λ k u. record { low = u .low; high = u .high; unmarked = ap (λ v. is-reserved v) (u .none) })
+
+  -- A cluster in use is none of free ones, and a free one none of those in use.
+  pub used-off : (ks : List ℕ) → All (Fresh l f) ks → (k : ℕ) → Used l (entry f) k → Off ks k
+  used-off ks a k u = all-map (Fresh l f) (λ j. k ≡ j → ⊥) (λ j w e. u .busy (ap (entry f) e ∙ w .none)) ks a
+
+  pub fresh-off : (ks : List ℕ) → All (Used l (entry f)) ks → (k : ℕ) → Fresh l f k → Off ks k
+  fresh-off ks a k w = all-map (Used l (entry f)) (λ j. k ≡ j → ⊥) (λ j u e. u .busy (ap (entry f) (sym e) ∙ w .none)) ks a
 
   -- The free clusters are free.
   pub free-fresh : All (Fresh l f) (free-clusters l f)
@@ -100,6 +108,17 @@ module _ (l : Layout) (few : l .clusters ≤ 65524) (f : Fat) where
       assoc true b c = refl
       assoc false b c = refl
 
+  -- Some clusters linked, others released.
+  pub exchange-marks : (old new : List ℕ) → All P old → All P new → (j : ℕ) → marked (exchange old new f) j ≡ marked f j
+  unfolding exchange
+  exchange-marks old new a b j =
+      let linked : (k : ℕ) → marked (link new f) k ≡ marked f k = link-marks new f (linkable new b) in
+      release-marks old (link new f) (all-map P (λ k. marked (link new f) k ≡ false) (λ k u. linked k ∙ u .unmarked) old a) j ∙ linked j
+
+  pub exchange-free : (old new : List ℕ) → All P new → (j : ℕ) → free (exchange old new f) j ≡ FreeThen f new old j
+  unfolding exchange
+  exchange-free old new b j = release-free old (link new f) j ∙ ap (λ b. has old j || b) (link-free new f (ranged new b) j)
+
   module _ (old : List ℕ) (plain : All P old) (busy : All (λ k. entry f k ≡ 0 → ⊥) old) where
     last-plain : All P (last-of old)
     last-plain = all-drop P (length old - 1) old plain
@@ -126,29 +145,21 @@ module _ (l : Layout) (few : l .clusters ≤ 65524) (f : Fat) where
         drop-busy false b x h = refl
 
     -- Clusters released after the last one kept.
-    abbrev cut : Fat
-    cut = link (last-of old) f
-
-    cut-marks : (j : ℕ) → marked cut j ≡ marked f j
-    cut-marks = link-marks (last-of old) f (linkable (last-of old) last-plain)
-
     pub shorten-marks : (freed : List ℕ) → All P freed → (j : ℕ) → marked (shorten old freed f) j ≡ marked f j
-    unfolding shorten
+    unfolding shorten exchange
     shorten-marks [] a j = refl
-    shorten-marks (k ∷ ks) a j = release-marks (k ∷ ks) cut (all-map P (λ k. marked cut k ≡ false) (λ k u. cut-marks k ∙ u .unmarked) (k ∷ ks) a) j
-        ∙ cut-marks j
+    shorten-marks (k ∷ ks) a j = exchange-marks (k ∷ ks) (last-of old) a last-plain j
 
     pub shorten-free : (freed : List ℕ) (j : ℕ) → free (shorten old freed f) j ≡ FreeThen f [] freed j
-    unfolding shorten any
+    unfolding shorten exchange any
     shorten-free [] j = sym (and-true (free f j))
     shorten-free (k ∷ ks) j =
-        released-free (k ∷ ks) cut j
-        ∙ ap (λ b. has (k ∷ ks) j || (b && true))
-        (link-free (last-of old) f (ranged (last-of old) last-plain) j ∙ no-busy (has (last-of old) j) (free f j) (has-busy (last-of old) last-busy j))
+        exchange-free (k ∷ ks) (last-of old) last-plain j
+        ∙ ap (λ b. has (k ∷ ks) j || b) (no-busy (has (last-of old) j) (free f j) (has-busy (last-of old) last-busy j))
       where
-        no-busy : (a x : Bool) → (a ≡ true → x ≡ false) → (x && not a) ≡ x
+        no-busy : (a x : Bool) → (a ≡ true → x ≡ false) → (x && not a) ≡ (x && true)
         no-busy true x h = rw (h refl)
-        no-busy false x h = and-true x
+        no-busy false x h = refl
 
 -- ---- where clusters lie
 

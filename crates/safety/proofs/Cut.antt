@@ -1,11 +1,9 @@
 -- What is read after a truncate.
-use Prim.Native.Nat.{ℕ, _+_, _-_, _*_, _/_, _%_, _≤_, _<_}
-use native.Mathlib.Nat.{div-mul-le-self, le-div-iff-mul-le}
+use Prim.Native.Nat.{ℕ, _+_, _-_, _/_, _%_, _≤_, _<_}
 use native.Mathlib.Omega.{arith}
 use mathlib.Core.Path.{_≡_, refl, sym, ap, _∙_, subst}
 use mathlib.Core.Logic.{_⊎_, inl, inr, ⊎-elim}
 use mathlib.Core.List.{List, []}
-use mathlib.Core.Bool.{true}
 use lib.Dec.{eqb}
 use lib.ListN.{length, getD, take, drop, take-append-drop}
 use lib.Seq.{length-take-le, getD-take}
@@ -13,17 +11,16 @@ use borrow.Author.Tests.{eq-eqb, ne-eqb}
 use Rattle.model.specs.Bytes.{Bytes, Span, pick}
 use Rattle.model.specs.Sector.{Card, Window, after}
 use Rattle.model.specs.Fat.{Fat, entry}
-use Rattle.model.specs.Chain.{needed, cluster-bytes, file-sector, keeps-chain}
-use Rattle.model.specs.Root.{Directory, slot-at, file-size, first-cluster, file-at, entry-at}
+use Rattle.model.specs.Chain.{needed, file-sector}
+use Rattle.model.specs.Root.{slot-at, file-size, first-cluster, file-at, entry-at}
 use Rattle.model.specs.Ground.{granted}
 use Rattle.model.specs.Volume.{clean}
 use Rattle.model.specs.Promises.{Shape}
 use Rattle.model.specs.declared.Layout.{Layout}
 use Rattle.model.specs.declared.Pending.{Pending}
 use Rattle.model.specs.declared.Volume.{Volume}
-use Rattle.model.proofs.Walks.{chain-length}
 use Rattle.operations.specs.Program.{Program, ending}
-use Rattle.operations.specs.Finish.{effect, edits, operation-edits}
+use Rattle.operations.specs.Finish.{edits, operation-edits}
 use Rattle.operations.specs.Plan.{clusters-of}
 use Rattle.operations.specs.Calls.{plan, truncates, slot-of}
 use Rattle.operations.specs.Outcome.{left, largest}
@@ -32,46 +29,33 @@ use Rattle.safety.specs.Sound.{chain-of, proper}
 use Rattle.safety.specs.Saved.{Holds}
 use Rattle.model.proofs.Tests.{same?}
 use Rattle.model.proofs.All.{All, all-map, all-take}
-use Rattle.model.proofs.Indices.{Distinct}
 use Rattle.model.proofs.Cards.{after-nil}
-use Rattle.model.proofs.Chains.{Used, chain-distinct, in-cluster, longer}
+use Rattle.model.proofs.Chains.{Used, in-cluster, longer}
 use Rattle.model.proofs.Names.{Live}
 use Rattle.model.proofs.Volumes.{window, layout-of, first-fat, volume-of}
 use Rattle.safety.proofs.Start.{Start, shape-of}
-use Rattle.safety.proofs.Operations.{size-fits, old-used}
+use Rattle.safety.proofs.Operations.{KeepsChain, size-fits, old-used}
 use Rattle.safety.proofs.Files.{file-clear}
 use Rattle.safety.proofs.Theorem.{along}
 use Rattle.safety.proofs.Linked.{Linked, Ranged, keeps-linked, chain-head, shorten-linked}
-use Rattle.safety.proofs.Ended.{Ended, ended, SameHead, same-directory}
-use Rattle.model.proofs.Needed.{needed-none}
-use Rattle.safety.proofs.Chained.{HasChain, ranged, head-is, size-is, empty-then, linked-then}
-use Rattle.safety.proofs.Readings.{Meant, Read, holds-of, holds-read}
-use Rattle.operations.proofs.Edits.{one-in, one-out}
-use Rattle.safety.proofs.Slots.{resized, resized-size, resized-first, resized-head}
+use Rattle.safety.proofs.Ended.{Ended, ended}
+use Rattle.model.proofs.Needed.{needed-none, needed-mono}
+use Rattle.safety.proofs.Chained.{HasChain, ranged, empty-then, linked-then}
+use Rattle.safety.proofs.Readings.{Read, holds-read}
+use Rattle.safety.proofs.Slots.{resized, resized-size, resized-first, Resizes, resizes}
 use Rattle.safety.proofs.Supplied.{truncates-as, cut-fat, truncate-supplies, ks}
 use Rattle.safety.proofs.Granted.{NamedFile, Truncated, truncate-granted}
 use Rattle.safety.proofs.Moved.{finish-with}
-use Rattle.safety.proofs.Means.{resized-means}
+use Rattle.safety.proofs.Means.{resized-holds}
+use Rattle.safety.proofs.Extents.{Base, file-base}
 use Rattle.model.specs.declared.Pending.the-variants as Pending
 
--- Fewer bytes need no more clusters; some bytes need one.
-pub needed-less : (l : Layout) → 1 ≤ l .factor → (n m : ℕ) → n ≤ m → needed l n ≤ needed l m
-unfolding needed cluster-bytes
-needed-less l one n m less =
-    let pos : 0 < 512 * l .factor = omega arith in
-    let low : (n + (512 * l .factor - 1)) / (512 * l .factor) * (512 * l .factor) ≤ n + (512 * l .factor - 1) = div-mul-le-self
-    (n + (512 * l .factor - 1)) (512 * l .factor) in
-    le-div-iff-mul-le pos .1 (trans _ n m (512 * l .factor - 1) low less)
-  where
-    trans : (a n m k : ℕ) → a ≤ n + k → n ≤ m → a ≤ m + k
-    trans a n m k h less = omega arith
-
+-- Some bytes need a cluster.
 pub needed-some : (l : Layout) → 1 ≤ l .factor → (n : ℕ) → (n ≡ 0 → ⊥) → 0 < needed l n
 needed-some l one n ne = let h : 0 / l .factor < needed l n = in-cluster l one 0 n (omega arith) in omega arith
 
 -- The clusters of a file that keeps the chain rule.
-module _ {size : ℕ} {c : Card} (st : Start size c) (s : ℕ) (live : Live (layout-of c) c s)
-    (keeps : keeps-chain (layout-of c) (entry (first-fat c)) (first-cluster (slot-at (layout-of c) c s)) (file-size (slot-at (layout-of c) c s)) ≡ true) where
+module _ {size : ℕ} {c : Card} (st : Start size c) (s : ℕ) (live : Live (layout-of c) c s) (keeps : KeepsChain c s) where
   abbrev l : Layout
   l = layout-of c
 
@@ -87,11 +71,8 @@ module _ {size : ℕ} {c : Card} (st : Start size c) (s : ℕ) (live : Live (lay
   sh : Shape l
   sh = shape-of st
 
-  pub own-length : length own ≡ needed l (file-size b)
-  own-length = chain-length (entry fat) (needed l (file-size b)) (first-cluster b)
-
-  pub own-distinct : Distinct own
-  own-distinct = chain-distinct l (sh .few) (entry fat) (sh .factor-low) (first-cluster b) (file-size b) keeps
+  base : Base c own (file-size b)
+  base = file-base st s live keeps
 
   pub own-high : All (λ k. k < 2 + l .clusters) own
   own-high = all-map (Used l (entry fat)) (λ k. k < 2 + l .clusters) (λ k u. u .high) own (old-used st s live keeps)
@@ -108,25 +89,15 @@ module _ {size : ℕ} {c : Card} (st : Start size c) (s : ℕ) (live : Live (lay
   -- ---- cut to n bytes
 
   module _ (n : ℕ) (less : n < file-size b) {t : Card} (end : Ended size c [] (cut-fat st s live keeps n) (truncates-as st s live keeps n) t) where
-    abbrev d : Directory
-    d = slot-at l c
-
     abbrev new : Bytes
     new = resized (eqb n 0) 0 n b
 
-    pub cut-slot : effect (truncates-as st s live keeps n) d s ≡ new
+    pub cut-edit : Resizes c (truncates-as st s live keeps n) s new
     unfolding edits operation-edits entry-at
-    cut-slot = one-in (truncates-as st s live keeps n) d s (λ b. resized (eqb n 0) 0 n b) refl
-
-    pub uncut-slot : (k : ℕ) → (k ≡ s → ⊥) → effect (truncates-as st s live keeps n) d k ≡ d k
-    unfolding edits operation-edits entry-at
-    uncut-slot k ne = one-out (truncates-as st s live keeps n) d s (λ b. resized (eqb n 0) 0 n b) refl k ne
+    cut-edit = resizes c (truncates-as st s live keeps n) s (eqb n 0) 0 n refl
 
     pub cut-size : file-size new ≡ n
     cut-size = resized-size (eqb n 0) 0 n b (omega (arith, size-fits st s live))
-
-    pub cut-head : SameHead new b
-    cut-head = resized-head (eqb n 0) 0 n b
 
     cut-first : first-cluster new ≡ pick (eqb n 0) 0 (first-cluster b)
     cut-first = resized-first (eqb n 0) 0 n b (omega arith)
@@ -135,7 +106,7 @@ module _ {size : ℕ} {c : Card} (st : Start size c) (s : ℕ) (live : Live (lay
     few = needed l n
 
     few-own : few ≤ length own
-    few-own = rw own-length (needed-less l (sh .factor-low) n (file-size b) (omega arith))
+    few-own = rw (base .long) (needed-mono l (sh .factor-low) n (file-size b) (omega arith))
 
     pub cut-chain : HasChain l t s (take few own)
     cut-chain = go (same? n 0)
@@ -143,12 +114,13 @@ module _ {size : ℕ} {c : Card} (st : Start size c) (s : ℕ) (live : Live (lay
         go : (n ≡ 0) ⊎ (n ≡ 0 → ⊥) → HasChain l t s (take few own)
         go (inl z) =
             let none : take few own ≡ [] = ap (λ m. take m own) (ap (needed l) z ∙ needed-none l (sh .factor-low)) in
-            subst (HasChain l t s) (sym none) (empty-then st end s (live .in-root) new cut-slot
+            subst (HasChain l t s) (sym none) (empty-then st end s (live .in-root) new (cut-edit .slot)
             (cut-first ∙ ap (λ a. pick a 0 (first-cluster b)) (eq-eqb n 0 z)) (cut-size ∙ z))
         go (inr ne) =
             let some : 0 < few = needed-some l (sh .factor-low) n ne in
             let old : file-size b ≡ 0 → ⊥ = λ e. omega arith in
-            linked-then st end s (live .in-root) new cut-slot (take few own) (shorten-linked l own few fat own-distinct own-ranged (own-linked old) some)
+            linked-then st end s (live .in-root) new (cut-edit .slot) (take few own)
+            (shorten-linked l own few fat (base .distinct) own-ranged (own-linked old) some)
             (all-take (λ k. k < 2 + l .clusters) few own own-high)
             (getD-take few own 0 0 some ∙ own-first old ∙ sym (cut-first ∙ ap (λ a. pick a 0 (first-cluster b)) (ne-eqb n 0 ne)))
             (length-take-le few own few-own ∙ ap (needed l) (sym cut-size)) (λ e. ne (sym cut-size ∙ e))
@@ -181,29 +153,12 @@ module _ {size : ℕ} {c : Card} (st : Start size c) (is : clean (window size c)
 
   module _ (n : Span) (m : ℕ) (g : NamedFile st is n) (less : m < file-size (slot-at (layout-of c) c (at n))) {t : Card}
       (end : Ended size c [] (cut-fat st (at n) (g .live) (g .keeps) m) (truncates-as st (at n) (g .live) (g .keeps) m) t) where
-    abbrev x : ℕ
-    x = at n
-
-    abbrev R : Bytes
-    R = new st x (g .live) (g .keeps) m less end
-
-    cut-found : Meant v t n x
-    cut-found = record {
-      ok = g .found .ok;
-      at = resized-means st is end n x R (cut-slot st x (g .live) (g .keeps) m less end) (cut-head st x (g .live) (g .keeps) m less end)
-          (uncut-slot st x (g .live) (g .keeps) m less end);
-      in-root = g .live .in-root;
-      plain =
-          same-directory (slot-at (layout-of c) t x) R (head-is st end x (g .live .in-root) R (cut-slot st x (g .live) (g .keeps) m less end))
-          ∙ same-directory R (slot-at (layout-of c) c x) (cut-head st x (g .live) (g .keeps) m less end) ∙ g .found .plain;
-      keeps = cut-chain st x (g .live) (g .keeps) m less end .keeps;
-    }
-
     cut-then : (size′ : ℕ) (content : Bytes) → Holds w n size′ content → Holds (window size t) n m content
     cut-then size′ content h =
+        let x : ℕ = at n in
         let r : Read w v is n size′ content = holds-read w v is n size′ content h in
-        holds-of (window size t) v (end .cleans) n x cut-found m content
-        (size-is st end x (g .live .in-root) R (cut-slot st x (g .live) (g .keeps) m less end) ∙ cut-size st x (g .live) (g .keeps) m less end)
+        resized-holds st is end n (cut-edit st x (g .live) (g .keeps) m less end) (g .found) m content (cut-size st x (g .live) (g .keeps) m less end)
+        (cut-chain st x (g .live) (g .keeps) m less end .keeps)
         (λ i small. cut-bytes st x (g .live) (g .keeps) m less end i small ∙ r .same i (omega (arith, r .sized)))
 
   pub truncate-holds : (n : Span) (m : ℕ) (p : Program) → plan (truncates n m) w ≡ granted p → (size′ : ℕ) (content : Bytes) → Holds w n size′ content

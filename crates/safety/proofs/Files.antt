@@ -1,8 +1,8 @@
 -- A file with a proper chain lies outside the log, and has the same chain on a card with the same FAT1 and root directory.
 use Prim.Native.Nat.{ℕ, _+_, _/_, _%_, _<_}
 use native.Mathlib.Omega.{arith}
-use mathlib.Core.Path.{_≡_, refl, _∙_}
-use mathlib.Core.List.{List, []}
+use mathlib.Core.Path.{_≡_, refl, _∙_, subst}
+use mathlib.Core.List.{List, [], List·Memᴰ}
 use mathlib.Core.Bool.{true}
 use lib.ListN.{length}
 use Rattle.model.specs.Sector.{Card, Store}
@@ -15,12 +15,14 @@ use Rattle.model.proofs.Walks.{chain-length}
 use Rattle.operations.specs.Plan.{clusters-of}
 use Rattle.safety.specs.Sound.{Sound, chain-of, proper}
 use Rattle.model.proofs.All.{All, all-map}
+use Rattle.model.proofs.Indices.{all-mem}
 use Rattle.model.proofs.Fats.{entry-same}
 use Rattle.model.proofs.Chains.{Used, chain-used, in-cluster, chain-same}
 use Rattle.model.proofs.Volumes.{layout-of, first-fat}
 use Rattle.safety.proofs.Start.{Start, shape-of, Clear, Table, slots-same}
 use Rattle.safety.proofs.Before.{Spared}
 use Rattle.safety.proofs.Clusters.{sector-clear, used-plain}
+use Rattle.safety.proofs.Linked.{Off}
 
 module _ {size : ℕ} {c : Card} (st : Start size c) (s : ℕ) (keeps : proper (layout-of c) c s ≡ true) where
   abbrev l : Layout
@@ -56,6 +58,12 @@ module _ {size : ℕ} {c : Card} (st : Start size c) (s : ℕ) (keeps : proper (
       ∙ chain-same (entry (first-fat c)) (entry (fat1-of l z)) (needed l n) (first-cluster (slot-at l c s))
       (all-map (Used l (entry (first-fat c))) (λ k. entry (fat1-of l z) k ≡ entry (first-fat c) k)
       (λ k u. entry-same (first-fat c) (fat1-of l z) k (h (l .fat1 + k / 256) (Table.fat1 (k / 256) (omega (arith, sh, u .high)) refl))) ks file-used)
+
+-- On a sound card the chain of another file has no cluster of this one.
+pub chains-apart : (l : Layout) (c : Card) → Sound l c → (s x : ℕ) → s < l .entries → x < l .entries → is-file (slot-at l c s) ≡ true
+    → is-file (slot-at l c x) ≡ true → (s ≡ x → ⊥) → All (Off (chain-of l c x)) (chain-of l c s)
+chains-apart l c sound s x less in-root file it ne = all-mem (Off (chain-of l c x)) (chain-of l c s)
+    (λ k m. all-mem (λ j. k ≡ j → ⊥) (chain-of l c x) (λ j n e. sound .apart s x less in-root file it ne j (subst (λ j. List·Memᴰ j (chain-of l c s)) e m) n))
 
 -- The data stores ds spare every byte of every file.
 abbrev pub SparesFiles : Card → List Store → Type 0

@@ -1,5 +1,6 @@
 -- A call that is not refused: what its grounds tell, and which operation it makes.
 use Prim.Native.Nat.{ℕ, _-_, _≤_, _<_}
+use native.Mathlib.Nat.{zero-add}
 use native.Mathlib.Omega.{arith}
 use mathlib.Core.Path.{_≡_, sym, ap, _∙_}
 use mathlib.Core.Logic.{_⊎_, inl, inr, ⊎-elim}
@@ -10,9 +11,9 @@ use lib.ListN.{length}
 use borrow.Author.Tests.{ltb-true, ltb-false, not-false, eqb-true, eqb-false}
 use Rattle.model.specs.Bytes.{Span}
 use Rattle.model.specs.Sector.{Card, Window}
-use Rattle.model.specs.Fat.{Fat, entry, release, free-clusters}
-use Rattle.model.specs.Chain.{keeps-chain}
-use Rattle.model.specs.Root.{slot-at, name-ok, free-slot, first-cluster, file-size, file-at, is-file, is-directory}
+use Rattle.model.specs.Fat.{Fat, release, free-clusters}
+use Rattle.model.specs.Chain.{needed}
+use Rattle.model.specs.Root.{slot-at, name-ok, free-slot, file-size, file-at, is-file, is-directory}
 use Rattle.model.specs.Ground.{Answer, granted, _>>=_}
 use Rattle.model.specs.Volume.{clean}
 use Rattle.model.specs.declared.File.{File}
@@ -21,18 +22,22 @@ use Rattle.model.specs.declared.Pending.{Pending}
 use Rattle.model.specs.declared.Volume.{Volume}
 use Rattle.operations.specs.Program.{Program, ending}
 use Rattle.operations.specs.Plan.{operate, create-stores, rename-stores, delete-stores, truncate-stores, truncate-along, append-stores, append-along}
-use Rattle.operations.specs.Plan.{clusters-of, new-clusters, added}
+use Rattle.operations.specs.Plan.{replace-stores, replace-along, clusters-of, new-clusters, added, fresh-clusters}
 use Rattle.operations.specs.Calls.{creates, renames, deletes, truncates, appends, plan, create, rename, delete, truncate, append, unless-none, taken}
-use Rattle.operations.specs.Calls.{root-full, file-in, file-of, slot-of, name-of}
+use Rattle.operations.specs.Calls.{replaces, replace, root-full, file-in, file-of, slot-of, name-of}
+use Rattle.model.proofs.Needed.{needed-none}
+use Rattle.operations.proofs.Added.{added-sum}
 use Rattle.safety.specs.Sound.{proper}
 use Rattle.model.proofs.Tests.{which, and-left, and-right, and-both}
 use Rattle.model.proofs.Grounds.{then, asked, bound}
 use Rattle.model.proofs.Names.{Live, found-live, found-listed}
 use Rattle.model.proofs.Volumes.{window, layout-of, first-fat, volume-of}
-use Rattle.safety.proofs.Start.{Start}
+use Rattle.safety.proofs.Start.{Start, shape-of}
+use Rattle.safety.proofs.Operations.{KeepsChain}
 use Rattle.safety.proofs.Readings.{Meant, there, found-in, found-file}
-use Rattle.safety.proofs.Supplied.{creates-as, renames-as, deletes-as, truncates-as, cut-fat, updates-as, longer-fat, ks}
-use Rattle.safety.proofs.Appends.{ds}
+use Rattle.safety.proofs.Supplied.{creates-as, renames-as, deletes-as, truncates-as, cut-fat, updates-as, longer-fat, replaces-as}
+use Rattle.safety.proofs.Supplied.{exchanged-fat, ks}
+use Rattle.safety.proofs.Extents.{Extent, ds, extent-of, no-base, file-base}
 use Rattle.model.specs.declared.Pending.the-variants as Pending
 use Rattle.model.specs.declared.Ground.the-variants as Ground
 
@@ -120,13 +125,10 @@ module _ {size : ℕ} {c : Card} (st : Start size c) (is : clean (window size c)
 
   -- ---- calls on a file that keeps the chain rule
 
-  abbrev pub KeepsChain : ℕ → Type 0
-  KeepsChain s = keeps-chain l (entry fat) (first-cluster (slot-at l c s)) (file-size (slot-at l c s)) ≡ true
-
   pub record NamedFile (n : Span) : Type 0 where
     pub found : Meant v c n (at n)
     pub live : Live l c (at n)
-    pub keeps : KeepsChain (at n)
+    pub keeps : KeepsChain c (at n)
     pub file : is-file (slot-at l c (at n)) ≡ true
 
   named-in : (n : Span) (f : File) → file-of v c n ≡ granted f → NamedFile n
@@ -178,17 +180,18 @@ module _ {size : ℕ} {c : Card} (st : Start size c) (is : clean (window size c)
             (ap (λ (g : File). unless-none (g .size - m) (truncate-stores v c g m)) mine ∙ s);
       }
 
-  abbrev pub Enough : ℕ → Span → Type 0
-  Enough s d = added l (file-at l c s) (d .size) ≤ length (free-clusters l fat)
+  -- The clusters that an append is written along.
+  abbrev pub Growth : (n d : Span) → NamedFile n → Type 0
+  Growth n d g = Extent c (ks st (at n) (g .live) (g .keeps)) (new-clusters v c (file-at l c (at n)) (d .size)) (file-size (slot-at l c (at n))) d
 
   pub record Appended (n d : Span) (p : Program) : Type 0 where
     pub it : NamedFile n
-    pub room : Enough (at n) d
-    pub same : Unless (d .size) (operate v c (ds st (at n) (it .live) (it .keeps) d room) (longer-fat st (at n) (it .live) (it .keeps) d room)
-        (updates-as st (at n) (it .live) (it .keeps) d room)) p
+    pub extent : Growth n d it
+    pub same : Unless (d .size)
+        (operate v c (ds st extent) (longer-fat st (at n) (it .live) (it .keeps) extent) (updates-as st (at n) (it .live) (it .keeps) extent)) p
 
   pub append-granted : (n d : Span) (p : Program) → plan (appends n d) w ≡ granted p → Appended n d p
-  unfolding plan append append-stores append-along file-at clusters-of new-clusters added
+  unfolding plan append append-stores append-along file-at clusters-of new-clusters
   append-granted n d p h =
       let b = bound (file-of v c n) _ p (opened _ (granted p) h) in
       let f : File = b .0 in
@@ -197,9 +200,37 @@ module _ {size : ℕ} {c : Card} (st : Start size c) (is : clean (window size c)
       let s : unless-none (d .size) (append-stores v c f d) ≡ p = cc in
       let mine : file-at l c (at n) ≡ f = found-file w v is n f (b .1) in
       let space : added l f (d .size) ≤ length (free-clusters l fat) = ltb-false (length (free-clusters l fat)) (added l f (d .size)) (h2 .0) in
+      let it : NamedFile n = named-in n f (b .1) in
+      let m : ℕ = added l (file-at l c (at n)) (d .size) in
       record {
-        it = named-in n f (b .1);
-        room = rw (ap (λ g. added l g (d .size)) mine) space;
+        it = it;
+        extent = extent-of st (file-base st (at n) (it .live) (it .keeps)) d m (rw (ap (λ g. added l g (d .size)) mine) space)
+            (added-sum l (shape-of st .factor-low) (file-at l c (at n)) (d .size));
         same = unless-is _ _ p
             (ap (λ g. unless-none (d .size) (append-stores v c g d)) mine ∙ s);
+      }
+
+  -- The clusters that a replace is written along: new ones alone.
+  abbrev pub Renewal : Span → Type 0
+  Renewal d = Extent c [] (fresh-clusters v c (d .size)) 0 d
+
+  pub record Replaced (n d : Span) (p : Program) : Type 0 where
+    pub it : NamedFile n
+    pub extent : Renewal d
+    pub same : operate v c (ds st extent) (exchanged-fat st (at n) (it .live) (it .keeps) extent) (replaces-as st (at n) (it .live) (it .keeps) extent) ≡ p
+
+  pub replace-granted : (n d : Span) (p : Program) → plan (replaces n d) w ≡ granted p → Replaced n d p
+  unfolding plan replace replace-stores replace-along file-at clusters-of fresh-clusters
+  replace-granted n d p h =
+      let b = bound (file-of v c n) _ p (opened _ (granted p) h) in
+      let f : File = b .0 in
+      let m : ℕ = needed l (d .size) in
+      let h2 = asked Ground.Nospace (ltb (length (free-clusters l fat)) m) _ p (b .2) in
+      let e : granted (replace-stores v c f d) ≡ granted p = h2 .1 in
+      let s : replace-stores v c f d ≡ p = cc in
+      record {
+        it = named-in n f (b .1);
+        extent = extent-of st (no-base st) d m (ltb-false (length (free-clusters l fat)) m (h2 .0))
+            (simp (needed-none l (shape-of st .factor-low), zero-add));
+        same = ap (λ g. replace-stores v c g d) (found-file w v is n f (b .1)) ∙ s;
       }

@@ -10,7 +10,7 @@ pub mod Clusters
 pub mod Files
 pub mod Fair
 pub mod Operations
-pub mod Appends
+pub mod Extents
 pub mod Calls
 pub mod Recovery
 pub mod Theorem
@@ -25,7 +25,9 @@ pub mod Bytewise
 pub mod Moved
 pub mod Means
 pub mod Cut
+pub mod Written
 pub mod Grown
+pub mod Replaced
 pub mod Saved
 pub mod Others
 pub mod Sounds

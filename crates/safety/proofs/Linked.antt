@@ -13,7 +13,7 @@ use Rattle.model.specs.Fat.{Fat, entry, set-entry, link, release, in-range, is-
 use Rattle.model.specs.Chain.{chain, ends-after, keeps-chain, needed}
 use Rattle.model.specs.declared.Layout.{Layout}
 use Rattle.model.proofs.Walks.{chain-length}
-use Rattle.operations.specs.Plan.{last-of, extend, shorten}
+use Rattle.operations.specs.Plan.{last-of, extend, shorten, exchange}
 use Rattle.model.proofs.Tests.{clash, both, same?}
 use Rattle.model.proofs.All.{All, all-append, all-drop, all-take, all-map}
 use Rattle.model.proofs.Indices.{Distinct, distinct-take}
@@ -113,11 +113,14 @@ extend-other old [] f j a b = refl
 extend-other old (k ∷ ks) f j a b = link-other (last-of old ++ (k ∷ ks)) f j
     (all-append (λ k. j ≡ k → ⊥) (last-of old) (k ∷ ks) (all-drop (λ k. j ≡ k → ⊥) (length old - 1) old a) b)
 
+pub exchange-other : (old new : List ℕ) (f : Fat) (j : ℕ) → Off old j → Off new j → entry (exchange old new f) j ≡ entry f j
+unfolding exchange
+exchange-other old new f j a b = release-other old (link new f) j a ∙ link-other new f j b
+
 pub shorten-other : (kept freed : List ℕ) (f : Fat) (j : ℕ) → Off kept j → Off freed j → entry (shorten kept freed f) j ≡ entry f j
-unfolding shorten
+unfolding shorten exchange
 shorten-other kept [] f j a b = refl
-shorten-other kept (k ∷ ks) f j a b =
-    release-other (k ∷ ks) (link (last-of kept) f) j b ∙ link-other (last-of kept) f j (all-drop (λ k. j ≡ k → ⊥) (length kept - 1) kept a)
+shorten-other kept (k ∷ ks) f j a b = exchange-other (k ∷ ks) (last-of kept) f j b (all-drop (λ k. j ≡ k → ⊥) (length kept - 1) kept a)
 
 -- ---- the chains that they hold
 
@@ -136,6 +139,11 @@ module _ (l : Layout) where
   link-linked k [] f d a = (a .0 .0, ap (λ v. is-end v) (set-entry-same k 0xFFFF f (omega arith)))
   link-linked k (j ∷ r) f d a =
       (a .0 .0, (link-other (j ∷ r) (set-entry k j f) k (d .0) ∙ set-entry-same k j f (a .1 .0 .1), link-linked j r (set-entry k j f) (d .1) (a .1)))
+
+  -- A chain stays when clusters are released that it has none of.
+  release-linked : (old ks : List ℕ) (f : Fat) → All (Off old) ks → Linked l (entry f) ks → Linked l (entry (release old f)) ks
+  release-linked old ks f off h = linked-same l (entry f) (entry (release old f)) ks
+      (all-map (Off old) (λ j. entry (release old f) j ≡ entry f j) (release-other old f) ks off) h
 
   -- From cluster m on linked anew.
   relinked : (m : ℕ) (ks : List ℕ) (f : Fat) → m < length ks → Distinct ks → All (Ranged l) ks → Leads (entry f) m ks
@@ -198,7 +206,12 @@ module _ (l : Layout) where
           let m : ℕ = length kept - 1 in
           let cut : Linked l (entry (link (last-of kept) f)) kept =
           relinked m kept f (omega arith) (distinct-take n ks d) (all-take (Ranged l) n ks a) (leads-take (entry f) ks n m h (omega arith)) in
-          linked-same l (entry (link (last-of kept) f)) (entry (release (k ∷ r) (link (last-of kept) f))) kept
-          (all-map (Off (k ∷ r)) (λ j. entry (release (k ∷ r) (link (last-of kept) f)) j ≡ entry (link (last-of kept) f) j)
-          (λ j off. release-other (k ∷ r) (link (last-of kept) f) j off) kept
-          (subst (λ (xs : List ℕ). All (Off xs) kept) e (distinct-parts kept (drop n ks) (rw (take-append-drop n ks) d)))) cut
+          release-linked (k ∷ r) kept (link (last-of kept) f)
+          (subst (λ (xs : List ℕ). All (Off xs) kept) e (distinct-parts kept (drop n ks) (rw (take-append-drop n ks) d))) cut
+
+  -- New clusters linked among themselves, old ones released.
+  pub exchange-linked : (old new : List ℕ) (f : Fat) → Distinct new → All (Ranged l) new → All (Off old) new → 0 < length new
+      → Linked l (entry (exchange old new f)) new
+  unfolding exchange
+  exchange-linked old [] f d a off some = absurd (omega arith)
+  exchange-linked old (k ∷ ks) f d a off some = release-linked old (k ∷ ks) (link (k ∷ ks) f) off (link-linked k ks f d a)

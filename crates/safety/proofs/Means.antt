@@ -1,4 +1,4 @@
--- Names that a call is not given mean what they meant.
+-- Names that a call is not given mean what they meant; so does the name of a file whose slot alone is edited, and its bytes are read.
 use Prim.Native.Nat.{ℕ, _≤_, _<_}
 use native.Mathlib.Omega.{arith}
 use mathlib.Core.Path.{_≡_, refl, sym, ap, _∙_}
@@ -8,7 +8,7 @@ use mathlib.Core.Bool.{true, false}
 use Rattle.model.specs.Bytes.{Bytes, Span}
 use Rattle.model.specs.Sector.{Card, Store}
 use Rattle.model.specs.Fat.{Fat, release}
-use Rattle.model.specs.Root.{Directory, slot-at, free-slot, bears, find}
+use Rattle.model.specs.Root.{Directory, slot-at, free-slot, bears, find, file-size, file-at}
 use Rattle.model.specs.Ground.{granted}
 use Rattle.model.specs.Volume.{clean}
 use Rattle.model.specs.declared.Layout.{Layout}
@@ -18,13 +18,17 @@ use Rattle.model.specs.declared.Volume.{Volume}
 use Rattle.operations.specs.Program.{Program}
 use Rattle.operations.specs.Finish.{effect, new-entry, set-name, mark-deleted}
 use Rattle.operations.specs.Calls.{slot-of, name-of}
+use Rattle.operations.specs.Reading.{file-byte}
+use Rattle.safety.specs.Sound.{proper}
+use Rattle.safety.specs.Saved.{Holds}
 use Rattle.model.proofs.Tests.{told, same?}
 use Rattle.model.proofs.Names.{name-fits, free-vacant}
 use Rattle.model.proofs.Volumes.{window, layout-of, first-fat, volume-of}
 use Rattle.safety.proofs.Start.{Start}
-use Rattle.safety.proofs.Ended.{Ended, SameHead, same-bears}
-use Rattle.safety.proofs.Chained.{head-is}
-use Rattle.safety.proofs.Slots.{bears-name, vacant-bears, named-only, new-named, deleted-bears, bearer, means-same}
+use Rattle.safety.proofs.Ended.{Ended, same-bears, same-directory}
+use Rattle.safety.proofs.Chained.{head-is, size-is}
+use Rattle.safety.proofs.Readings.{Meant, holds-of}
+use Rattle.safety.proofs.Slots.{Resizes, bears-name, vacant-bears, named-only, new-named, deleted-bears, bearer, means-same}
 use Rattle.safety.proofs.Supplied.{creates-as, renames-as, deletes-as, ks}
 use Rattle.safety.proofs.Granted.{Created, Renamed, Deleted}
 use Rattle.safety.proofs.Moved.{new-slot, old-slot, left-slot, named-slot, rest-slot, gone-slot, kept-slot}
@@ -67,11 +71,28 @@ module _ {size : ℕ} {c : Card} (st : Start size c) (is : clean (window size c)
         → bears (name-of m) (slot-at l t k) ≡ bears (name-of m) (d k)
     edited k less b e h = same-bears (slot-at l t k) b (head-is st end k less b e) (name-of m) ∙ h
 
-    -- One slot edited, whose name stays.
-    pub resized-means : (x : ℕ) (b : Bytes) → effect o d x ≡ b → SameHead b (d x) → ((k : ℕ) → (k ≡ x → ⊥) → effect o d k ≡ d k) → slot-of v t m ≡ at m
-    resized-means x b e h out = means-same v c m t (λ k less. ⊎-elim
-        (λ q. edited k less b (ap (effect o d) q ∙ e) (same-bears b (d x) h (name-of m) ∙ ap (λ k. bears (name-of m) (d k)) (sym q)))
-        (λ ne. edited k less (d k) (out k ne) refl) (same? k x))
+    module _ {x : ℕ} {b : Bytes} (r : Resizes c o x b) where
+      -- One slot edited, whose name stays.
+      pub resized-means : slot-of v t m ≡ at m
+      resized-means = means-same v c m t (λ k less. ⊎-elim
+          (λ q. edited k less b (ap (effect o d) q ∙ r .slot) (same-bears b (d x) (r .head) (name-of m) ∙ ap (λ k. bears (name-of m) (d k)) (sym q)))
+          (λ ne. edited k less (d k) (r .others k ne) refl) (same? k x))
+
+      -- What is read by the name of the file in it.
+      pub resized-holds : Meant v c m x → (n : ℕ) (content : Bytes) → file-size b ≡ n → proper l t x ≡ true
+          → ((i : ℕ) → i < n → file-byte l t (file-at l t x) i ≡ content i) → Holds (window size t) m n content
+      resized-holds found n content sized keeps same =
+          let new : Bytes = slot-at l t x in
+          let less : x < l .entries = found .in-root in
+          holds-of (window size t) v (end .cleans) m x
+          (record {
+            ok = found .ok;
+            at = resized-means ∙ found .at;
+            in-root = less;
+            plain = same-directory new b (head-is st end x less b (r .slot)) ∙ same-directory b (d x) (r .head) ∙ found .plain;
+            keeps = keeps;
+          })
+          n content (size-is st end x less b (r .slot) ∙ sized) same
 
   pub create-means : (n : Span) (p : Program) (g : Created st is n p) {t : Card} (end : Ended size c [] (first-fat c) (creates-as st n) t) (m : Span)
       → at m < l .entries → slot-of v t m ≡ at m

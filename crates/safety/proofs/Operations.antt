@@ -26,6 +26,10 @@ use Rattle.safety.proofs.After.{last-slot}
 use Rattle.safety.proofs.Clusters.{Plain, used-plain}
 use Rattle.model.specs.declared.Pending.the-variants as Pending
 
+-- The file in slot s keeps the chain rule.
+abbrev pub KeepsChain : Card → ℕ → Type 0
+KeepsChain c s = keeps-chain (layout-of c) (entry (first-fat c)) (first-cluster (slot-at (layout-of c) c s)) (file-size (slot-at (layout-of c) c s)) ≡ true
+
 module _ {size : ℕ} {c : Card} (st : Start size c) where
   abbrev l : Layout
   l = layout-of c
@@ -83,7 +87,7 @@ module _ {size : ℕ} {c : Card} (st : Start size c) where
     pub size-fits : file-size b < 256 ^ 4
     size-fits = slot-number 4 s 28
 
-    module _ (whole : keeps-chain l (entry fat) (first-cluster b) (file-size b) ≡ true) where
+    module _ (whole : KeepsChain c s) where
       abbrev pub the-chain : List ℕ
       the-chain = chain (entry fat) (needed l (file-size b)) (first-cluster b)
 

@@ -26,7 +26,6 @@ use Rattle.safety.proofs.Start.{Start}
 use Rattle.safety.proofs.Before.{Spared}
 use Rattle.safety.proofs.Files.{SparesFiles, file-used}
 use Rattle.safety.proofs.Theorem.{along}
-use Rattle.safety.proofs.Linked.{Off}
 use Rattle.safety.proofs.Ended.{Ended, same-is-file}
 use Rattle.safety.proofs.Chained.{HasChain, slot-is, head-is, kept-then}
 
@@ -72,12 +71,6 @@ module _ {size : ℕ} {c : Card} (st : Start size c) (sound : Sound (layout-of c
 
   abbrev g : ℕ → ℕ
   g = entry (first-fat c)
-
-  -- The chain of another file has no cluster of this one.
-  pub chains-apart : (s x : ℕ) → s < l .entries → x < l .entries → is-file (d s) ≡ true → is-file (d x) ≡ true → (s ≡ x → ⊥)
-      → All (Off (chain-of l c x)) (chain-of l c s)
-  chains-apart s x less in-root file it ne = all-mem (Off (chain-of l c x)) (chain-of l c s)
-      (λ k m. all-mem (λ j. k ≡ j → ⊥) (chain-of l c x) (λ j n e. sound .apart s x less in-root file it ne j (subst (λ j. List·Memᴰ j (chain-of l c s)) e m) n))
 
   pub owned-old : (becomes : ℕ → ℕ) (x s r : ℕ) → r < l .entries → is-file (d r) ≡ true → becomes r ≡ s → All (Owner c becomes x s) (chain-of l c r)
   owned-old becomes x s r less file e = all-mem (Owner c becomes x s) (chain-of l c r) (λ k m. Owner.old r less file m e)

@@ -21,6 +21,7 @@ use Rattle.safety.proofs.Bytewise.{stays-genuine}
 use Rattle.safety.proofs.Moved.{create-holds, rename-holds, rename-leaves, rename-absent, delete-leaves, delete-absent}
 use Rattle.safety.proofs.Cut.{truncate-holds}
 use Rattle.safety.proofs.Grown.{append-holds}
+use Rattle.safety.proofs.Replaced.{replace-holds}
 use Rattle.model.specs.declared.Pending.the-variants as Pending
 
 -- The card at the start of a call.
@@ -38,6 +39,7 @@ all-saves w v real is =
     rw same (record {
       created = create-holds st now;
       appended = append-holds st now;
+      replaced = replace-holds st now;
       truncated = truncate-holds st now;
       renamed = rename-holds st now;
       renamed-from = rename-leaves st now;

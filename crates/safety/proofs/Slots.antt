@@ -2,16 +2,19 @@
 use Prim.Native.Nat.{ℕ, _^_, _≤_, _<_}
 use native.Mathlib.Omega.{arith}
 use mathlib.Core.Path.{_≡_, refl, sym, ap, _∙_}
+use mathlib.Core.List.{[], _∷_}
 use mathlib.Core.Bool.{Bool, true, false, not}
 use lib.Dec.{eqb}
 use borrow.Author.Tests.{eq-eqb, eqb-true}
 use Rattle.model.specs.Bytes.{Bytes, Span, pick, le, byte-of, overlay, patch}
 use Rattle.model.specs.Sector.{Card}
+use Rattle.model.specs.Root.{Directory}
 use Rattle.model.specs.Root.{slot-at, name-in, file-size, first-cluster, is-file, is-directory, is-label, listed, vacant, bears, same-name, find, lowest-slot}
+use Rattle.model.specs.declared.Change.{Change}
 use Rattle.model.specs.declared.Name.{Name}
 use Rattle.model.specs.declared.Volume.{Volume}
 use Rattle.operations.specs.Calls.{slot-of, name-of}
-use Rattle.operations.specs.Finish.{set-name, set-size, set-first, mark-deleted, new-entry}
+use Rattle.operations.specs.Finish.{set-name, set-size, set-first, mark-deleted, new-entry, edit, edits, effect}
 use Rattle.model.proofs.Tests.{and-both, and-left, and-right}
 use Rattle.model.proofs.Scan.{first-same, first-is0, first-before0, first-has0, first-above0}
 use Rattle.model.proofs.Overlays.{overlay-below}
@@ -19,6 +22,8 @@ use Rattle.model.proofs.Numbers.{read-back, le-over-below, le-over-above}
 use Rattle.model.proofs.Records.{NameFits}
 use Rattle.model.proofs.Pendings.{starts}
 use Rattle.model.proofs.Names.{vacant-starts}
+use Rattle.model.proofs.Volumes.{layout-of}
+use Rattle.operations.proofs.Edits.{one-in, one-out}
 use Rattle.safety.proofs.Ended.{SameHead}
 
 -- ---- a slot with a new size, and a first cluster if a test holds
@@ -43,6 +48,22 @@ module _ (t : Bool) (k size : ℕ) (b : Bytes) where
       go : (t : Bool) → pick t (set-first k b) b j ≡ b j
       go true = overlay-below (byte-of k) 26 b 2 j (omega arith)
       go false = refl
+
+-- An operation that edits slot s alone, to b, and leaves its name and attributes.
+pub record Resizes (c : Card) (o : Change) (s : ℕ) (b : Bytes) : Type 0 where
+  pub slot : effect o (slot-at (layout-of c) c) s ≡ b
+  pub head : SameHead b (slot-at (layout-of c) c s)
+  pub others : (k : ℕ) → (k ≡ s → ⊥) → effect o (slot-at (layout-of c) c) k ≡ slot-at (layout-of c) c k
+
+pub resizes : (c : Card) (o : Change) (s : ℕ) (t : Bool) (k size : ℕ) → edits o ≡ edit s (λ b. resized t k size b) ∷ []
+    → Resizes c o s (resized t k size (slot-at (layout-of c) c s))
+resizes c o s t k size e =
+    let d : Directory = slot-at (layout-of c) c in
+    record {
+      slot = one-in o d s (λ b. resized t k size b) e;
+      head = resized-head t k size (d s);
+      others = one-out o d s (λ b. resized t k size b) e;
+    }
 
 -- ---- a slot with a new name
 

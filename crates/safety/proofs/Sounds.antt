@@ -9,19 +9,20 @@ use lib.Dec.{eqb}
 use lib.ListN.{take, drop}
 use borrow.Author.Tests.{eq-eqb, ne-eqb}
 use Rattle.model.specs.Bytes.{Bytes, Span, pick}
-use Rattle.model.specs.Sector.{Card, Window, after}
+use Rattle.model.specs.Sector.{Card, Window, Store, after}
 use Rattle.model.specs.Fat.{Fat, entry, release}
 use Rattle.model.specs.Chain.{needed}
 use Rattle.model.specs.Root.{Directory, slot-at, free-slot, is-file, file-size, file-at}
 use Rattle.model.specs.Ground.{Answer, refused, granted}
 use Rattle.model.specs.Volume.{clean}
+use Rattle.model.specs.declared.Change.{Change}
 use Rattle.model.specs.declared.Layout.{Layout}
 use Rattle.model.specs.declared.Pending.{Pending}
 use Rattle.model.specs.declared.Volume.{Volume}
 use Rattle.operations.specs.Program.{Program, ending}
 use Rattle.operations.specs.Finish.{new-entry, mark-deleted}
-use Rattle.operations.specs.Plan.{clusters-of}
-use Rattle.operations.specs.Calls.{Call, plan, creates, appends, truncates, deletes, renames, recovers, slot-of, name-of}
+use Rattle.operations.specs.Plan.{clusters-of, new-clusters, fresh-clusters}
+use Rattle.operations.specs.Calls.{Call, plan, creates, appends, truncates, deletes, renames, replaces, recovers, slot-of, name-of}
 use Rattle.operations.specs.Outcome.{left, made, largest}
 use Rattle.safety.specs.Sound.{Sound, chain-of}
 use Rattle.safety.specs.Saved.{Names, Holds, SameFile, AllKeep}
@@ -32,25 +33,26 @@ use Rattle.model.proofs.Volumes.{window, layout-of, first-fat, volume-of}
 use Rattle.safety.proofs.Start.{Start}
 use Rattle.safety.proofs.Before.{start-rests}
 use Rattle.safety.proofs.Clusters.{Fresh}
-use Rattle.safety.proofs.Files.{file-used, no-data}
+use Rattle.safety.proofs.Files.{SparesFiles, file-used, no-data, chains-apart}
 use Rattle.safety.proofs.Theorem.{after-calls}
-use Rattle.safety.proofs.Linked.{Off, all-zip, release-other, shorten-other, extend-other}
+use Rattle.safety.proofs.Linked.{Off, all-zip, release-other, shorten-other, extend-other, exchange-other}
 use Rattle.safety.proofs.Ended.{Ended, ended, SameHead, same-size, same-directory, same-is-file}
-use Rattle.safety.proofs.Chained.{empty-then}
+use Rattle.safety.proofs.Chained.{HasChain, empty-then}
 use Rattle.safety.proofs.Readings.{Read, holds-read, holds-of}
-use Rattle.safety.proofs.Slots.{new-first, new-size, deleted-file}
+use Rattle.safety.proofs.Slots.{Resizes, new-first, new-size, deleted-file}
 use Rattle.safety.proofs.Supplied.{creates-as, create-supplies, renames-as, deletes-as, truncates-as, truncate-supplies, cut-fat, updates-as}
-use Rattle.safety.proofs.Supplied.{append-supplies, longer-fat, ks}
+use Rattle.safety.proofs.Supplied.{append-supplies, longer-fat, replaces-as, exchanged-fat, replace-supplies, ks}
 use Rattle.safety.proofs.Granted.{file-at-name, Created, create-granted, Renamed, rename-granted, NamedFile, Deleted, delete-granted, Truncated}
-use Rattle.safety.proofs.Granted.{truncate-granted, Enough, Appended, append-granted}
+use Rattle.safety.proofs.Granted.{truncate-granted, Growth, Appended, append-granted, Renewal, Replaced, replace-granted}
 use Rattle.safety.proofs.Moved.{finish-with, new-slot, old-slot, left-slot, rest-slot, rename-chain, rename-end, gone-slot, kept-slot, delete-end}
-use Rattle.safety.proofs.Cut.{cut-slot, cut-head, uncut-slot, cut-chain}
-use Rattle.safety.proofs.Grown.{grown-slot, grown-head, other-slot, grown-chain}
-use Rattle.safety.proofs.Others.{file-not-free, Spares, Owner, chains-apart, owned-old, other-same, Owned, owned-by, file-by, other-owned}
+use Rattle.safety.proofs.Cut.{cut-edit, cut-chain}
+use Rattle.safety.proofs.Grown.{grown-edit, grown-chain}
+use Rattle.safety.proofs.Replaced.{replaced-edit, replaced-chain}
+use Rattle.safety.proofs.Others.{file-not-free, Spares, Owner, owned-old, other-same, Owned, owned-by, file-by, other-owned}
 use Rattle.safety.proofs.Others.{sound-then}
 use Rattle.safety.proofs.Means.{resized-means, create-means, rename-means, delete-means}
 use Rattle.safety.proofs.Saved.{started, volume-is}
-use Rattle.safety.proofs.Appends as Appends
+use Rattle.safety.proofs.Extents.{ds, new-off, append-spared, replace-spared}
 use Rattle.model.specs.declared.Pending.the-variants as Pending
 
 -- What is kept on a card t that a call leaves of c.
@@ -166,7 +168,7 @@ module _ {size : ℕ} {c : Card} (st : Start size c) (is : clean (window size c)
       → (s : ℕ) → s < l .entries → is-file (d s) ≡ true → (s ≡ x → ⊥) → All (λ k. entry f k ≡ entry fat k) (chain-of l c s)
   spared-fat x f in-root it h s less file ne =
       all-zip (Used l (entry fat)) (Off (chain-of l c x)) (λ k. entry f k ≡ entry fat k) h (chain-of l c s) (file-used st s (sound .chains s less file))
-      (chains-apart st sound s x less in-root file it ne)
+      (chains-apart l c sound s x less in-root file it ne)
 
   module _ (n : Span) (p : Program) (g : Deleted st is n p) {t : Card}
       (end : Ended size c [] (release (ks st (at n) (g .it .live) (g .it .keeps)) fat) (deletes-as st (at n) (g .it .live) (g .it .keeps)) t) where
@@ -196,79 +198,72 @@ module _ {size : ℕ} {c : Card} (st : Start size c) (is : clean (window size c)
       sound = sound-then st sound delete-spares end (λ r. r) z (λ s less file. delete-owned s less file (same? s (at n)));
     }
 
-  module _ (n : Span) (m : ℕ) (g : NamedFile st is n) (shorter : m < file-size (d (at n))) {t : Card}
-      (end : Ended size c [] (cut-fat st (at n) (g .live) (g .keeps) m) (truncates-as st (at n) (g .live) (g .keeps) m) t) where
-    abbrev mine : List ℕ
-    mine = ks st (at n) (g .live) (g .keeps)
-
-    cut-spares : Spares c [] (cut-fat st (at n) (g .live) (g .keeps) m) (truncates-as st (at n) (g .live) (g .keeps) m) (at n)
-    unfolding chain-of clusters-of file-at
-    cut-spares = record {
-      slot = λ s less file ne. uncut-slot st (at n) (g .live) (g .keeps) m shorter end s ne;
-      fat = spared-fat (at n) (cut-fat st (at n) (g .live) (g .keeps) m) (g .live .in-root) (g .file)
-          (λ k u off. shorten-other (take (needed l m) mine) (drop (needed l m) mine) fat k (all-take (λ j. k ≡ j → ⊥) (needed l m) mine off)
-          (all-drop (λ j. k ≡ j → ⊥) (needed l m) mine off));
-      bytes = no-data st sound;
+  -- An operation that edits the slot of the file alone, and changes no entry of a cluster in use but along its chain. The file's clusters
+  -- then were its own, or are new.
+  module _ (n : Span) (g : NamedFile st is n) {ds : List Store} {f : Fat} {o : Change} {t : Card} (end : Ended size c ds f o t) {b : Bytes}
+      (edit : Resizes c o (at n) b) (else-same : (k : ℕ) → Used l (entry fat) k → Off (chain-of l c (at n)) k → entry f k ≡ entry fat k)
+      (spared : SparesFiles c ds) (js : List ℕ) (has : HasChain l t (at n) js) (owners : All (Owner c (λ r. r) (at n) (at n)) js) where
+    resized-spares : Spares c ds f o (at n)
+    resized-spares = record {
+      slot = λ s less file ne. edit .others s ne;
+      fat = spared-fat (at n) f (g .live .in-root) (g .file) else-same;
+      bytes = spared;
     }
 
-    cut-owned : (s : ℕ) → s < l .entries → is-file (slot-at l t s) ≡ true → (s ≡ at n) ⊎ (s ≡ at n → ⊥) → Owned st sound cut-spares end (λ r. r) z s
-    unfolding chain-of clusters-of file-at
-    cut-owned s less file (inl e) = subst (λ s. Owned st sound cut-spares end (λ r. r) z s) (sym e)
-        (owned-by st sound cut-spares end (λ r. r) z (at n) (take (needed l m) mine) (cut-chain st (at n) (g .live) (g .keeps) m shorter end)
-        (all-take (Owner c (λ r. r) z (at n)) (needed l m) mine (owned-old st sound (λ r. r) z (at n) (at n) (g .live .in-root) (g .file) refl)))
-    cut-owned s less file (inr ne) =
-        other-owned st sound cut-spares end (λ r. r) z s less
-        (file-by st sound cut-spares end (λ r. r) z s less (d s) (uncut-slot st (at n) (g .live) (g .keeps) m shorter end s ne) file) ne refl
+    resized-owned : (s : ℕ) → s < l .entries → is-file (slot-at l t s) ≡ true → (s ≡ at n) ⊎ (s ≡ at n → ⊥)
+        → Owned st sound resized-spares end (λ r. r) (at n) s
+    resized-owned s less file (inl e) = subst (λ s. Owned st sound resized-spares end (λ r. r) (at n) s) (sym e)
+        (owned-by st sound resized-spares end (λ r. r) (at n) (at n) js has owners)
+    resized-owned s less file (inr ne) =
+        other-owned st sound resized-spares end (λ r. r) (at n) s less
+        (file-by st sound resized-spares end (λ r. r) (at n) s less (d s) (edit .others s ne) file) ne refl
 
-    cut-keeps : Keeping v c (truncates n m) t
-    cut-keeps = record {
-      others = other-same st sound cut-spares end;
-      means = λ name less ne. resized-means st is end name (at n) _ (cut-slot st (at n) (g .live) (g .keeps) m shorter end)
-          (cut-head st (at n) (g .live) (g .keeps) m shorter end)
-          (uncut-slot st (at n) (g .live) (g .keeps) m shorter end);
-      sound = sound-then st sound cut-spares end (λ r. r) z (λ s less file. cut-owned s less file (same? s (at n)));
+    resized-keeps : (k : Call) → ((s : ℕ) → s ≡ at n → Names v c k s) → Keeping v c k t
+    resized-keeps k names = record {
+      others = λ s less file ne. other-same st sound resized-spares end s less file (λ e. ne (names s e));
+      means = λ name less ne. resized-means st is end name edit;
+      sound = sound-then st sound resized-spares end (λ r. r) (at n) (λ s less file. resized-owned s less file (same? s (at n)));
     }
 
-  module _ (n b : Span) (g : NamedFile st is n) (room : Enough st is (at n) b) (some : b .size ≡ 0 → ⊥) {t : Card}
-      (end : Ended size c (Appends.ds st (at n) (g .live) (g .keeps) b room) (longer-fat st (at n) (g .live) (g .keeps) b room)
-      (updates-as st (at n) (g .live) (g .keeps) b room) t) where
-    abbrev old : List ℕ
-    old = ks st (at n) (g .live) (g .keeps)
+  -- A file's own clusters, and free ones that it takes.
+  old-owned : (s : ℕ) → s < l .entries → is-file (d s) ≡ true → All (Owner c (λ r. r) s s) (chain-of l c s)
+  old-owned s less file = owned-old st sound (λ r. r) s s s less file refl
 
-    abbrev new : List ℕ
-    new = Appends.new st (at n) (g .live) (g .keeps) b room
+  new-owned : (s : ℕ) (js : List ℕ) → All (Fresh l fat) js → All (Owner c (λ r. r) s s) js
+  new-owned s js a = all-map (Fresh l fat) (Owner c (λ r. r) s s) (λ k q. Owner.new (q .none) refl) js a
 
-    fresh : All (Fresh l fat) new
-    fresh = Appends.fresh st (at n) (g .live) (g .keeps) b room
+  cut-keeps : (n : Span) (m : ℕ) (g : NamedFile st is n) (shorter : m < file-size (d (at n))) {t : Card}
+      → Ended size c [] (cut-fat st (at n) (g .live) (g .keeps) m) (truncates-as st (at n) (g .live) (g .keeps) m) t → Keeping v c (truncates n m) t
+  unfolding chain-of clusters-of file-at
+  cut-keeps n m g shorter end =
+      let s : ℕ = at n in
+      let mine : List ℕ = ks st s (g .live) (g .keeps) in
+      let i : ℕ = needed l m in
+      resized-keeps n g end (cut-edit st s (g .live) (g .keeps) m shorter end)
+      (λ k u off. shorten-other (take i mine) (drop i mine) fat k (all-take (λ j. k ≡ j → ⊥) i mine off) (all-drop (λ j. k ≡ j → ⊥) i mine off))
+      (no-data st sound) (take i mine) (cut-chain st s (g .live) (g .keeps) m shorter end)
+      (all-take (Owner c (λ r. r) s s) i mine (old-owned s (g .live .in-root) (g .file))) (truncates n m) (λ s e. e)
 
-    append-spares : Spares c (Appends.ds st (at n) (g .live) (g .keeps) b room) (longer-fat st (at n) (g .live) (g .keeps) b room)
-        (updates-as st (at n) (g .live) (g .keeps) b room) (at n)
-    unfolding chain-of clusters-of file-at
-    append-spares = record {
-      slot = λ s less file ne. other-slot st (at n) (g .live) (g .keeps) b room some end s ne;
-      fat = spared-fat (at n) (longer-fat st (at n) (g .live) (g .keeps) b room) (g .live .in-root) (g .file)
-          (λ k u off. extend-other old new fat k off (all-map (Fresh l fat) (λ j. k ≡ j → ⊥) (λ j q e. u .busy (ap (entry fat) e ∙ q .none)) new fresh));
-      bytes = λ s i less file small. Appends.append-spared st (at n) (g .live) (g .keeps) b room sound (g .file) s i less file small;
-    }
+  append-keeps : (n b : Span) (g : NamedFile st is n) (x : Growth st is n b g) (some : b .size ≡ 0 → ⊥) {t : Card}
+      → Ended size c (ds st x) (longer-fat st (at n) (g .live) (g .keeps) x) (updates-as st (at n) (g .live) (g .keeps) x) t → Keeping v c (appends n b) t
+  unfolding chain-of clusters-of file-at
+  append-keeps n b g x some end =
+      let s : ℕ = at n in
+      let old : List ℕ = ks st s (g .live) (g .keeps) in
+      let new : List ℕ = new-clusters v c (file-at l c s) (b .size) in
+      resized-keeps n g end (grown-edit st s (g .live) (g .keeps) x some end) (λ k u off. extend-other old new fat k off (new-off st x k u))
+      (append-spared st s (g .live) (g .keeps) x (g .file) sound) (old ++ new) (grown-chain st s (g .live) (g .keeps) x some end)
+      (all-append (Owner c (λ r. r) s s) old new (old-owned s (g .live .in-root) (g .file)) (new-owned s new (x .fresh))) (appends n b) (λ s e. e)
 
-    append-owned : (s : ℕ) → s < l .entries → is-file (slot-at l t s) ≡ true → (s ≡ at n) ⊎ (s ≡ at n → ⊥) → Owned st sound append-spares end (λ r. r) (at n) s
-    unfolding chain-of clusters-of file-at
-    append-owned s less file (inl e) = subst (λ s. Owned st sound append-spares end (λ r. r) (at n) s) (sym e)
-        (owned-by st sound append-spares end (λ r. r) (at n) (at n) (old ++ new) (grown-chain st (at n) (g .live) (g .keeps) b room some end)
-        (all-append (Owner c (λ r. r) (at n) (at n)) old new (owned-old st sound (λ r. r) (at n) (at n) (at n) (g .live .in-root) (g .file) refl)
-        (all-map (Fresh l fat) (Owner c (λ r. r) (at n) (at n)) (λ k q. Owner.new (q .none) refl) new fresh)))
-    append-owned s less file (inr ne) =
-        other-owned st sound append-spares end (λ r. r) (at n) s less
-        (file-by st sound append-spares end (λ r. r) (at n) s less (d s) (other-slot st (at n) (g .live) (g .keeps) b room some end s ne) file) ne refl
-
-    append-keeps : Keeping v c (appends n b) t
-    append-keeps = record {
-      others = other-same st sound append-spares end;
-      means = λ name less ne. resized-means st is end name (at n) _ (grown-slot st (at n) (g .live) (g .keeps) b room some end)
-          (grown-head st (at n) (g .live) (g .keeps) b room some end)
-          (other-slot st (at n) (g .live) (g .keeps) b room some end);
-      sound = sound-then st sound append-spares end (λ r. r) (at n) (λ s less file. append-owned s less file (same? s (at n)));
-    }
+  replace-keeps : (n b : Span) (g : NamedFile st is n) (x : Renewal st is b) {t : Card}
+      → Ended size c (ds st x) (exchanged-fat st (at n) (g .live) (g .keeps) x) (replaces-as st (at n) (g .live) (g .keeps) x) t → Keeping v c (replaces n b) t
+  unfolding chain-of clusters-of file-at
+  replace-keeps n b g x end =
+      let s : ℕ = at n in
+      let new : List ℕ = fresh-clusters v c (b .size) in
+      resized-keeps n g end (replaced-edit st s (g .live) (g .keeps) x end)
+      (λ k u off. exchange-other (ks st s (g .live) (g .keeps)) new fat k off (new-off st x k u)) (replace-spared st x sound)
+      new (replaced-chain st s (g .live) (g .keeps) x end) (new-owned s new (x .fresh)) (replaces n b) (λ s e. e)
 
   -- ---- every call
 
@@ -296,12 +291,18 @@ module _ {size : ℕ} {c : Card} (st : Start size c) (is : clean (window size c)
   granted-keeps (appends n b) p h =
       let g : Appended st is n b p = append-granted st is n b p h in
       let f : NamedFile st is n = g .it in
+      let x : Growth st is n b f = g .extent in
       ⊎-elim
       (λ a. finish-with st is (AllKept (appends n b)) (appends n b) p (ending []) h (sym (a .1)) (none-keeps (appends n b)))
       (λ a. finish-with st is (AllKept (appends n b)) (appends n b) p _ h (a .1)
-      (append-keeps n b f (g .room) (a .0) (ended st _ _ (updates-as st (at n) (f .live) (f .keeps) b (g .room))
-      (append-supplies st (at n) (f .live) (f .keeps) b (g .room)))))
+      (append-keeps n b f x (a .0) (ended st _ _ (updates-as st (at n) (f .live) (f .keeps) x) (append-supplies st (at n) (f .live) (f .keeps) x))))
       (g .same)
+  granted-keeps (replaces n b) p h =
+      let g : Replaced st is n b p = replace-granted st is n b p h in
+      let f : NamedFile st is n = g .it in
+      let x : Renewal st is b = g .extent in
+      finish-with st is (AllKept (replaces n b)) (replaces n b) p _ h (g .same)
+      (replace-keeps n b f x (ended st _ _ (replaces-as st (at n) (f .live) (f .keeps) x) (replace-supplies st (at n) (f .live) (f .keeps) x)))
   granted-keeps recovers p h =
       let e : granted (ending []) ≡ granted p = sym (start-rests st) ∙ h in
       let same : ending [] ≡ p = cc in

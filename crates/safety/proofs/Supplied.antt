@@ -1,36 +1,37 @@
 -- What each operation supplies, and so the card that it leaves.
-use Prim.Native.Nat.{ℕ, _-_, _^_, _≤_, _<_}
+use Prim.Native.Nat.{ℕ, _+_, _-_, _^_, _≤_, _<_}
 use native.Mathlib.Omega.{arith}
 use mathlib.Core.Path.{_≡_, refl}
-use mathlib.Core.List.{List, []}
+use mathlib.Core.List.{List, [], _∷_}
 use mathlib.Core.Bool.{true}
 use lib.Dec.{eqb}
 use lib.ListN.{getD, take, drop, length}
 use Rattle.model.specs.Bytes.{Bytes, Span, overlay, byte-of}
-use Rattle.model.specs.Sector.{Card}
-use Rattle.model.specs.Fat.{Fat, entry, release, free-clusters}
-use Rattle.model.specs.Chain.{keeps-chain, needed}
-use Rattle.model.specs.Root.{slot-at, name-ok, free-slot, name-in, entry-at, first-cluster, file-size, file-at}
+use Rattle.model.specs.Sector.{Card, Store}
+use Rattle.model.specs.Fat.{Fat, entry, release}
+use Rattle.model.specs.Chain.{needed}
+use Rattle.model.specs.Root.{slot-at, name-ok, free-slot, name-in, entry-at, first-cluster, file-size}
 use Rattle.model.specs.Promises.{Shape}
 use Rattle.model.specs.declared.Entry.{Entry}
 use Rattle.model.specs.declared.Layout.{Layout}
 use Rattle.model.specs.declared.Change.{Change}
-use Rattle.model.specs.declared.Operation.the-variants.{Create, Update, Rename, Delete, Truncate}
+use Rattle.model.specs.declared.Operation.{Operation}
+use Rattle.model.specs.declared.Operation.the-variants.{Create, Update, Rename, Delete, Truncate, Replace}
 use Rattle.operations.specs.Finish.{operation-edits, edits, new-entry}
-use Rattle.operations.specs.Plan.{shorten, extend, last-cluster, added}
+use Rattle.operations.specs.Plan.{shorten, extend, exchange, last-cluster}
 use Rattle.model.proofs.All.{All, all-take, all-drop}
 use Rattle.model.proofs.Names.{name-starts, name-fits, free-low, Live, live-not-free}
-use Rattle.model.proofs.Volumes.{layout-of, first-fat}
-use Rattle.safety.proofs.Start.{Start, shape-of, entries-few}
-use Rattle.safety.proofs.Effect.{resized-lives}
+use Rattle.model.proofs.Volumes.{layout-of, first-fat, SameMarks}
+use Rattle.safety.proofs.Start.{Start, shape-of, entries-few, Clear}
+use Rattle.safety.proofs.Effect.{Lives, resized-lives}
 use Rattle.safety.proofs.Operate.{Supplies}
-use Rattle.safety.proofs.Clusters.{Plain, released-marks, plain-fits, shorten-marks, extend-marks}
+use Rattle.safety.proofs.Clusters.{Plain, released-marks, plain-fits, shorten-marks, extend-marks, exchange-marks}
 use Rattle.model.proofs.Records.{EntryFits, ChangeFits, entry-record, plain-told}
 use Rattle.model.proofs.Pendings.{recorded, record-fine, part-fine, starts-not-zero}
-use Rattle.model.specs.Record.{operation-records, records, record-of, plain}
+use Rattle.model.specs.Record.{operation-records, records, record-of, plain, last-number}
 use Rattle.safety.proofs.After.{last-slot}
-use Rattle.safety.proofs.Operations.{entry-fits, slot-seat, slot-named, slot-lives, first-fits, size-fits, the-chain, old-plain, old-busy}
-use Rattle.safety.proofs.Appends.{new, ds, total, new-plain, total-fits, outside}
+use Rattle.safety.proofs.Operations.{KeepsChain, entry-fits, slot-seat, slot-named, slot-lives, first-fits, size-fits, the-chain, old-plain, old-busy}
+use Rattle.safety.proofs.Extents.{Extent, ds, new-plain, total-fits, outside}
 
 module _ {size : ℕ} {c : Card} (st : Start size c) where
   abbrev l : Layout
@@ -104,7 +105,28 @@ module _ {size : ℕ} {c : Card} (st : Start size c) where
           lives = ((λ r. omega arith), (starts-not-zero _ (name-starts n ok), tt));
         }
 
-    module _ (whole : keeps-chain l (entry fat) (first-cluster b) (file-size b) ≡ true) where
+    -- An operation that one record tells of, about the entry in this slot.
+    entry-supplies : (o : Operation) (number k from m : ℕ) → records (plain o) ≡ record-of e number k from m ∷ [] → 1 ≤ number → number ≤ last-number
+        → k < 256 ^ 2 → from < 65536 → m < 256 ^ 4 → {ds : List Store} {f : Fat} → All (λ s. Clear c (s .sector)) ds → SameMarks l f fat
+        → Lives (slot-at l c) (plain o) → Supplies c ds f (plain o)
+    unfolding entry-at record-of
+    entry-supplies o number k from m told low high first small sized outside marks lives =
+        let fits : ChangeFits (plain o) = record {
+          few = rw told (omega arith);
+          fields = rw told (entry-record e number k from m (omega arith) (entry-fits st s live) first (omega arith) sized, tt);
+          told = plain-told o;
+        } in
+        record {
+          outside = outside;
+          marks = marks;
+          fits = fits;
+          recorded = recorded (l .entries) (last-slot c) (plain o) fits
+              (rw told (record-fine (l .entries) (last-slot c) e number k from m low high small (slot-seat st s live)))
+              (λ i one less. absurd (let none : i < 1 = rw told at less in omega arith)) (rw told (slot-named st s live, tt));
+          lives = lives;
+        }
+
+    module _ (whole : KeepsChain c s) where
       abbrev pub ks : List ℕ
       ks = the-chain st s live whole
 
@@ -112,22 +134,10 @@ module _ {size : ℕ} {c : Card} (st : Start size c) where
       deletes-as = plain (Delete e (first-cluster b) (file-size b))
 
       pub delete-supplies : Supplies c [] (release ks fat) deletes-as
-      unfolding entry-at records operation-records record-of edits operation-edits overlay byte-of
-      delete-supplies =
-          let fits : ChangeFits deletes-as = record {
-            few = omega arith;
-            fields = (entry-record e 3 _ 0 _ (omega arith) (entry-fits st s live) (first-fits st s live) (omega arith) (size-fits st s live), tt);
-            told = plain-told _;
-          } in
-          record {
-            outside = tt;
-            marks = λ k low high. released-marks l (sh .few) fat ks (old-plain st s live whole) k;
-            fits = fits;
-            recorded = recorded (l .entries) (last-slot c) deletes-as fits
-                (record-fine (l .entries) (last-slot c) e 3 _ 0 _ (omega arith) (omega arith) (omega arith) (slot-seat st s live))
-                (λ k low high. absurd (omega arith)) (slot-named st s live, tt);
-            lives = ((λ r. omega arith), tt);
-          }
+      unfolding entry-at records operation-records edits operation-edits overlay byte-of
+      delete-supplies = entry-supplies (Delete e (first-cluster b) (file-size b)) 3 (first-cluster b) 0 (file-size b) refl (omega arith) (omega arith)
+          (first-fits st s live) (omega arith) (size-fits st s live) tt (λ k low high. released-marks l (sh .few) fat ks (old-plain st s live whole) k)
+          ((λ r. omega arith), tt)
 
       abbrev pub cut-fat : ℕ → Fat
       cut-fat n = shorten (take (needed l n) ks) (drop (needed l n) ks) fat
@@ -136,62 +146,49 @@ module _ {size : ℕ} {c : Card} (st : Start size c) where
       truncates-as n = plain (Truncate e (first-cluster b) (getD (drop (needed l n) ks) 0 0) n)
 
       pub truncate-supplies : (n : ℕ) → n ≤ file-size b → Supplies c [] (cut-fat n) (truncates-as n)
-      unfolding entry-at records operation-records record-of edits operation-edits overlay byte-of
+      unfolding entry-at records operation-records edits operation-edits
       truncate-supplies n less =
           let m : ℕ = needed l n in
           let plain : All (Plain l fat) (take m ks) = all-take (Plain l fat) m ks (old-plain st s live whole) in
           let busy : All (λ k. entry fat k ≡ 0 → ⊥) (take m ks) = all-take (λ k. entry fat k ≡ 0 → ⊥) m ks (old-busy st s live whole) in
           let freed : All (Plain l fat) (drop m ks) = all-drop (Plain l fat) m ks (old-plain st s live whole) in
-          let from : getD (drop m ks) 0 0 < 65536 = plain-fits l (sh .few) fat (drop m ks) freed 0 in
-          let fits : ChangeFits (truncates-as n) = record {
-            few = omega arith;
-            fields = (
-              entry-record e 4 _ (getD (drop m ks) 0 0) n (omega arith) (entry-fits st s live) (first-fits st s live) (omega arith)
-                  (omega (arith, size-fits st s live)),
-              tt,
-            );
-            told = plain-told _;
-          } in
-          record {
-            outside = tt;
-            marks = λ k low high. shorten-marks l (sh .few) fat (take m ks) plain busy (drop m ks) freed k;
-            fits = fits;
-            recorded = recorded (l .entries) (last-slot c) (truncates-as n) fits
-                (record-fine (l .entries) (last-slot c) e 4 _ _ n (omega arith) (omega arith) from (slot-seat st s live))
-                (λ k low high. absurd (omega arith)) (slot-named st s live, tt);
-            lives = (resized-lives (eqb n 0) 0 n b (slot-lives st s live), tt);
-          }
+          let from : ℕ = getD (drop m ks) 0 0 in
+          entry-supplies (Truncate e (first-cluster b) from n) 4 (first-cluster b) from n refl (omega arith) (omega arith)
+          (first-fits st s live) (plain-fits l (sh .few) fat (drop m ks) freed 0) (omega (arith, size-fits st s live)) tt
+          (λ k low high. shorten-marks l (sh .few) fat (take m ks) plain busy (drop m ks) freed k) (resized-lives (eqb n 0) 0 n b (slot-lives st s live), tt)
 
-      module _ (d : Span) (room : added l (file-at l c s) (d .size) ≤ length (free-clusters l fat)) where
+      module _ {new : List ℕ} {d : Span} (x : Extent c ks new (file-size b) d) where
         abbrev pub longer-fat : Fat
-        longer-fat = extend ks (new st s live whole d room) fat
+        longer-fat = extend ks new fat
 
         abbrev pub updates-as : Change
-        updates-as = plain (Update e (last-cluster ks) (getD (new st s live whole d room) 0 0) (total st s live whole d room))
+        updates-as = plain (Update e (last-cluster ks) (getD new 0 0) (file-size b + d .size))
 
-        pub append-supplies : Supplies c (ds st s live whole d room) longer-fat updates-as
-        unfolding entry-at records operation-records record-of edits operation-edits overlay byte-of
+        pub append-supplies : Supplies c (ds st x) longer-fat updates-as
+        unfolding entry-at records operation-records edits operation-edits
         append-supplies =
             let few : l .clusters ≤ 65524 = sh .few in
-            let k : ℕ = getD (new st s live whole d room) 0 0 in
-            let from : k < 65536 = plain-fits l few fat (new st s live whole d room) (new-plain st s live whole d room) 0 in
-            let n : ℕ = total st s live whole d room in
-            let fits : ChangeFits updates-as = record {
-              few = omega arith;
-              fields = (
-                entry-record e 2 (last-cluster ks) k n (omega arith) (entry-fits st s live)
-                    (plain-fits l few fat ks (old-plain st s live whole) (length ks - 1)) (omega arith) (total-fits st s live whole d room),
-                tt,
-              );
-              told = plain-told _;
-            } in
-            record {
-              outside = outside st s live whole d room;
-              marks = λ k low high. extend-marks l few fat ks (old-plain st s live whole) (old-busy st s live whole)
-                  (new st s live whole d room) (new-plain st s live whole d room) k;
-              fits = fits;
-              recorded = recorded (l .entries) (last-slot c) updates-as fits
-                  (record-fine (l .entries) (last-slot c) e 2 (last-cluster ks) k n (omega arith) (omega arith) from (slot-seat st s live))
-                  (λ k low high. absurd (omega arith)) (slot-named st s live, tt);
-              lives = (resized-lives (eqb (last-cluster ks) 0) k n b (slot-lives st s live), tt);
-            }
+            let last : ℕ = last-cluster ks in
+            let from : ℕ = getD new 0 0 in
+            let n : ℕ = file-size b + d .size in
+            let old : All (Plain l fat) ks = old-plain st s live whole in
+            entry-supplies (Update e last from n) 2 last from n refl (omega arith) (omega arith) (plain-fits l few fat ks old (length ks - 1))
+            (plain-fits l few fat new (new-plain st x) 0) (total-fits st x) (outside st x)
+            (λ k low high. extend-marks l few fat ks old (old-busy st s live whole) new (new-plain st x) k)
+            (resized-lives (eqb last 0) from n b (slot-lives st s live), tt)
+
+      module _ {new : List ℕ} {d : Span} (x : Extent c [] new 0 d) where
+        abbrev pub exchanged-fat : Fat
+        exchanged-fat = exchange ks new fat
+
+        abbrev pub replaces-as : Change
+        replaces-as = plain (Replace e (first-cluster b) (getD new 0 0) (d .size))
+
+        pub replace-supplies : Supplies c (ds st x) exchanged-fat replaces-as
+        unfolding entry-at records operation-records edits operation-edits
+        replace-supplies =
+            let from : ℕ = getD new 0 0 in
+            entry-supplies (Replace e (first-cluster b) from (d .size)) 6 (first-cluster b) from (d .size) refl (omega arith) (omega arith)
+            (first-fits st s live) (plain-fits l (sh .few) fat new (new-plain st x) 0) (omega (arith, total-fits st x)) (outside st x)
+            (λ k low high. exchange-marks l (sh .few) fat ks new (old-plain st s live whole) (new-plain st x) k)
+            (resized-lives true from (d .size) b (slot-lives st s live), tt)

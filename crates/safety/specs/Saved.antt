@@ -13,7 +13,7 @@ use Rattle.model.specs.declared.Volume.{Volume}
 use Rattle.model.specs.declared.Outcome.the-variants.{Done}
 use Rattle.model.specs.declared.Ground.the-variants as Ground
 use Rattle.operations.specs.Program.{Program}
-use Rattle.operations.specs.Calls.{Call, creates, appends, truncates, deletes, renames, recovers, plan, name-of, slot-of, named-file}
+use Rattle.operations.specs.Calls.{Call, creates, appends, truncates, deletes, renames, replaces, recovers, plan, name-of, slot-of, named-file}
 use Rattle.operations.specs.Outcome.{left, largest}
 use Rattle.operations.specs.Reading.{Filled, read, file-byte, filled-outcome, buffer-after}
 use Rattle.safety.specs.Sound.{Sound}
@@ -48,6 +48,8 @@ pub record Saves (w : Window) (v : Volume) : Type 0 where
   -- An append leaves the old bytes, then the new.
   pub appended : (n d : Span) (p : Program) → plan (appends n d) w ≡ granted p → (size : ℕ) (content : Bytes) → Holds w n size content
       → Holds (left largest (appends n d) w) n (size + d .size) (λ i. pick (ltb i size) (content i) (d .byte (i - size)))
+  -- A replace leaves the new bytes alone.
+  pub replaced : (n d : Span) (p : Program) → plan (replaces n d) w ≡ granted p → Holds (left largest (replaces n d) w) n (d .size) (d .byte)
   -- A truncate leaves the first bytes.
   pub truncated : (n : Span) (m : ℕ) (p : Program) → plan (truncates n m) w ≡ granted p → (size : ℕ) (content : Bytes)
       → Holds w n size content → Holds (left largest (truncates n m) w) n m content
@@ -80,6 +82,7 @@ Names v c (appends n d) s = s ≡ slot-of v c n
 Names v c (truncates n m) s = s ≡ slot-of v c n
 Names v c (deletes n) s = s ≡ slot-of v c n
 Names v c (renames n m) s = s ≡ slot-of v c n
+Names v c (replaces n d) s = s ≡ slot-of v c n
 Names v c recovers s = ⊥
 
 -- Slot s of the card y is as in c, and so is each byte of its file.
@@ -99,7 +102,7 @@ pub record KeepsOthers (k : Call) (w : Window) (v : Volume) : Type 0 where
 abbrev pub AllKeep : Type 0
 AllKeep = (k : Call) (w : Window) (v : Volume) → Genuine w → clean w ≡ granted v → Sound (v .layout) (w .card) → KeepsOthers k w v
 
--- A window of bytes stays one, under any limit, if what is appended is bytes. The card being clean and sound again as well, all this
+-- A window of bytes stays one, under any limit, if what is written is bytes. The card being clean and sound again as well, all this
 -- holds of call after call.
 abbrev pub OfBytes : Call → Type 0
 OfBytes (creates n) = Unit {0}
@@ -107,6 +110,7 @@ OfBytes (appends n d) = (i : ℕ) → i < d .size → d .byte i < 256
 OfBytes (truncates n m) = Unit {0}
 OfBytes (deletes n) = Unit {0}
 OfBytes (renames n m) = Unit {0}
+OfBytes (replaces n d) = (i : ℕ) → i < d .size → d .byte i < 256
 OfBytes recovers = Unit {0}
 
 abbrev pub StaysGenuine : Type 0
