@@ -3,3 +3,4 @@ pub mod Flat
 pub mod Rows
 pub mod Instance
 pub mod SavedK
+pub mod ReplacingRows

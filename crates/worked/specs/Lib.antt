@@ -1,2 +1,3 @@
 pub mod CardK
 pub mod Worked
+pub mod Replacing
