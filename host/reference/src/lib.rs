@@ -22,6 +22,7 @@ mod builder;
 mod bytes;
 mod chain;
 mod check;
+mod data;
 mod fat;
 mod fat_draft;
 mod geometry;
