@@ -1,5 +1,6 @@
 //! A call with what it is given, for either implementation.
 
+#[cfg(feature = "library")]
 use lfat_card::calls;
 use reference::{Answer, Operation};
 use std::fmt;
@@ -54,6 +55,7 @@ impl Call {
         }
     }
 
+    #[cfg(feature = "library")]
     pub fn on_library(&self, card: &mut [u8], limit: u32, buffer: &mut [u8]) -> calls::Answer {
         match self {
             Call::Create(name) => calls::create(card, name, limit),

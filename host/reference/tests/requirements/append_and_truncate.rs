@@ -1,5 +1,6 @@
 //! Chains that grow and shrink, and the chain rule.
 
+use crate::support::worked::with_file;
 use crate::support::{pattern, planned_sectors, run_done, run_storing};
 use reference::*;
 use testkit::cards::Card;
@@ -11,15 +12,6 @@ fn append(data: &[u8]) -> Operation<'_> {
 
 fn truncate(size: u64) -> Operation<'static> {
     Operation::Truncate { name: ROUTE, size }
-}
-
-/// Card K with a file of the given size on the given chain.
-fn with_file(chain: &[u16], end: u16, size: u32) -> Card {
-    let mut card = Card::k();
-    let first = chain.first().copied().unwrap_or(0);
-    card.put_slot(0, ROUTE, 0x20, first, size);
-    card.put_chain(chain, end);
-    card
 }
 
 #[test]
