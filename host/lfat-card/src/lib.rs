@@ -1,7 +1,7 @@
 //! FAT16 cards with a TI-LFAT journal: safe functions over the proved library.
 //!
 //! A card is a window of bytes, the whole card from its boot sector on. [`Card`] changes it, [`CardView`] only reads it, and a
-//! [`File`] is a file being read. [`calls`] has the library's eight calls as they are, with names of any bytes.
+//! [`File`] is a file being read. [`calls`] has the library's eight calls as they are, with names of any bytes; [`raw`] as C has them.
 //!
 //! ```
 //! use lfat_card::{Card, Name};
@@ -37,6 +37,7 @@ mod entry;
 mod file;
 mod name;
 mod operation;
+pub mod raw;
 mod refusal;
 mod view;
 

@@ -1,65 +1,9 @@
 //! The numbers that cross the C interface: code * 2^32 + count, where a refusal has the count 0. The safe functions do not show
 //! that count.
 
+use lfat_card::raw::*;
 use reference::card_k;
 use testkit::{ALL, PANEL, ROUTE};
-
-/// A pointer and a length make a slice.
-type Bytes = *const u8;
-
-extern "C" {
-    fn lfat_create(
-        card: *mut u8,
-        length: usize,
-        name: Bytes,
-        name_length: usize,
-        limit: u32,
-    ) -> u64;
-    fn lfat_append(
-        card: *mut u8,
-        length: usize,
-        name: Bytes,
-        name_length: usize,
-        data: Bytes,
-        data_length: usize,
-        limit: u32,
-    ) -> u64;
-    fn lfat_truncate(
-        card: *mut u8,
-        length: usize,
-        name: Bytes,
-        name_length: usize,
-        size: u64,
-        limit: u32,
-    ) -> u64;
-    fn lfat_delete(
-        card: *mut u8,
-        length: usize,
-        name: Bytes,
-        name_length: usize,
-        limit: u32,
-    ) -> u64;
-    fn lfat_rename(
-        card: *mut u8,
-        length: usize,
-        old: Bytes,
-        old_length: usize,
-        new: Bytes,
-        new_length: usize,
-        limit: u32,
-    ) -> u64;
-    fn lfat_recover(card: *mut u8, length: usize, limit: u32) -> u64;
-    fn lfat_read(
-        card: Bytes,
-        length: usize,
-        name: Bytes,
-        name_length: usize,
-        offset: u64,
-        buffer: *mut u8,
-        buffer_length: usize,
-    ) -> u64;
-    fn lfat_list(card: Bytes, length: usize, buffer: *mut u8, buffer_length: usize) -> u64;
-}
 
 /// What all eight calls answer, in the header's order.
 fn answers(card: &mut [u8], name: &[u8], limit: u32) -> [u64; 8] {
