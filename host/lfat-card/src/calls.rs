@@ -1,4 +1,4 @@
-//! The library's eight calls on byte slices, and their answers as values.
+//! The library's nine calls on byte slices, and their answers as values.
 
 use crate::{raw, Refusal};
 
@@ -85,6 +85,11 @@ pub fn create(card: &mut [u8], name: &[u8], limit: u32) -> Answer {
 /// Adds bytes at the end of a file, with at most so many stores.
 pub fn append(card: &mut [u8], name: &[u8], data: &[u8], limit: u32) -> Answer {
     on_two(raw::lfat_append, card, name, data, limit)
+}
+
+/// Saves over a file, with at most so many stores: it then has these bytes and no others.
+pub fn replace(card: &mut [u8], name: &[u8], data: &[u8], limit: u32) -> Answer {
+    on_two(raw::lfat_replace, card, name, data, limit)
 }
 
 /// Shortens a file, with at most so many stores.

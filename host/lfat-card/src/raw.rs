@@ -19,6 +19,15 @@ extern "C" {
         data_len: usize,
         limit: u32,
     ) -> u64;
+    pub fn lfat_replace(
+        card: *mut u8,
+        card_len: usize,
+        name: *const u8,
+        name_len: usize,
+        data: *const u8,
+        data_len: usize,
+        limit: u32,
+    ) -> u64;
     pub fn lfat_truncate(
         card: *mut u8,
         card_len: usize,
