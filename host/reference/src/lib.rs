@@ -8,7 +8,7 @@
 //! Where to look:
 //! - `check`: grounds 1 to 7, which judge the card;
 //! - `lookup`: grounds 8 to 10 and 13, which judge a name and its file;
-//! - `operation`: the five writing operations;
+//! - `operation`: the six writing operations;
 //! - `transaction`, `program`: the order of stores, as a list and in segments;
 //! - `recovery`: redo of a pending group, undo of anything else;
 //! - `reading`: read and list;
@@ -47,7 +47,7 @@ pub use geometry::Geometry;
 pub use inspect::{file_bytes, file_chain, free_clusters, is_sound};
 pub use listing::log_listing;
 pub use operation::{
-    append, create, delete, plan, program, recover, rename, run, truncate, Operation,
+    append, create, delete, plan, program, recover, rename, replace, run, truncate, Operation,
 };
 pub use program::{Extent, Program, Segment};
 pub use reading::{list, read};

@@ -10,7 +10,7 @@ use crate::store::{Sector, Store, SECTOR_BYTES};
 
 /// What one operation changes.
 pub struct Transaction<'a, 'd> {
-    /// Data sectors, for append only.
+    /// Data sectors, for append and replace only.
     pub data: Vec<Extent<'d>>,
     pub fat: FatDraft<'a>,
     /// The log records of the group.

@@ -22,6 +22,7 @@ fn crossing(call: &Call, card: &mut [u8], limit: u32, buffer: &mut [u8]) -> (*co
     match call {
         Call::Create(name) => (lfat_create as *const (), named(name, [limit, 0, 0])),
         Call::Append(name, data) => (lfat_append as *const (), with(name, data)),
+        Call::Replace(name, data) => (lfat_replace as *const (), with(name, data)),
         Call::Truncate(name, size) => (lfat_truncate as *const (), named(name, [*size, limit, 0])),
         Call::Delete(name) => (lfat_delete as *const (), named(name, [limit, 0, 0])),
         Call::Rename(old, new) => (lfat_rename as *const (), with(old, new)),

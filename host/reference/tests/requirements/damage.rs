@@ -152,6 +152,7 @@ fn short_windows() {
         let window = &mut card[..length];
         assert_eq!(create(window, name, ALL), refused);
         assert_eq!(append(window, name, &[1], ALL), refused);
+        assert_eq!(replace(window, name, &[1], ALL), refused);
         assert_eq!(truncate(window, name, 0, ALL), refused);
         assert_eq!(delete(window, name, ALL), refused);
         assert_eq!(rename(window, name, b"PANEL   CUT", ALL), refused);

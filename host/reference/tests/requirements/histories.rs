@@ -69,6 +69,14 @@ impl Model {
                 }
                 self.find(name)?.extend(data);
             }
+            Call::Replace(name, data) => {
+                self.find(name)?;
+                // The old bytes have their room until the new ones are saved.
+                if self.clusters(data.len()) > self.free() {
+                    return Err(Ground::Nospace);
+                }
+                *self.find(name)? = data.clone();
+            }
             Call::Truncate(name, size) => {
                 let file = self.find(name)?;
                 if *size as usize > file.len() {

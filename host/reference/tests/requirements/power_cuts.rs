@@ -173,6 +173,14 @@ fn three_cut_recoveries_in_a_row() {
             name: ROUTE,
             data: &data,
         },
+        Operation::Replace {
+            name: ROUTE,
+            data: &data,
+        },
+        Operation::Replace {
+            name: ROUTE,
+            data: &[],
+        },
         Operation::Truncate {
             name: ROUTE,
             size: 100,

@@ -35,7 +35,7 @@ fn random_length(random: &mut Random, cluster_bytes: usize) -> usize {
 /// A call that stores, and no recovery.
 pub fn random_step(random: &mut Random, cluster_bytes: usize) -> Call {
     let name = random_name(random);
-    match random.below(16) {
+    match random.below(20) {
         0..=3 => Call::Create(name),
         4..=8 => {
             let length = random_length(random, cluster_bytes);
@@ -46,6 +46,10 @@ pub fn random_step(random: &mut Random, cluster_bytes: usize) -> Call {
             Call::Truncate(name, size as u64)
         }
         12 | 13 => Call::Delete(name),
+        14..=17 => {
+            let length = random_length(random, cluster_bytes);
+            Call::Replace(name, random.bytes(length))
+        }
         _ => Call::Rename(name, random_name(random)),
     }
 }
