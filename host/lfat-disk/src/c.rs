@@ -223,6 +223,22 @@ pub unsafe extern "C" fn lfat_disk_append(
 }
 
 /// # Safety
+/// As for `lfat_disk_append`.
+#[no_mangle]
+pub unsafe extern "C" fn lfat_disk_replace(
+    disk: *mut Handle,
+    name: *const u8,
+    name_len: usize,
+    data: *const u8,
+    data_len: usize,
+) -> u64 {
+    let (name, data) = ((name, name_len), (data, data_len));
+    with_two(disk, name, data, NAME_OR_DATA, |card, name, data| {
+        card.replace(name, data)
+    })
+}
+
+/// # Safety
 /// As for `lfat_disk_create`.
 #[no_mangle]
 pub unsafe extern "C" fn lfat_disk_truncate(

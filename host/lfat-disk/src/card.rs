@@ -137,6 +137,11 @@ impl<D: Disk, L: Lists> DiskCard<D, L> {
         self.save(&[Operation::Append { name, data }], NO_LIMIT)
     }
 
+    /// Saves over a file: it then has these bytes and no others. A cut leaves the old bytes or the new ones, whole.
+    pub fn replace(&mut self, name: &[u8], data: &[u8]) -> Result<u32, Error> {
+        self.save(&[Operation::Replace { name, data }], NO_LIMIT)
+    }
+
     /// Shortens a file.
     pub fn truncate(&mut self, name: &[u8], size: u64) -> Result<u32, Error> {
         self.save(&[Operation::Truncate { name, size }], NO_LIMIT)

@@ -193,6 +193,14 @@ int main(int argc, char **argv)
     DUE(lfat_disk_append(disk, keel, 11, bytes, sizeof bytes), LFAT_DONE, 9);
     DUE(lfat_disk_append(disk, keel, 11, NULL, 0), LFAT_DONE, 0);
     DUE(lfat_disk_append(disk, keel, 11, NULL, 1), LFAT_DISK_ARGUMENT, 0);
+    DUE(lfat_disk_replace(disk, keel, 11, bytes, 600), LFAT_DONE, 7);
+    DUE(lfat_disk_replace(disk, keel, 11, NULL, 0), LFAT_DONE, 5);
+    /* Eight groups fill the log: it is cleared first. */
+    DUE(lfat_disk_replace(disk, keel, 11, NULL, 0), LFAT_DONE, 11);
+    DUE(lfat_disk_replace(disk, keel, 11, NULL, 1), LFAT_DISK_ARGUMENT, 0);
+    DUE(lfat_disk_replace(disk, NULL, 11, bytes, 1), LFAT_DISK_ARGUMENT, 0);
+    DUE(lfat_disk_replace(disk, (const uint8_t *)"NONE       ", 11, bytes, 1), LFAT_ABSENT, 0);
+    DUE(lfat_disk_replace(disk, keel, 11, bytes, sizeof bytes), LFAT_DONE, 9);
     DUE(lfat_disk_truncate(disk, keel, 11, 2001), LFAT_LENGTH, 0);
     DUE(lfat_disk_truncate(disk, keel, 11, 1000), LFAT_DONE, 5);
     memset(bytes, 0, sizeof bytes);
@@ -201,7 +209,7 @@ int main(int argc, char **argv)
         wrong = 1;
     DUE(lfat_disk_read(disk, keel, 11, 0, NULL, 0), LFAT_DONE, 0);
     DUE(lfat_disk_delete(disk, route, 11), LFAT_DONE, 5);
-    DUE(lfat_disk_rename(disk, keel, 11, route, 11), LFAT_DONE, 11);
+    DUE(lfat_disk_rename(disk, keel, 11, route, 11), LFAT_DONE, 3);
     DUE(lfat_disk_list(disk, entries, sizeof entries), LFAT_DONE, 2);
     DUE(lfat_disk_delete(disk, keel, 11), LFAT_ABSENT, 0);
     if (strstr(lfat_disk_message(), "ABSENT") == NULL || lfat_disk_errno() != 0)

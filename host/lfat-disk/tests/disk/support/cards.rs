@@ -127,6 +127,18 @@ pub fn verbs() -> Vec<Verb> {
             name: PANEL,
             data: data(9_000),
         },
+        Operation::Replace {
+            name: ROUTE,
+            data: data(700),
+        },
+        Operation::Replace {
+            name: PANEL,
+            data: data(9_000),
+        },
+        Operation::Replace {
+            name: PANEL,
+            data: &[],
+        },
         Operation::Truncate {
             name: PANEL,
             size: 600,
