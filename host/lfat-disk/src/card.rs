@@ -274,6 +274,12 @@ impl<D: Disk, L: Lists> DiskCard<D, L> {
         Ok(entries.collect())
     }
 
+    /// The lowest entry that has the name, a file or a directory.
+    pub fn find(&self, name: &[u8]) -> Result<Option<Entry>, Error> {
+        let mut entries = self.list()?.into_iter();
+        Ok(entries.find(|entry| entry.name_bytes() == name))
+    }
+
     /// Copies a file's bytes from an offset on into the buffer; gives how many there were.
     pub fn read(&mut self, name: &[u8], offset: u64, buffer: &mut [u8]) -> Result<usize, Error> {
         self.check_open()?;

@@ -47,24 +47,23 @@ fn image(args: &mut Args) -> Result<Target, Failure> {
     Target::parse(args.word("IMAGE")?, args)
 }
 
-pub fn put(mut args: Args) -> Result<(), Failure> {
+/// The words IMAGE, NAME and FILE: the card opened, the name, and the bytes of the file of this machine.
+fn with_file(mut args: Args) -> Result<(Opened, Name, Source), Failure> {
     let target = image(&mut args)?;
     let name = name(&args.word("NAME")?)?;
     let file = args.word("FILE")?;
-    let mut opened = Opened::new(target, &args)?;
+    let opened = Opened::new(target, &args)?;
     let source = Source::open(&file, opened.card.window().len(), &opened.target)?;
-    let data = source.bytes();
-    let name_bytes = name.bytes();
-    let calls = [
-        Operation::Create { name: name_bytes },
-        Operation::Append {
-            name: name_bytes,
-            data,
-        },
-    ];
+    Ok((opened, name, source))
+}
+
+pub fn put(args: Args) -> Result<(), Failure> {
+    let (mut opened, given, source) = with_file(args)?;
+    let (name, data) = (given.bytes(), source.bytes());
+    let calls = [Operation::Create { name }, Operation::Append { name, data }];
     match opened.save(&calls) {
         Err(Failure::Refused(Refusal::Exists, _)) => {
-            let advice = taken(&opened.card, name);
+            let advice = taken(&opened.card, given);
             Err(Failure::Refused(Refusal::Exists, advice))
         }
         other => other.map(drop),
@@ -73,11 +72,7 @@ pub fn put(mut args: Args) -> Result<(), Failure> {
 
 /// What to do where the name of a put is taken.
 fn taken(card: &DiskCard, name: Name) -> String {
-    let entries = card.list().unwrap_or_default();
-    let found = entries
-        .iter()
-        .find(|entry| entry.name_bytes() == name.bytes());
-    match found {
+    match card.find(name.bytes()).ok().flatten() {
         Some(entry) if entry.size() == 0 && !entry.is_directory() => format!(
             "{name} is there and empty, as a put that was cut leaves it: fill it with 'lfat append', or remove it first with 'lfat rm'."
         ),
@@ -85,12 +80,8 @@ fn taken(card: &DiskCard, name: Name) -> String {
     }
 }
 
-pub fn append(mut args: Args) -> Result<(), Failure> {
-    let target = image(&mut args)?;
-    let name = name(&args.word("NAME")?)?;
-    let file = args.word("FILE")?;
-    let mut opened = Opened::new(target, &args)?;
-    let source = Source::open(&file, opened.card.window().len(), &opened.target)?;
+pub fn append(args: Args) -> Result<(), Failure> {
+    let (mut opened, name, source) = with_file(args)?;
     let (name, data) = (name.bytes(), source.bytes());
     opened.save(&[Operation::Append { name, data }]).map(drop)
 }
