@@ -22,10 +22,11 @@ use lfat_disk::{Access, DiskCard, Operation};
 use std::ffi::{OsStr, OsString};
 
 /// The operations, each with its second word after the name, if it has one.
-const OPERATIONS: [(&str, Option<&str>); 6] = [
+const OPERATIONS: [(&str, Option<&str>); 7] = [
     ("create", None),
     ("append", Some("FILE")),
     ("put", Some("FILE")),
+    ("replace", Some("FILE")),
     ("truncate", Some("SIZE")),
     ("rm", None),
     ("mv", Some("NEW")),
@@ -97,6 +98,7 @@ impl Asked {
             "truncate" => vec![Operation::Truncate { name, size }],
             "mv" => vec![Operation::Rename { old: name, new }],
             "append" => vec![Operation::Append { name, data }],
+            "replace" => vec![Operation::Replace { name, data }],
             _ => vec![Operation::Create { name }, Operation::Append { name, data }],
         }
     }
