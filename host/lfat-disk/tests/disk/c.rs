@@ -77,6 +77,10 @@ fn the_example() {
     );
     assert!(after.iter().any(|entry| entry.3 == points(200_000)));
 
+    // A file that is there keeps its slot; nothing else is left behind.
+    let slots: Vec<usize> = after.iter().map(|entry| entry.0).collect();
+    assert_eq!(slots, [0, 1, 2]);
+
     // A card that was cut is recovered first.
     let mut cut = two_files();
     reference::append(&mut cut, ROUTE, &points(1_300), 6);
@@ -88,6 +92,23 @@ fn the_example() {
     assert!(after
         .iter()
         .any(|entry| entry.1 == ROUTE && entry.3.len() == 2_600));
+
+    // More than fits: the old file stays as it was, and under a new name no empty one is left.
+    let large = Temporary::new(&points(2_000_000));
+    let before = state(&card.bytes()).expect("clean");
+    for (name, what) in [
+        ("PANEL.CUT", "save: NOSPACE: "),
+        ("KEEL", "append: NOSPACE: "),
+    ] {
+        let output = run(&save, &[path(&card), name, path(&large)]);
+        let errors = String::from_utf8_lossy(&output.stderr).into_owned();
+        assert!(
+            errors.starts_with(what) && errors.lines().count() == 1,
+            "{errors}"
+        );
+        assert_eq!(output.status.code(), Some(1));
+        assert!(state(&card.bytes()).expect("clean") == before, "{name}");
+    }
 
     let before = card.bytes();
     for (words, what) in [
