@@ -203,7 +203,7 @@ pub unsafe extern "C" fn lfat_disk_create(
     name: *const u8,
     name_len: usize,
 ) -> u64 {
-    with_name(disk, (name, name_len), |card, name| card.create(name))
+    with_name(disk, (name, name_len), DiskCard::create)
 }
 
 /// # Safety
@@ -217,9 +217,7 @@ pub unsafe extern "C" fn lfat_disk_append(
     data_len: usize,
 ) -> u64 {
     let (name, data) = ((name, name_len), (data, data_len));
-    with_two(disk, name, data, NAME_OR_DATA, |card, name, data| {
-        card.append(name, data)
-    })
+    with_two(disk, name, data, NAME_OR_DATA, DiskCard::append)
 }
 
 /// # Safety
@@ -233,9 +231,7 @@ pub unsafe extern "C" fn lfat_disk_replace(
     data_len: usize,
 ) -> u64 {
     let (name, data) = ((name, name_len), (data, data_len));
-    with_two(disk, name, data, NAME_OR_DATA, |card, name, data| {
-        card.replace(name, data)
-    })
+    with_two(disk, name, data, NAME_OR_DATA, DiskCard::replace)
 }
 
 /// # Safety
@@ -260,7 +256,7 @@ pub unsafe extern "C" fn lfat_disk_delete(
     name: *const u8,
     name_len: usize,
 ) -> u64 {
-    with_name(disk, (name, name_len), |card, name| card.delete(name))
+    with_name(disk, (name, name_len), DiskCard::delete)
 }
 
 /// # Safety
@@ -274,9 +270,7 @@ pub unsafe extern "C" fn lfat_disk_rename(
     new_len: usize,
 ) -> u64 {
     let (old, new) = ((old_name, old_len), (new_name, new_len));
-    with_two(disk, old, new, "a name of NULL", |card, old, new| {
-        card.rename(old, new)
-    })
+    with_two(disk, old, new, "a name of NULL", DiskCard::rename)
 }
 
 /// # Safety

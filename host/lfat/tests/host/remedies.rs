@@ -118,35 +118,27 @@ fn a_card_without_a_log() {
     );
 }
 
-/// What recovery did, in words: dropped, finished, nothing.
+/// What recovery did, in words: dropped, finished, nothing. An append of four sectors; a replace by three.
 #[test]
 fn what_recovery_did() {
     let folder = folder_with("recovered", &[]);
-    for (limit, words) in [
-        (4, "nothing to recover\n"),
-        (5, "recovered: a half-made save was dropped, every file is as before it, 1 sector written\n"),
-        (6, "recovered: the save that was cut is finished (update ROUTE.CUT), 3 sectors written\n"),
-        (8, "recovered: the save that was cut is finished (update ROUTE.CUT), 2 sectors written\n"),
-    ] {
-        folder.write("card", &card_with_route(1_300));
-        folder.lfat(&format!("append card ROUTE.CUT path --limit {limit}")).failed(1, "STOPPED");
-        assert_eq!(folder.lfat("recover card").done().text(), words, "{limit}");
-    }
-}
-
-/// The same of a save over a file: data 1 to 3, FAT2 4, log record 5.
-#[test]
-fn what_a_recovery_of_a_save_over_a_file_says() {
-    let folder = folder_with("recovery-over", &[]);
-    for (limit, words) in [
-        (3, "nothing to recover\n"),
-        (4, "recovered: a half-made save was dropped, every file is as before it, 1 sector written\n"),
-        (5, "recovered: the save that was cut is finished (replace ROUTE.CUT), 3 sectors written\n"),
-        (7, "recovered: the save that was cut is finished (replace ROUTE.CUT), 2 sectors written\n"),
-    ] {
-        folder.write("card", &card_with_route(700));
-        folder.lfat(&format!("put -f card ROUTE.CUT path --limit {limit}")).failed(1, "STOPPED");
-        assert_eq!(folder.lfat("recover card").done().text(), words, "{limit}");
+    for (command, data, word) in [("append", 4, "update"), ("put -f", 3, "replace")] {
+        let finished = format!("recovered: the save that was cut is finished ({word} ROUTE.CUT)");
+        for (limit, words) in [
+            (data, "nothing to recover\n".to_string()),
+            (
+                data + 1,
+                "recovered: a half-made save was dropped, every file is as before it, 1 sector written\n".to_string(),
+            ),
+            (data + 2, format!("{finished}, 3 sectors written\n")),
+            (data + 4, format!("{finished}, 2 sectors written\n")),
+        ] {
+            folder.write("card", &card_with_route(1_300));
+            folder
+                .lfat(&format!("{command} card ROUTE.CUT path --limit {limit}"))
+                .failed(1, "STOPPED");
+            assert_eq!(folder.lfat("recover card").done().text(), words, "{limit}");
+        }
     }
 }
 
