@@ -9,6 +9,7 @@
 //! - `check`: grounds 1 to 7, which judge the card;
 //! - `lookup`: grounds 8 to 10 and 13, which judge a name and its file;
 //! - `operation`: the six writing operations;
+//! - `data`: the sectors that get new bytes, in append and replace;
 //! - `transaction`, `program`: the order of stores, as a list and in segments;
 //! - `recovery`: redo of a pending group, undo of anything else;
 //! - `reading`: read and list;
