@@ -3,9 +3,9 @@
  *
  *     save CARD NAME FILE       NAME as ROUTE.CUT; a partition is given as CARD:N
  *
- * The card is recovered first. A file of that name is replaced: the new bytes are saved under a name of their own, read back and
- * compared; only then is the old file removed and the new one given its name. A cut leaves the old file, or the new one under one
- * of the two names, or both. Exit status: 0, or 1 with a line on standard error.
+ * The card is recovered first. A file of that name is saved over in one call: a cut leaves its old bytes or the new ones, whole.
+ * Under a new name the file is made first: a cut leaves no such file, an empty one, or the whole one. The bytes are read back and
+ * compared. Exit status: 0, or 1 with a line on standard error.
  */
 #include "lfat_disk.h"
 
@@ -14,8 +14,6 @@
 #include <string.h>
 
 enum { PIECE = 1 << 16 };
-
-static const uint8_t fresh[] = "SAVE    $$$";
 
 /* Turns ROUTE.CUT into its 8 and 3 bytes. What does not fit becomes a name that the library refuses. */
 static void short_name(const char *text, uint8_t name[LFAT_NAME_BYTES])
@@ -80,28 +78,30 @@ static int is_saved(lfat_disk *disk, const uint8_t *name, const uint8_t *data, s
     }
 }
 
+/* Saves under a new name. A file whose bytes are refused, for want of room, is not left behind empty. */
+static int save_new(lfat_disk *disk, const uint8_t *name, const uint8_t *data, size_t length)
+{
+    if (!done("create", lfat_disk_create(disk, name, LFAT_NAME_BYTES)))
+        return 0;
+    if (done("append", lfat_disk_append(disk, name, LFAT_NAME_BYTES, data, length)))
+        return 1;
+    lfat_disk_delete(disk, name, LFAT_NAME_BYTES);
+    return 0;
+}
+
 static int save(lfat_disk *disk, const uint8_t *name, const uint8_t *data, size_t length)
 {
-    uint64_t answer = lfat_disk_recover(disk);
-    if (!done("recover", answer))
+    uint64_t answer;
+    if (!done("recover", lfat_disk_recover(disk)))
         return 0;
-    /* A name that cannot be saved under is refused before anything is changed. */
-    answer = lfat_disk_read(disk, name, LFAT_NAME_BYTES, 0, NULL, 0);
-    if (LFAT_CODE(answer) != LFAT_ABSENT && !done("save", answer))
+    answer = lfat_disk_replace(disk, name, LFAT_NAME_BYTES, data, length);
+    if (LFAT_CODE(answer) == LFAT_ABSENT) {
+        if (!save_new(disk, name, data, length))
+            return 0;
+    } else if (!done("save", answer)) {
         return 0;
-    /* Left behind by a cut of this program. */
-    answer = lfat_disk_delete(disk, fresh, LFAT_NAME_BYTES);
-    if (LFAT_CODE(answer) != LFAT_ABSENT && !done("delete", answer))
-        return 0;
-    if (!done("create", lfat_disk_create(disk, fresh, LFAT_NAME_BYTES)) ||
-        !done("append", lfat_disk_append(disk, fresh, LFAT_NAME_BYTES, data, length)) ||
-        !is_saved(disk, fresh, data, length))
-        return 0;
-    answer = lfat_disk_delete(disk, name, LFAT_NAME_BYTES);
-    if (LFAT_CODE(answer) != LFAT_ABSENT && !done("delete", answer))
-        return 0;
-    return done("rename", lfat_disk_rename(disk, fresh, LFAT_NAME_BYTES, name, LFAT_NAME_BYTES)) &&
-           is_saved(disk, name, data, length);
+    }
+    return is_saved(disk, name, data, length);
 }
 
 /* Opens CARD or CARD:N. */

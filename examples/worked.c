@@ -1,5 +1,5 @@
 /*
- * Card K of the requirements, made from nothing, and its rows M3 to M10: all eight calls of the library from C.
+ * Card K of the requirements, made from nothing, and its rows M3 to M10: all nine calls of the library from C.
  * Prints a line for each call with its answer. Exit status: 0 if every answer is the one that is due, else 1.
  */
 #include "lfat.h"
@@ -44,6 +44,11 @@ static uint64_t append(size_t length, uint32_t limit)
     return lfat_append(card, sizeof card, route, LFAT_NAME_BYTES, points, length, limit);
 }
 
+static uint64_t replace(size_t length, uint32_t limit)
+{
+    return lfat_replace(card, sizeof card, route, LFAT_NAME_BYTES, points, length, limit);
+}
+
 static uint64_t create(const uint8_t *name)
 {
     return lfat_create(card, sizeof card, name, LFAT_NAME_BYTES, LFAT_NO_LIMIT);
@@ -59,11 +64,12 @@ static uint64_t read_route(void)
     return lfat_read(card, sizeof card, route, LFAT_NAME_BYTES, 0, back, sizeof back);
 }
 
-/* Appends to the card as it was after M3, under a limit, and recovers: the file is then as before or as after. */
-static void cut(const char *what, uint32_t limit, uint32_t stores, uint32_t size)
+/* Makes a call on the card as it was saved, under a limit, and recovers: the file is then as before or as after. */
+static void cut(const char *what, uint64_t (*call)(size_t, uint32_t), size_t length, uint32_t limit, uint32_t stores,
+                uint32_t size)
 {
     memcpy(card, saved, sizeof card);
-    due(what, append(PATH_BYTES, limit), LFAT_STOPPED, limit);
+    due(what, call(length, limit), LFAT_STOPPED, limit);
     due("    unclean until recovered", read_route(), LFAT_UNCLEAN, 0);
     due("    recover", recover(), LFAT_DONE, stores);
     due("    read", read_route(), LFAT_DONE, size);
@@ -80,12 +86,25 @@ int main(void)
     make_card();
     due("M3  create ROUTE.CUT", create(route), LFAT_DONE, 3);
     memcpy(saved, card, sizeof card);
-    cut("M5  append 1300, cut after 4 stores", 4, 1, 0);
-    cut("M6  append 1300, cut after 5 stores", 5, 3, PATH_BYTES);
+    cut("M5  append 1300, cut after 4 stores", append, PATH_BYTES, 4, 1, 0);
+    cut("M6  append 1300, cut after 5 stores", append, PATH_BYTES, 5, 3, PATH_BYTES);
     memcpy(card, saved, sizeof card);
     due("M4  append 1300", append(PATH_BYTES, LFAT_NO_LIMIT), LFAT_DONE, 8);
     due("    read", read_route(), LFAT_DONE, PATH_BYTES);
     wrong |= memcmp(back, points, PATH_BYTES) != 0;
+
+    /* The file of M4 saved over, on a card of its own: M7 goes on from M4. */
+    memcpy(saved, card, sizeof card);
+    cut("    replace by 600, cut after 3 stores", replace, 600, 3, 1, PATH_BYTES);
+    cut("    replace by 600, cut after 4 stores", replace, 600, 4, 3, 600);
+    memcpy(card, saved, sizeof card);
+    due("    replace by 600", replace(600, LFAT_NO_LIMIT), LFAT_DONE, 7);
+    due("    read", read_route(), LFAT_DONE, 600);
+    wrong |= memcmp(back, points, 600) != 0;
+    due("    replace by nothing", replace(0, LFAT_NO_LIMIT), LFAT_DONE, 5);
+    due("    replace by nothing again", replace(0, LFAT_NO_LIMIT), LFAT_DONE, 3);
+    memcpy(card, saved, sizeof card);
+
     due("M7  append 100", append(100, LFAT_NO_LIMIT), LFAT_DONE, 4);
     due("    truncate to 1401", lfat_truncate(card, sizeof card, route, 11, 1401, LFAT_NO_LIMIT), LFAT_LENGTH, 0);
     due("M8  truncate to 512", lfat_truncate(card, sizeof card, route, 11, 512, LFAT_NO_LIMIT), LFAT_DONE, 5);

@@ -15,6 +15,18 @@
  *     if (LFAT_CODE(answer) != LFAT_DONE)
  *         puts(lfat_code_name(LFAT_CODE(answer)));
  *
+ * Example: replace a file's bytes, or save them under a new name where there is none.
+ *
+ *     uint64_t answer = lfat_replace(card, card_len, name, LFAT_NAME_BYTES, data, data_len, LFAT_NO_LIMIT);
+ *     if (LFAT_CODE(answer) == LFAT_ABSENT) {
+ *         answer = lfat_create(card, card_len, name, LFAT_NAME_BYTES, LFAT_NO_LIMIT);
+ *         if (LFAT_CODE(answer) == LFAT_DONE)
+ *             answer = lfat_append(card, card_len, name, LFAT_NAME_BYTES, data, data_len, LFAT_NO_LIMIT);
+ *     }
+ *
+ * Each call is one operation: after a cut and a recovery a file that was replaced has its old bytes or the new ones,
+ * whole. A new file takes two calls: after a cut there is no such file, an empty one, or the whole one.
+ *
  * What is asked of the caller:
  *  - each pointer is good for the length beside it (a part of length 0 may have any pointer);
  *  - what a call writes overlaps nothing else that it is lent: that is the card, or the buffer of lfat_read and
@@ -55,7 +67,7 @@
  *  - it has no variables of its own, so calls on different cards may run in parallel, and calls that read on one card;
  *  - it needs at most so many bytes of stack, return address and red zone included:
  *    lfat_list 512, lfat_read 512, lfat_recover 3072, lfat_create 3072, lfat_rename 3072,
- *    lfat_truncate 4096, lfat_delete 4096, lfat_append 4096.
+ *    lfat_truncate 4096, lfat_delete 4096, lfat_append 4096, lfat_replace 4096.
  *
  * examples/loader.c is a whole program.
  */
@@ -130,6 +142,13 @@ uint64_t lfat_create(uint8_t *card, size_t card_len, const uint8_t *name, size_t
 /* Adds bytes at the end of a file. */
 uint64_t lfat_append(uint8_t *card, size_t card_len, const uint8_t *name, size_t name_len,
                      const uint8_t *data, size_t data_len, uint32_t limit);
+
+/*
+ * Saves over a file: it then has these bytes and no others, none if data_len is 0. They go to free clusters; the old ones
+ * are freed in the same operation and do not count as room (LFAT_NOSPACE). Always stores, even for the bytes it has.
+ */
+uint64_t lfat_replace(uint8_t *card, size_t card_len, const uint8_t *name, size_t name_len,
+                      const uint8_t *data, size_t data_len, uint32_t limit);
 
 /* Shortens a file to a size. One over the file's is refused (LFAT_LENGTH). */
 uint64_t lfat_truncate(uint8_t *card, size_t card_len, const uint8_t *name, size_t name_len,

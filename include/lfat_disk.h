@@ -21,6 +21,10 @@
  *         puts(lfat_disk_message());
  *     lfat_disk_close(disk);
  *
+ * To save over the file later, in one operation:
+ *
+ *     answer = lfat_disk_replace(disk, name, LFAT_NAME_BYTES, data, 3);
+ *
  * Link with liblfat_disk.a alone, which has the proved library in it (with a glibc before 2.34 also -lpthread -ldl). Linux on
  * x86-64. examples/save.c is a whole program.
  *
@@ -28,8 +32,8 @@
  * enum lfat_code. The codes of enum lfat_disk_code are the disk's. A call with any code but LFAT_DONE and LFAT_DISK_CUT has
  * written nothing.
  *
- * Memory: a call needs little more than the card's tables. An append of more than 16 MB works in a file without a name, in TMPDIR
- * or /var/tmp, of the size of its data; where there is no room for it, in memory.
+ * Memory: a call needs little more than the card's tables. An append or a replace by more than 16 MB works in a file without a
+ * name, in TMPDIR or /var/tmp, of the size of its data; where there is no room for it, in memory.
  *
  * Handles: one card has one handle, in one program. Calls on one handle must not run at the same time; calls on different ones
  * may. A handle of NULL is answered with LFAT_DISK_ARGUMENT.
@@ -89,6 +93,12 @@ uint64_t lfat_disk_create(lfat_disk *disk, const uint8_t *name, size_t name_len)
 
 /* Adds bytes at the end of a file, in one operation: after a cut and a recovery all of them are there, or none. */
 uint64_t lfat_disk_append(lfat_disk *disk, const uint8_t *name, size_t name_len, const uint8_t *data, size_t data_len);
+
+/*
+ * Saves over a file, in one operation: after a cut and a recovery it has its old bytes or these, whole. The old bytes keep their
+ * clusters until then, so both need room (LFAT_NOSPACE). A name that is not there is refused (LFAT_ABSENT): create it first.
+ */
+uint64_t lfat_disk_replace(lfat_disk *disk, const uint8_t *name, size_t name_len, const uint8_t *data, size_t data_len);
 
 /* Shortens a file to a size. One over the file's is refused (LFAT_LENGTH). */
 uint64_t lfat_disk_truncate(lfat_disk *disk, const uint8_t *name, size_t name_len, uint64_t size);

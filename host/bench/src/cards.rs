@@ -15,6 +15,9 @@ pub const SHAPES: [Shape; 4] = [
     Shape::new(65_524, 64),
 ];
 
+/// The lengths of paths.
+pub const SIZES: [(usize, &str); 3] = [(4_096, "4 KiB"), (65_536, "64 KiB"), (1_048_576, "1 MiB")];
+
 /// How large a card is.
 #[derive(Clone, Copy)]
 pub struct Shape {
@@ -30,6 +33,11 @@ pub enum Layout {
     /// Spread over the whole card; files in mixed order.
     Scattered,
 }
+
+pub const LAYOUTS: [(Layout, &str); 2] = [
+    (Layout::OnePiece, "one piece"),
+    (Layout::Scattered, "scattered"),
+];
 
 pub struct Card {
     shape: Shape,
@@ -84,6 +92,29 @@ impl Card {
         card
     }
 
+    /// A card with a file of so many bytes and room for as many beside it. Where there is less room, the file is shorter.
+    pub fn with_file_and_room(shape: Shape, layout: Layout, size: usize) -> Card {
+        let mut card = Card::empty(shape);
+        let first = card.first_free();
+        let last = shape.clusters as usize + 2;
+        let new = shape.clusters_of(size);
+        let old = new.min(last - first - new);
+        let mut chain: Vec<usize> = (first..first + old).collect();
+        if layout == Layout::Scattered {
+            let both = card.spread(old + new);
+            let is_old = |index: usize| index.is_multiple_of(2) && index / 2 < old;
+            (first..last).for_each(|cluster| card.set(cluster, 0xFFF7));
+            chain.clear();
+            for (index, cluster) in both.into_iter().enumerate() {
+                card.set(cluster, 0);
+                chain.extend(is_old(index).then_some(cluster));
+            }
+            chain = mixed(chain);
+        }
+        card.put_file(&chain, size.min(old * shape.cluster_bytes()));
+        card
+    }
+
     /// A card whose root directory is full of empty files.
     pub fn with_full_root(shape: Shape) -> Card {
         let mut card = Card::empty(shape);
@@ -96,7 +127,7 @@ impl Card {
     }
 
     fn put_file(&mut self, chain: &[usize], size: usize) {
-        let cluster_bytes = 512 * usize::from(self.shape.sectors_per_cluster);
+        let cluster_bytes = self.shape.cluster_bytes();
         for (index, &cluster) in chain.iter().enumerate() {
             let next = chain.get(index + 1).map_or(0xFFFF, |&next| next as u16);
             self.set(cluster, next);
@@ -124,8 +155,8 @@ impl Card {
 
     /// The size of a file in all clusters but those of the log.
     pub fn largest_file(shape: Shape) -> usize {
-        let sectors = usize::from(shape.sectors_per_cluster);
-        512 * sectors * (shape.clusters as usize - LOG_SECTORS / sectors)
+        let log_clusters = LOG_SECTORS / usize::from(shape.sectors_per_cluster);
+        shape.cluster_bytes() * (shape.clusters as usize - log_clusters)
     }
 
     /// Where the bytes of that cluster begin.
@@ -160,7 +191,8 @@ impl Shape {
         (self.clusters as usize + 2).div_ceil(256)
     }
 
-    fn root(self) -> usize {
+    /// The first sector of the root directory.
+    pub fn root(self) -> usize {
         1 + 2 * self.fat_sectors()
     }
 
@@ -169,8 +201,12 @@ impl Shape {
         self.root() + ROOT_ENTRIES / 16
     }
 
+    fn cluster_bytes(self) -> usize {
+        512 * usize::from(self.sectors_per_cluster)
+    }
+
     fn clusters_of(self, size: usize) -> usize {
-        size.div_ceil(512 * usize::from(self.sectors_per_cluster))
+        size.div_ceil(self.cluster_bytes())
     }
 }
 

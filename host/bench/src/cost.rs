@@ -1,7 +1,8 @@
 //! How much is stored to save a path.
 
-use crate::cards::{Card, Layout, Shape, NAME};
-use lfat_card::calls::{append, create, delete, Answer};
+use crate::cards::{Card, Layout, Shape, LAYOUTS, LOG_SECTORS, NAME, SIZES};
+use lfat_card::calls::{append, create, delete, replace, truncate, Answer};
+use reference::{plan, Operation};
 
 const LIMIT: u32 = u32::MAX;
 
@@ -35,13 +36,10 @@ pub fn print() {
     );
     println!("| path | sectors per cluster | free clusters | create | append | cost | delete |");
     println!("|---|---|---|---|---|---|---|");
-    for (size, text) in [(4_096, "4 KiB"), (65_536, "64 KiB"), (1_048_576, "1 MiB")] {
+    for (size, text) in SIZES {
         for sectors_per_cluster in [1, 64] {
-            for (layout, place) in [
-                (Layout::OnePiece, "one piece"),
-                (Layout::Scattered, "scattered"),
-            ] {
-                row(text, sectors_per_cluster, (layout, place), size, size);
+            for layout in LAYOUTS {
+                row(text, sectors_per_cluster, layout, size, size);
             }
         }
     }
@@ -50,6 +48,60 @@ pub fn print() {
         let layout = (Layout::OnePiece, "one piece");
         row(in_pieces, sectors_per_cluster, layout, 1_048_576, 4_096);
     }
+    print_replaced();
+}
+
+/// The stores of a replace of a path by as many bytes, by kind, and those of a truncate to nothing and an append.
+fn print_replaced() {
+    println!(
+        "\nA path saved over by as many bytes, in one call. Its stores by kind; *cost* is the bytes stored for each byte of the path. Beside\n\
+         them what the two calls truncate and append store, between which a cut leaves an empty path.\n"
+    );
+    println!(
+        "| path | sectors per cluster | clusters | data | FAT2 | log | FAT1 | root | replace | cost | truncate, append |"
+    );
+    println!("|---|---|---|---|---|---|---|---|---|---|---|");
+    for (size, text) in SIZES {
+        for sectors_per_cluster in [1, 64] {
+            for (layout, place) in LAYOUTS {
+                let shape = Shape::new(65_524, sectors_per_cluster);
+                let (kinds, all, two_calls) = save_over(shape, layout, size);
+                let cost = 512.0 * all as f64 / size as f64;
+                let kinds = kinds.map(|count| count.to_string()).join(" | ");
+                println!(
+                    "| {text} | {sectors_per_cluster} | {place} | {kinds} | {all} | {cost:.3} | {two_calls} |"
+                );
+            }
+        }
+    }
+}
+
+/// The stores of a replace: of data, FAT2, log, FAT1 and root directory, and in all; then those of a truncate and an append.
+fn save_over(shape: Shape, layout: Layout, size: usize) -> ([usize; 5], usize, usize) {
+    let card = Card::with_file_and_room(shape, layout, size).bytes;
+    let path = &vec![7; size];
+    let operation = Operation::Replace {
+        name: NAME,
+        data: path,
+    };
+    let (fat2, root, log) = (1 + shape.fat_sectors(), shape.root(), shape.data());
+    let mut kinds = [0; 5];
+    for store in plan(&card, &operation).expect("accepted") {
+        kinds[match store.sector {
+            sector if sector < fat2 => 3,
+            sector if sector < root => 1,
+            sector if sector < log => 4,
+            sector if sector < log + LOG_SECTORS => 2,
+            _ => 0,
+        }] += 1;
+    }
+    let mut other = card.clone();
+    let two_calls = stores(truncate(&mut other, NAME, 0, LIMIT))
+        + stores(append(&mut other, NAME, path, LIMIT));
+    let mut card = card;
+    let all = stores(replace(&mut card, NAME, path, LIMIT));
+    assert_eq!(kinds.iter().sum::<usize>(), all);
+    (kinds, all, two_calls)
 }
 
 fn row(text: &str, sectors_per_cluster: u8, layout: (Layout, &str), size: usize, piece: usize) {

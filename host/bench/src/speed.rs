@@ -1,15 +1,9 @@
 //! The tables of times.
 
 use crate::call::Call;
-use crate::cards::{Card, Layout, Shape, LOG_SECTORS, NAME, SHAPES};
+use crate::cards::{Card, Layout, Shape, LAYOUTS, LOG_SECTORS, NAME, SHAPES, SIZES};
 use crate::timing::compare;
 use reference::{plan, run, Operation};
-
-const SIZES: [(usize, &str); 3] = [(4_096, "4 KiB"), (65_536, "64 KiB"), (1_048_576, "1 MiB")];
-const LAYOUTS: [(Layout, &str); 2] = [
-    (Layout::OnePiece, "one piece"),
-    (Layout::Scattered, "scattered"),
-];
 
 /// Makes the card for a call, and the call.
 type Setup = Box<dyn Fn(Shape) -> (Card, Call)>;
@@ -18,7 +12,9 @@ pub fn print() {
     println!("## Each call\n");
     println!(
         "A cell is library / plain = ratio of medians, in microseconds. Columns are clusters × sectors per cluster. *One piece*: the\n\
-         file, or the room for it, lies in consecutive clusters; *scattered*: spread over the whole card, files in mixed order.\n"
+         file, or the room for it, lies in consecutive clusters; *scattered*: spread over the whole card, files in mixed order. A replace is\n\
+         of a file of as many bytes, and room for both is there; for 1 MiB on 4,085 × 1 the old file has 1,973 sectors. The aim for it is at\n\
+         most 1.25.\n"
     );
     print_only("");
 }
@@ -86,6 +82,14 @@ fn rows() -> Vec<(String, Setup)> {
                 Box::new(move |shape| {
                     let card = Card::with_room(shape, layout, size);
                     (card, Call::Append(name(), data.clone()))
+                }),
+            );
+            let data = vec![7; size];
+            row(
+                text("replace"),
+                Box::new(move |shape| {
+                    let card = Card::with_file_and_room(shape, layout, size);
+                    (card, Call::Replace(name(), data.clone()))
                 }),
             );
             row(

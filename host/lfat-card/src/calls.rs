@@ -1,68 +1,6 @@
-//! The library's eight calls on byte slices: what crosses the C interface, and its answer as a value.
+//! The library's nine calls on byte slices, and their answers as values.
 
-use crate::Refusal;
-
-/// The calls of the library. A slice crosses as a pointer and a length.
-mod library {
-    extern "C" {
-        pub fn lfat_create(
-            card: *mut u8,
-            card_len: usize,
-            name: *const u8,
-            name_len: usize,
-            limit: u32,
-        ) -> u64;
-        pub fn lfat_append(
-            card: *mut u8,
-            card_len: usize,
-            name: *const u8,
-            name_len: usize,
-            data: *const u8,
-            data_len: usize,
-            limit: u32,
-        ) -> u64;
-        pub fn lfat_truncate(
-            card: *mut u8,
-            card_len: usize,
-            name: *const u8,
-            name_len: usize,
-            size: u64,
-            limit: u32,
-        ) -> u64;
-        pub fn lfat_delete(
-            card: *mut u8,
-            card_len: usize,
-            name: *const u8,
-            name_len: usize,
-            limit: u32,
-        ) -> u64;
-        pub fn lfat_rename(
-            card: *mut u8,
-            card_len: usize,
-            old_name: *const u8,
-            old_len: usize,
-            new_name: *const u8,
-            new_len: usize,
-            limit: u32,
-        ) -> u64;
-        pub fn lfat_recover(card: *mut u8, card_len: usize, limit: u32) -> u64;
-        pub fn lfat_read(
-            card: *const u8,
-            card_len: usize,
-            name: *const u8,
-            name_len: usize,
-            offset: u64,
-            buffer: *mut u8,
-            buffer_len: usize,
-        ) -> u64;
-        pub fn lfat_list(
-            card: *const u8,
-            card_len: usize,
-            buffer: *mut u8,
-            buffer_len: usize,
-        ) -> u64;
-    }
-}
+use crate::{raw, Refusal};
 
 /// How a call ended.
 #[derive(Clone, Copy, Debug, PartialEq, Eq)]
@@ -98,38 +36,66 @@ impl Answer {
 
 // In each call below the slices are valid for their lengths, and a mutable one overlaps no other.
 
-/// Makes an empty file, with at most so many stores.
-pub fn create(card: &mut [u8], name: &[u8], limit: u32) -> Answer {
-    Answer::decode(unsafe {
-        library::lfat_create(
+/// Makes a call on a name.
+fn on_name(
+    call: unsafe extern "C" fn(*mut u8, usize, *const u8, usize, u32) -> u64,
+    card: &mut [u8],
+    name: &[u8],
+    limit: u32,
+) -> Answer {
+    let answer = unsafe {
+        call(
             card.as_mut_ptr(),
             card.len(),
             name.as_ptr(),
             name.len(),
             limit,
         )
-    })
+    };
+    Answer::decode(answer)
+}
+
+/// Makes a call on a name and another slice: data, or a second name.
+fn on_two(
+    call: unsafe extern "C" fn(*mut u8, usize, *const u8, usize, *const u8, usize, u32) -> u64,
+    card: &mut [u8],
+    name: &[u8],
+    other: &[u8],
+    limit: u32,
+) -> Answer {
+    let answer = unsafe {
+        call(
+            card.as_mut_ptr(),
+            card.len(),
+            name.as_ptr(),
+            name.len(),
+            other.as_ptr(),
+            other.len(),
+            limit,
+        )
+    };
+    Answer::decode(answer)
+}
+
+/// Makes an empty file, with at most so many stores.
+pub fn create(card: &mut [u8], name: &[u8], limit: u32) -> Answer {
+    on_name(raw::lfat_create, card, name, limit)
 }
 
 /// Adds bytes at the end of a file, with at most so many stores.
 pub fn append(card: &mut [u8], name: &[u8], data: &[u8], limit: u32) -> Answer {
-    Answer::decode(unsafe {
-        library::lfat_append(
-            card.as_mut_ptr(),
-            card.len(),
-            name.as_ptr(),
-            name.len(),
-            data.as_ptr(),
-            data.len(),
-            limit,
-        )
-    })
+    on_two(raw::lfat_append, card, name, data, limit)
+}
+
+/// Saves over a file, with at most so many stores: it then has these bytes and no others.
+pub fn replace(card: &mut [u8], name: &[u8], data: &[u8], limit: u32) -> Answer {
+    on_two(raw::lfat_replace, card, name, data, limit)
 }
 
 /// Shortens a file, with at most so many stores.
 pub fn truncate(card: &mut [u8], name: &[u8], size: u64, limit: u32) -> Answer {
     Answer::decode(unsafe {
-        library::lfat_truncate(
+        raw::lfat_truncate(
             card.as_mut_ptr(),
             card.len(),
             name.as_ptr(),
@@ -142,41 +108,23 @@ pub fn truncate(card: &mut [u8], name: &[u8], size: u64, limit: u32) -> Answer {
 
 /// Removes a file and frees its clusters, with at most so many stores.
 pub fn delete(card: &mut [u8], name: &[u8], limit: u32) -> Answer {
-    Answer::decode(unsafe {
-        library::lfat_delete(
-            card.as_mut_ptr(),
-            card.len(),
-            name.as_ptr(),
-            name.len(),
-            limit,
-        )
-    })
+    on_name(raw::lfat_delete, card, name, limit)
 }
 
 /// Gives a file another name, with at most so many stores.
 pub fn rename(card: &mut [u8], old: &[u8], new: &[u8], limit: u32) -> Answer {
-    Answer::decode(unsafe {
-        library::lfat_rename(
-            card.as_mut_ptr(),
-            card.len(),
-            old.as_ptr(),
-            old.len(),
-            new.as_ptr(),
-            new.len(),
-            limit,
-        )
-    })
+    on_two(raw::lfat_rename, card, old, new, limit)
 }
 
 /// Finishes what a power cut left behind, or takes it back, with at most so many stores.
 pub fn recover(card: &mut [u8], limit: u32) -> Answer {
-    Answer::decode(unsafe { library::lfat_recover(card.as_mut_ptr(), card.len(), limit) })
+    Answer::decode(unsafe { raw::lfat_recover(card.as_mut_ptr(), card.len(), limit) })
 }
 
 /// Copies a file's bytes from an offset on, as many as there are and fit.
 pub fn read(card: &[u8], name: &[u8], offset: u64, buffer: &mut [u8]) -> Answer {
     Answer::decode(unsafe {
-        library::lfat_read(
+        raw::lfat_read(
             card.as_ptr(),
             card.len(),
             name.as_ptr(),
@@ -191,6 +139,6 @@ pub fn read(card: &[u8], name: &[u8], offset: u64, buffer: &mut [u8]) -> Answer 
 /// Copies the entries of the root directory, as many as fit whole.
 pub fn list(card: &[u8], buffer: &mut [u8]) -> Answer {
     Answer::decode(unsafe {
-        library::lfat_list(card.as_ptr(), card.len(), buffer.as_mut_ptr(), buffer.len())
+        raw::lfat_list(card.as_ptr(), card.len(), buffer.as_mut_ptr(), buffer.len())
     })
 }

@@ -56,6 +56,25 @@ impl<'a> Card<'a> {
         count(self.run(&Operation::Append { name, data }, NO_LIMIT))
     }
 
+    /// Saves over a file: it then has these bytes and no others. In one operation, so that a cut and a recovery leave the old
+    /// bytes or the new ones, whole. The old ones keep their clusters until then: both need room.
+    ///
+    /// ```
+    /// # use lfat_card::{Card, Name, Refusal};
+    /// # let mut window = reference::card_k();
+    /// # let mut card = Card::new(&mut window);
+    /// # let name = Name::parse("ROUTE.CUT")?;
+    /// # card.create(name)?;
+    /// # card.append(name, b"G1 X0 Y7\n")?;
+    /// card.replace(name, b"G1 X9\n")?;
+    /// assert_eq!(card.read_whole(name)?, b"G1 X9\n");
+    /// assert_eq!(card.replace(Name::parse("KEEL.CUT")?, b"G0\n"), Err(Refusal::Absent));
+    /// # Ok::<(), Refusal>(())
+    /// ```
+    pub fn replace(&mut self, name: Name, data: &[u8]) -> Result<u32, Refusal> {
+        count(self.run(&Operation::Replace { name, data }, NO_LIMIT))
+    }
+
     /// Shortens a file.
     pub fn truncate(&mut self, name: Name, size: u64) -> Result<u32, Refusal> {
         count(self.run(&Operation::Truncate { name, size }, NO_LIMIT))

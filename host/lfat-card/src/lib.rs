@@ -1,7 +1,8 @@
 //! FAT16 cards with a TI-LFAT journal: safe functions over the proved library.
 //!
 //! A card is a window of bytes, the whole card from its boot sector on. [`Card`] changes it, [`CardView`] only reads it, and a
-//! [`File`] is a file being read. [`calls`] has the library's eight calls as they are, with names of any bytes.
+//! [`File`] is a file being read. [`calls`] has the library's nine calls as they are, with names of any bytes; [`raw`]
+//! has them as C does.
 //!
 //! ```
 //! use lfat_card::{Card, Name};
@@ -20,6 +21,9 @@
 //! card.open(name)?.read_to_string(&mut path)?;
 //! assert_eq!(path, "G1 X0 Y7\n");
 //! assert_eq!(card.list()?[0].to_name()?, name);
+//!
+//! card.replace(name, b"G1 X5 Y5\n")?;
+//! assert_eq!(card.read_whole(name)?, b"G1 X5 Y5\n");
 //! # Ok::<(), Box<dyn std::error::Error>>(())
 //! ```
 //!
@@ -37,6 +41,7 @@ mod entry;
 mod file;
 mod name;
 mod operation;
+pub mod raw;
 mod refusal;
 mod view;
 

@@ -21,6 +21,13 @@ pub enum Operation<'a> {
         /// The bytes to add.
         data: &'a [u8],
     },
+    /// Saves over a file: it then has these bytes and no others.
+    Replace {
+        /// The file's name.
+        name: Name,
+        /// Its new bytes.
+        data: &'a [u8],
+    },
     /// Shortens a file.
     Truncate {
         /// The file's name.
@@ -50,6 +57,7 @@ impl Operation<'_> {
         match self {
             Operation::Create { name } => calls::create(card, name.bytes(), limit),
             Operation::Append { name, data } => calls::append(card, name.bytes(), data, limit),
+            Operation::Replace { name, data } => calls::replace(card, name.bytes(), data, limit),
             Operation::Truncate { name, size } => calls::truncate(card, name.bytes(), *size, limit),
             Operation::Delete { name } => calls::delete(card, name.bytes(), limit),
             Operation::Rename { old, new } => calls::rename(card, old.bytes(), new.bytes(), limit),

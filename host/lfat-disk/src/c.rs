@@ -17,6 +17,8 @@ use std::ptr::null_mut;
 const ARGUMENT: u32 = 263;
 const INTERNAL: u32 = 264;
 
+const NAME_OR_DATA: &str = "a name or data of NULL";
+
 const TO_READ: u32 = 1;
 const WAIT: u32 = 2;
 
@@ -80,6 +82,40 @@ unsafe fn with(
             failed(INTERNAL, 0, "a fault of the disk layer; please report this")
         }
     }
+}
+
+/// Makes a call on the card of a handle and a name.
+///
+/// # Safety
+/// As for `with`; the name is good for its length.
+unsafe fn with_name(
+    handle: *mut Handle,
+    (name, name_len): (*const u8, usize),
+    call: impl FnOnce(&mut DiskCard, &[u8]) -> Result<u32, Error>,
+) -> u64 {
+    let Some(name) = slice(name, name_len) else {
+        return argument("a name of NULL");
+    };
+    with(handle, |card| call(card, name).map(|made| made as usize))
+}
+
+/// Makes a call on the card of a handle, a name and another slice, which `what` says are not to be NULL.
+///
+/// # Safety
+/// As for `with`; both slices are good for their lengths.
+unsafe fn with_two(
+    handle: *mut Handle,
+    (name, name_len): (*const u8, usize),
+    (other, other_len): (*const u8, usize),
+    what: &str,
+    call: impl FnOnce(&mut DiskCard, &[u8], &[u8]) -> Result<u32, Error>,
+) -> u64 {
+    let (Some(name), Some(other)) = (slice(name, name_len), slice(other, other_len)) else {
+        return argument(what);
+    };
+    with(handle, |card| {
+        call(card, name, other).map(|made| made as usize)
+    })
 }
 
 /// # Safety
@@ -167,10 +203,7 @@ pub unsafe extern "C" fn lfat_disk_create(
     name: *const u8,
     name_len: usize,
 ) -> u64 {
-    let Some(name) = slice(name, name_len) else {
-        return argument("a name of NULL");
-    };
-    with(disk, |card| card.create(name).map(|made| made as usize))
+    with_name(disk, (name, name_len), DiskCard::create)
 }
 
 /// # Safety
@@ -183,12 +216,22 @@ pub unsafe extern "C" fn lfat_disk_append(
     data: *const u8,
     data_len: usize,
 ) -> u64 {
-    let (Some(name), Some(data)) = (slice(name, name_len), slice(data, data_len)) else {
-        return argument("a name or data of NULL");
-    };
-    with(disk, |card| {
-        card.append(name, data).map(|made| made as usize)
-    })
+    let (name, data) = ((name, name_len), (data, data_len));
+    with_two(disk, name, data, NAME_OR_DATA, DiskCard::append)
+}
+
+/// # Safety
+/// As for `lfat_disk_append`.
+#[no_mangle]
+pub unsafe extern "C" fn lfat_disk_replace(
+    disk: *mut Handle,
+    name: *const u8,
+    name_len: usize,
+    data: *const u8,
+    data_len: usize,
+) -> u64 {
+    let (name, data) = ((name, name_len), (data, data_len));
+    with_two(disk, name, data, NAME_OR_DATA, DiskCard::replace)
 }
 
 /// # Safety
@@ -200,11 +243,8 @@ pub unsafe extern "C" fn lfat_disk_truncate(
     name_len: usize,
     size: u64,
 ) -> u64 {
-    let Some(name) = slice(name, name_len) else {
-        return argument("a name of NULL");
-    };
-    with(disk, |card| {
-        card.truncate(name, size).map(|made| made as usize)
+    with_name(disk, (name, name_len), |card, name| {
+        card.truncate(name, size)
     })
 }
 
@@ -216,10 +256,7 @@ pub unsafe extern "C" fn lfat_disk_delete(
     name: *const u8,
     name_len: usize,
 ) -> u64 {
-    let Some(name) = slice(name, name_len) else {
-        return argument("a name of NULL");
-    };
-    with(disk, |card| card.delete(name).map(|made| made as usize))
+    with_name(disk, (name, name_len), DiskCard::delete)
 }
 
 /// # Safety
@@ -232,10 +269,8 @@ pub unsafe extern "C" fn lfat_disk_rename(
     new_name: *const u8,
     new_len: usize,
 ) -> u64 {
-    let (Some(old), Some(new)) = (slice(old_name, old_len), slice(new_name, new_len)) else {
-        return argument("a name of NULL");
-    };
-    with(disk, |card| card.rename(old, new).map(|made| made as usize))
+    let (old, new) = ((old_name, old_len), (new_name, new_len));
+    with_two(disk, old, new, "a name of NULL", DiskCard::rename)
 }
 
 /// # Safety

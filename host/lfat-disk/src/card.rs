@@ -137,6 +137,11 @@ impl<D: Disk, L: Lists> DiskCard<D, L> {
         self.save(&[Operation::Append { name, data }], NO_LIMIT)
     }
 
+    /// Saves over a file: it then has these bytes and no others. A cut leaves the old bytes or the new ones, whole.
+    pub fn replace(&mut self, name: &[u8], data: &[u8]) -> Result<u32, Error> {
+        self.save(&[Operation::Replace { name, data }], NO_LIMIT)
+    }
+
     /// Shortens a file.
     pub fn truncate(&mut self, name: &[u8], size: u64) -> Result<u32, Error> {
         self.save(&[Operation::Truncate { name, size }], NO_LIMIT)
@@ -267,6 +272,12 @@ impl<D: Disk, L: Lists> DiskCard<D, L> {
                 Entry { slot, bytes }
             });
         Ok(entries.collect())
+    }
+
+    /// The lowest entry that has the name, a file or a directory.
+    pub fn find(&self, name: &[u8]) -> Result<Option<Entry>, Error> {
+        let mut entries = self.list()?.into_iter();
+        Ok(entries.find(|entry| entry.name_bytes() == name))
     }
 
     /// Copies a file's bytes from an offset on into the buffer; gives how many there were.

@@ -11,6 +11,7 @@
 //! card.recover()?;
 //! card.create(b"ROUTE   CUT")?;
 //! card.append(b"ROUTE   CUT", b"G0\n")?;
+//! card.replace(b"ROUTE   CUT", b"G1 X9\n")?;
 //! # Ok::<(), lfat_disk::Error>(())
 //! ```
 //!

@@ -39,6 +39,7 @@ pub fn call(card: &mut [u8], operation: &Operation, limit: u32) -> Answer {
     match *operation {
         Operation::Create { name } => calls::create(card, name, limit),
         Operation::Append { name, data } => calls::append(card, name, data, limit),
+        Operation::Replace { name, data } => calls::replace(card, name, data, limit),
         Operation::Truncate { name, size } => calls::truncate(card, name, size, limit),
         Operation::Delete { name } => calls::delete(card, name, limit),
         Operation::Rename { old, new } => calls::rename(card, old, new, limit),

@@ -71,10 +71,13 @@ pub static COMMANDS: [Command; 12] = [
     Command {
         name: "put",
         words: &["IMAGE", "NAME", "FILE"],
-        more: "[--limit N]",
-        about: "save a file of this machine under a new name",
+        more: "[--replace] [--limit N]",
+        about: "save a file of this machine under a new name, or over an old file",
         details: help::PUT,
-        options: LIMIT,
+        options: Options {
+            valued: LIMIT.valued,
+            plain: &["--replace", "-f"],
+        },
         run: writing::put,
     },
     Command {

@@ -70,7 +70,7 @@ fn advice(refusal: Refusal) -> &'static str {
         }
         Refusal::Absent => "'lfat ls' shows the names that there are.",
         Refusal::Directory => "Only files in the root directory are covered; any FAT program opens the directory.",
-        Refusal::Exists => "'lfat append' adds to a file, 'lfat rm' removes it.",
+        Refusal::Exists => "'lfat put --replace' saves over a file, 'lfat append' adds to it, 'lfat rm' removes it.",
         Refusal::Rootfull => "Remove a file first: 'lfat rm'.",
         Refusal::Length => "'lfat ls' shows the sizes; truncate only shortens.",
         Refusal::Nospace => "'lfat info' shows the free clusters; 'lfat rm' frees some.",

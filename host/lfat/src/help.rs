@@ -25,8 +25,11 @@ NAME (or OLD) may be slot:N, as ls shows it, for a file whose name no rule allow
 ";
 
 pub const PUT: &str = "\
-FILE may be - for standard input. Two calls are made, create and append: after a power cut and a recovery there is no
-such file, an empty one, or the whole one.
+FILE may be - for standard input. A name that is taken is refused. For a new one two calls are made, create and append, once
+both are granted: after a power cut and a recovery there is no such file, an empty one, or the whole one.
+  --replace   save over a file that is there, in one call: after a power cut and a recovery it has its old bytes or the new
+              ones, whole. The old ones keep their room until then. A name that is not there is a new one, as above
+  -f          the same
 ";
 
 pub const RECOVER: &str = "\
@@ -44,7 +47,8 @@ partition that holds a FAT16 card is taken, where there are partitions.
 ";
 
 pub const RACK: &str = "\
-OPERATION is one of: create NAME, append NAME FILE, put NAME FILE, truncate NAME SIZE, rm NAME, mv OLD NEW.
+OPERATION is one of: create NAME, append NAME FILE, put NAME FILE, replace NAME FILE (put --replace), truncate NAME SIZE,
+rm NAME, mv OLD NEW.
 The card is only read. Each cut is followed by recoveries, cut in turn, until one ends; then both FATs, the root
 directory and all files must be as before the operation (old) or, if the log record was on the card, as after it (new).
 Of more than 4,096 stores of data, cuts are tried in 2,048 places.

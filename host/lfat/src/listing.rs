@@ -48,7 +48,9 @@ impl Record<'_> {
     }
 
     pub fn operation(&self) -> &'static str {
-        let words = ["part", "create", "update", "delete", "truncate", "rename"];
+        let words = [
+            "part", "create", "update", "delete", "truncate", "rename", "replace",
+        ];
         words.get(usize::from(self.bytes[13])).unwrap_or(&"unknown")
     }
 

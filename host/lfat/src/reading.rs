@@ -98,12 +98,14 @@ pub fn get(mut args: Args) -> Result<(), Failure> {
 
 /// The size of a file as its entry has it, 0 if there is none.
 fn size(card: &DiskCard, which: Which) -> usize {
-    let entries = card.list().unwrap_or_default();
-    let found = entries.iter().find(|entry| match which {
-        Which::Name(name) => entry.name_bytes() == name.bytes(),
-        Which::Slot(slot) => entry.slot == slot,
-    });
-    found.map_or(0, Entry::size)
+    let found = match which {
+        Which::Name(name) => card.find(name.bytes()).ok().flatten(),
+        Which::Slot(slot) => {
+            let entries = card.list().unwrap_or_default();
+            entries.into_iter().find(|entry| entry.slot == slot)
+        }
+    };
+    found.map_or(0, |entry| entry.size())
 }
 
 pub fn log(mut args: Args) -> Result<(), Failure> {

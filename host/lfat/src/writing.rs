@@ -11,7 +11,7 @@ use crate::target::{name, Target, Which};
 use lfat_card::{Name, Refusal};
 use lfat_disk::layout::bytes;
 use lfat_disk::volume::Volume;
-use lfat_disk::{Access, DiskCard, Operation};
+use lfat_disk::{Access, DiskCard, Entry, Operation};
 use std::path::Path;
 
 /// A card that is open to be changed.
@@ -47,50 +47,62 @@ fn image(args: &mut Args) -> Result<Target, Failure> {
     Target::parse(args.word("IMAGE")?, args)
 }
 
-pub fn put(mut args: Args) -> Result<(), Failure> {
+/// The words IMAGE, NAME and FILE: the card opened, the name, and the bytes of the file of this machine.
+fn with_file(mut args: Args) -> Result<(Opened, Name, Source), Failure> {
     let target = image(&mut args)?;
     let name = name(&args.word("NAME")?)?;
     let file = args.word("FILE")?;
-    let mut opened = Opened::new(target, &args)?;
+    let opened = Opened::new(target, &args)?;
     let source = Source::open(&file, opened.card.window().len(), &opened.target)?;
-    let data = source.bytes();
-    let name_bytes = name.bytes();
-    let calls = [
-        Operation::Create { name: name_bytes },
-        Operation::Append {
-            name: name_bytes,
-            data,
-        },
-    ];
-    match opened.save(&calls) {
-        Err(Failure::Refused(Refusal::Exists, _)) => {
-            let advice = taken(&opened.card, name);
-            Err(Failure::Refused(Refusal::Exists, advice))
-        }
-        other => other.map(drop),
-    }
+    Ok((opened, name, source))
+}
+
+pub fn put(args: Args) -> Result<(), Failure> {
+    let may_replace = args.has("--replace") || args.has("-f");
+    let (mut opened, given, source) = with_file(args)?;
+    let (name, data) = (given.bytes(), source.bytes());
+    let new = [Operation::Create { name }, Operation::Append { name, data }];
+    let over = [Operation::Replace { name, data }];
+    let there = opened.card.find(name);
+    // Where the card cannot be listed, every call is refused on the same ground.
+    let calls = match &there {
+        Ok(None) => &new[..],
+        _ if may_replace => &over,
+        _ => &new,
+    };
+    opened.save(calls).map(drop).map_err(|failure| {
+        let (Failure::Refused(refusal, advice), Ok(Some(entry))) = (&failure, &there) else {
+            return failure;
+        };
+        let advice = match refusal {
+            Refusal::Exists => taken(entry, given),
+            Refusal::Nospace if entry.size() > 0 => no_room_beside(given),
+            _ => advice.clone(),
+        };
+        Failure::Refused(*refusal, advice)
+    })
 }
 
 /// What to do where the name of a put is taken.
-fn taken(card: &DiskCard, name: Name) -> String {
-    let entries = card.list().unwrap_or_default();
-    let found = entries
-        .iter()
-        .find(|entry| entry.name_bytes() == name.bytes());
-    match found {
-        Some(entry) if entry.size() == 0 && !entry.is_directory() => format!(
-            "{name} is there and empty, as a put that was cut leaves it: fill it with 'lfat append', or remove it first with 'lfat rm'."
-        ),
-        _ => format!("Add to {name} with 'lfat append', or remove it first with 'lfat rm'."),
+fn taken(entry: &Entry, name: Name) -> String {
+    if entry.is_directory() {
+        format!("{name} is a directory: save under another name.")
+    } else if entry.size() == 0 {
+        format!("{name} is there and empty, as a put that was cut leaves it: fill it with 'lfat put --replace'.")
+    } else {
+        format!("Save over {name} with 'lfat put --replace', or add to it with 'lfat append'.")
     }
 }
 
-pub fn append(mut args: Args) -> Result<(), Failure> {
-    let target = image(&mut args)?;
-    let name = name(&args.word("NAME")?)?;
-    let file = args.word("FILE")?;
-    let mut opened = Opened::new(target, &args)?;
-    let source = Source::open(&file, opened.card.window().len(), &opened.target)?;
+/// What to do where new bytes do not fit beside the old ones.
+fn no_room_beside(name: Name) -> String {
+    format!(
+        "The old bytes of {name} keep their room until the new ones are saved. 'lfat info' shows the free clusters; 'lfat rm' frees some."
+    )
+}
+
+pub fn append(args: Args) -> Result<(), Failure> {
+    let (mut opened, name, source) = with_file(args)?;
     let (name, data) = (name.bytes(), source.bytes());
     opened.save(&[Operation::Append { name, data }]).map(drop)
 }

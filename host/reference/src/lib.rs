@@ -8,7 +8,8 @@
 //! Where to look:
 //! - `check`: grounds 1 to 7, which judge the card;
 //! - `lookup`: grounds 8 to 10 and 13, which judge a name and its file;
-//! - `operation`: the five writing operations;
+//! - `operation`: the six writing operations;
+//! - `data`: the sectors that get new bytes, in append and replace;
 //! - `transaction`, `program`: the order of stores, as a list and in segments;
 //! - `recovery`: redo of a pending group, undo of anything else;
 //! - `reading`: read and list;
@@ -22,6 +23,7 @@ mod builder;
 mod bytes;
 mod chain;
 mod check;
+mod data;
 mod fat;
 mod fat_draft;
 mod geometry;
@@ -46,7 +48,7 @@ pub use geometry::Geometry;
 pub use inspect::{file_bytes, file_chain, free_clusters, is_sound};
 pub use listing::log_listing;
 pub use operation::{
-    append, create, delete, plan, program, recover, rename, run, truncate, Operation,
+    append, create, delete, plan, program, recover, rename, replace, run, truncate, Operation,
 };
 pub use program::{Extent, Program, Segment};
 pub use reading::{list, read};

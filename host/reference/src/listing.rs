@@ -1,7 +1,9 @@
 //! The text of the program that lists a log.
 
 use crate::bytes::{get16, get32};
-use crate::journal::record::{CREATE, DELETE, PART, RECORD_BYTES, RENAME, TRUNCATE, UPDATE};
+use crate::journal::record::{
+    CREATE, DELETE, PART, RECORD_BYTES, RENAME, REPLACE, TRUNCATE, UPDATE,
+};
 use crate::name::{without_trailing_spaces, BASE_BYTES};
 use crate::root::{DELETED, UNUSED};
 use crate::store::SECTOR_BYTES;
@@ -54,6 +56,7 @@ fn operation_word(operation: u8) -> &'static str {
         DELETE => "delete",
         TRUNCATE => "truncate",
         RENAME => "rename",
+        REPLACE => "replace",
         _ => "unknown",
     }
 }

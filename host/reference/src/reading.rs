@@ -1,31 +1,23 @@
 //! The calls that store nothing: read and list.
 
-use crate::answer::{Answer, Ground};
+use crate::answer::Answer;
 use crate::check;
-use crate::lookup::File;
-use crate::name;
+use crate::lookup::open;
 use crate::root::{slots, SLOT_BYTES};
 use crate::volume::Volume;
 
 /// Fills the buffer from the offset up to the end of the file and answers the
 /// count of bytes.
 pub fn read(card: &[u8], name: &[u8], offset: u64, buffer: &mut [u8]) -> Answer {
-    match find(card, name) {
-        Ok((volume, file, chain)) => {
-            let left = u64::from(file.size).saturating_sub(offset) as usize;
-            let count = left.min(buffer.len());
-            copy_along(&volume, &chain, offset as usize, &mut buffer[..count]);
-            Answer::Done(count as u32)
-        }
-        Err(ground) => Answer::Refused(ground),
-    }
-}
-
-fn find<'a>(card: &'a [u8], name: &[u8]) -> Result<(Volume<'a>, File, Vec<u16>), Ground> {
-    let volume = check::clean(card)?.volume;
-    let file = File::find(&volume, &name::parse(name)?)?;
-    let chain = file.chain(&volume)?;
-    Ok((volume, file, chain))
+    let opened = match open(card, name) {
+        Ok(opened) => opened,
+        Err(ground) => return Answer::Refused(ground),
+    };
+    let left = u64::from(opened.file.size).saturating_sub(offset) as usize;
+    let count = left.min(buffer.len());
+    let volume = &opened.card.volume;
+    copy_along(volume, &opened.chain, offset as usize, &mut buffer[..count]);
+    Answer::Done(count as u32)
 }
 
 /// Fills the buffer with the chain's bytes from the offset on.

@@ -38,6 +38,11 @@ pub enum RootChange {
         new_slot: usize,
         new_name: Name,
     },
+    Replace {
+        slot: usize,
+        first_cluster: u16,
+        size: u32,
+    },
 }
 
 impl RootChange {
@@ -81,6 +86,11 @@ impl RootChange {
                 (old_slot, deleted(root, old_slot)),
                 (new_slot, renamed(root, old_slot, &new_name)),
             ],
+            RootChange::Replace {
+                slot,
+                first_cluster,
+                size,
+            } => vec![(slot, resized(root, slot, size, Some(first_cluster)))],
         }
     }
 }

@@ -10,7 +10,7 @@ use crate::store::{Sector, Store, SECTOR_BYTES};
 
 /// What one operation changes.
 pub struct Transaction<'a, 'd> {
-    /// Data sectors, for append only.
+    /// Data sectors, for append and replace only.
     pub data: Vec<Extent<'d>>,
     pub fat: FatDraft<'a>,
     /// The log records of the group.
@@ -40,7 +40,15 @@ impl<'d> Planned<'_, 'd> {
     }
 }
 
-impl<'d> Transaction<'_, 'd> {
+impl<'a, 'd> Transaction<'a, 'd> {
+    /// The operation that makes this change of the card.
+    pub fn on(self, card: Mounted<'a>) -> Planned<'a, 'd> {
+        Planned {
+            card,
+            change: Some(self),
+        }
+    }
+
     /// The log sector that serves, with the group pending and committed, and the stores that make room for it.
     fn group(&self, card: &Mounted) -> (Vec<Store>, Store, Store) {
         let pending = group(&self.records);

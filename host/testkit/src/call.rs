@@ -1,14 +1,16 @@
 //! A call with what it is given, for either implementation.
 
+#[cfg(feature = "library")]
 use lfat_card::calls;
 use reference::{Answer, Operation};
 use std::fmt;
 
-/// One of the eight calls.
+/// One of the nine calls.
 #[derive(Clone)]
 pub enum Call {
     Create(Vec<u8>),
     Append(Vec<u8>, Vec<u8>),
+    Replace(Vec<u8>, Vec<u8>),
     Truncate(Vec<u8>, u64),
     Delete(Vec<u8>),
     Rename(Vec<u8>, Vec<u8>),
@@ -24,6 +26,7 @@ impl Call {
         match self {
             Call::Create(..) => "create",
             Call::Append(..) => "append",
+            Call::Replace(..) => "replace",
             Call::Truncate(..) => "truncate",
             Call::Delete(..) => "delete",
             Call::Rename(..) => "rename",
@@ -46,6 +49,7 @@ impl Call {
         match self {
             Call::Create(name) => Some(Operation::Create { name }),
             Call::Append(name, data) => Some(Operation::Append { name, data }),
+            Call::Replace(name, data) => Some(Operation::Replace { name, data }),
             Call::Truncate(name, size) => Some(Operation::Truncate { name, size: *size }),
             Call::Delete(name) => Some(Operation::Delete { name }),
             Call::Rename(old, new) => Some(Operation::Rename { old, new }),
@@ -54,10 +58,12 @@ impl Call {
         }
     }
 
+    #[cfg(feature = "library")]
     pub fn on_library(&self, card: &mut [u8], limit: u32, buffer: &mut [u8]) -> calls::Answer {
         match self {
             Call::Create(name) => calls::create(card, name, limit),
             Call::Append(name, data) => calls::append(card, name, data, limit),
+            Call::Replace(name, data) => calls::replace(card, name, data, limit),
             Call::Truncate(name, size) => calls::truncate(card, name, *size, limit),
             Call::Delete(name) => calls::delete(card, name, limit),
             Call::Rename(old, new) => calls::rename(card, old, new, limit),
@@ -83,7 +89,9 @@ impl fmt::Debug for Call {
         write!(f, "{}", self.word())?;
         match self {
             Call::Create(name) | Call::Delete(name) => write!(f, " '{}'", shown(name)),
-            Call::Append(name, data) => write!(f, " '{}' {} bytes", shown(name), data.len()),
+            Call::Append(name, data) | Call::Replace(name, data) => {
+                write!(f, " '{}' {} bytes", shown(name), data.len())
+            }
             Call::Truncate(name, size) => write!(f, " '{}' to {size}", shown(name)),
             Call::Rename(old, new) => write!(f, " '{}' '{}'", shown(old), shown(new)),
             Call::Recover => Ok(()),

@@ -1,12 +1,10 @@
-//! What the tests and the benchmark share. With the feature `library` also calls on the proved library.
+//! What the tests and the benchmark share. With the feature `library` calls are made on the proved library too.
 
-#[cfg(feature = "library")]
 pub mod call;
 pub mod cards;
 pub mod fixtures;
 pub mod judge;
 pub mod random;
-#[cfg(feature = "library")]
 pub mod steps;
 
 /// The largest limit, which the router passes.

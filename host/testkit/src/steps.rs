@@ -70,7 +70,7 @@ pub fn random_call(random: &mut Random, card: &Card) -> Call {
     let cluster_bytes = usize::from(card.spec.sectors_per_cluster) * 512;
     let name = present_name(random, card);
     let length = random_length(random, cluster_bytes);
-    match random.below(24) {
+    match random.below(28) {
         0..=4 => Call::Create(random_name(random)),
         5..=9 => Call::Append(name, random.bytes(length)),
         10..=12 => Call::Truncate(name, length as u64),
@@ -78,6 +78,7 @@ pub fn random_call(random: &mut Random, card: &Card) -> Call {
         15..=17 => Call::Rename(name, random_name(random)),
         18 => Call::Recover,
         19..=21 => Call::Read(name, random_offset(random), length),
+        22..=25 => Call::Replace(name, random.bytes(length)),
         _ => Call::List(random_room(random)),
     }
 }

@@ -18,6 +18,8 @@ fn chain(first: u16, size: u32, entries: &[(u16, u16)], proper: bool) {
     for call in [
         Call::Append(name.clone(), vec![1; 700]),
         Call::Append(name.clone(), Vec::new()),
+        Call::Replace(name.clone(), vec![1; 700]),
+        Call::Replace(name.clone(), Vec::new()),
         Call::Truncate(name.clone(), u64::from(size)),
         Call::Truncate(name.clone(), 0),
         Call::Delete(name.clone()),

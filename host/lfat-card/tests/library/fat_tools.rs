@@ -60,7 +60,7 @@ fn library_step(image: &mut Image, files: &mut Files, random: &mut Random) {
     let size = files.get(&name).map_or(0, |bytes| bytes.len());
     let smaller = random.below(size + 1);
     let done = |answer| assert!(matches!(answer, Answer::Done(_)), "{answer:?}");
-    match (files.contains_key(&name), random.below(6)) {
+    match (files.contains_key(&name), random.below(9)) {
         (false, _) => {
             done(calls::create(card, &name, ALL));
             done(calls::append(card, &name, &data, ALL));
@@ -69,6 +69,10 @@ fn library_step(image: &mut Image, files: &mut Files, random: &mut Random) {
         (true, 0..=2) => {
             done(calls::append(card, &name, &data, ALL));
             files.get_mut(&name).expect("there").extend(data);
+        }
+        (true, 5..=7) => {
+            done(calls::replace(card, &name, &data, ALL));
+            files.insert(name, data);
         }
         (true, 3) => {
             done(calls::truncate(card, &name, smaller as u64, ALL));
@@ -96,13 +100,7 @@ fn tools_step(image: &mut Image, files: &mut Files, random: &mut Random) {
     } else {
         let length = random.pick(&[0, 1, 512, 5_000, 40_000]);
         let data = random.bytes(length);
-        let source = image.file.with_extension("source");
-        std::fs::write(&source, &data).expect("the source");
-        image.tool(
-            "mcopy",
-            &["-o", source.to_str().expect("plain path"), &path],
-        );
-        std::fs::remove_file(source).expect("the source");
+        image.copy_in(&data, &path);
         files.insert(name, data);
     }
     image.load();
@@ -161,15 +159,10 @@ fn files_of_both() {
 #[test]
 fn entries_of_other_systems() {
     let mut image = Image::format("entries.img", 4, 10_240, 512);
-    let source = image.file.with_extension("source");
-    let path = source.to_str().expect("plain path");
     let mut data = vec![5; 3_000];
-    std::fs::write(&source, &data).expect("the source");
     image.tool("mmd", &["::/FOLDER"]);
-    image.tool("mcopy", &[path, "::/FOLDER/INSIDE.CUT"]);
-    image.tool("mcopy", &[path, "::/sheer panel, port.cut"]);
-    std::fs::remove_file(&source).expect("the source");
-    image.load();
+    image.copy_in(&data, "::/FOLDER/INSIDE.CUT");
+    image.copy_in(&data, "::/sheer panel, port.cut");
 
     let mut entries = [0; 96];
     assert_eq!(calls::list(&image.card, &mut entries), Answer::Done(2));
@@ -196,4 +189,40 @@ fn entries_of_other_systems() {
     image.save();
     assert!(image.tool("mtype", &["::/sheer panel, port.cut"]) == data);
     image.check();
+
+    // Saved over it keeps its long name; so does the directory what is in it.
+    let answer = calls::replace(&mut image.card, alias, &[9; 700], ALL);
+    assert!(matches!(answer, Answer::Done(_)), "{answer:?}");
+    image.save();
+    assert!(image.tool("mtype", &["::/sheer panel, port.cut"]) == [9; 700]);
+    assert!(image.tool("mtype", &["::/FOLDER/INSIDE.CUT"]) == [5; 3_000]);
+    image.check();
+}
+
+/// A file that mtools wrote is saved over by the library and by mtools in turns: longer, shorter, by nothing.
+#[test]
+fn saved_over_by_turns() {
+    let mut random = Random::new(63_000);
+    for (per_cluster, kib) in [(1, 2_200), (16, 35_000)] {
+        let mut image = Image::format("turns.img", per_cluster, kib, 512);
+        let mut files = Files::new();
+        for name in [NAMES[0], NAMES[1]] {
+            let data = random.bytes(9_000);
+            let path = format!("::/{}", dotted(name));
+            image.copy_in(&data, &path);
+            files.insert(*name, data);
+        }
+        for length in [5_000, 20_000, 0, 1, 512, 8_192, 8_193] {
+            let data = random.bytes(length);
+            let answer = calls::replace(&mut image.card, NAMES[0], &data, ALL);
+            assert!(matches!(answer, Answer::Done(_)), "{answer:?}");
+            files.insert(*NAMES[0], data);
+            image.save();
+            assert_holds(&image, &files);
+            let data = random.bytes(length / 2);
+            image.copy_in(&data, &format!("::/{}", dotted(NAMES[1])));
+            files.insert(*NAMES[1], data);
+            assert_holds(&image, &files);
+        }
+    }
 }

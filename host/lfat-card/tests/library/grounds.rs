@@ -56,11 +56,12 @@ fn expect(twin: &mut Twin, call: &Call, ground: Ground) {
 }
 
 /// Each call with a bad name, where it takes one.
-fn all_calls(name: &[u8]) -> [Call; 8] {
+fn all_calls(name: &[u8]) -> [Call; 9] {
     let name = name.to_vec();
     [
         Call::Create(name.clone()),
         Call::Append(name.clone(), vec![7; 5_000]),
+        Call::Replace(name.clone(), vec![7; 5_000]),
         Call::Truncate(name.clone(), 701),
         Call::Delete(name.clone()),
         Call::Rename(name.clone(), ROUTE.to_vec()),
@@ -81,7 +82,7 @@ fn grounds_of_the_card() {
         }
         mend(&mut twin, ground);
     }
-    for call in &all_calls(BAD_NAME)[..5] {
+    for call in &all_calls(BAD_NAME)[..6] {
         expect(&mut twin, call, Ground::Name);
     }
     twin.done(&Call::Recover);
@@ -109,6 +110,12 @@ fn grounds_of_the_call() {
         |name| Call::Append(name.to_vec(), vec![7; 5_000]),
         Some(Ground::Nospace),
     );
+    // One byte is too much on a full card, though the old clusters would hold it; none is not.
+    all.extend(rows(
+        |name| Call::Replace(name.to_vec(), vec![7]),
+        Some(Ground::Nospace),
+    ));
+    all.extend(rows(|name| Call::Replace(name.to_vec(), Vec::new()), None));
     all.extend(rows(
         |name| Call::Truncate(name.to_vec(), 701),
         Some(Ground::Length),
@@ -124,6 +131,7 @@ fn grounds_of_the_call() {
         expect(&mut twin, call, *ground);
     }
     twin.done(&Call::Read(ROUTE.to_vec(), 0, 800));
+    twin.done(&Call::Replace(ROUTE.to_vec(), Vec::new()));
 }
 
 #[test]

@@ -1,4 +1,4 @@
-//! The library's eight calls: against the independent implementation, against Debian's FAT tools, and through power cuts.
+//! The library's nine calls: against the independent implementation, against Debian's FAT tools, and through power cuts.
 //!
 //! All random numbers have fixed seeds. `LFAT_CASES=10 cargo test --release -p lfat-card --test library` runs ten times as many
 //! random cases. `fat_tools` needs the packages dosfstools and mtools.

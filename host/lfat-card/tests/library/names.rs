@@ -22,11 +22,13 @@ fn expect(twin: &mut Twin, name: &[u8]) {
     let good = is_name(name);
     let create = twin.call(&Call::Create(name.to_vec()), 0);
     let delete = twin.call(&Call::Delete(name.to_vec()), 0);
+    let replace = twin.call(&Call::Replace(name.to_vec(), vec![7]), 0);
     let rename = twin.call(&Call::Rename(ROUTE.to_vec(), name.to_vec()), 0);
     let refused = Answer::Refused(Ground::Name);
     let shown = name.escape_ascii();
     assert_eq!(create != refused, good, "{shown}");
     assert_eq!(delete != refused, good, "{shown}");
+    assert_eq!(replace != refused, good, "{shown}");
     assert_eq!(rename != refused, good, "{shown}");
 }
 
@@ -82,6 +84,10 @@ fn slots_that_a_name_means() {
     assert_eq!(twin.call(&Call::List(200), 0), Answer::Done(4));
     let folder = twin.call(&Call::Delete(PANEL.to_vec()), 0);
     assert_eq!(folder, Answer::Refused(Ground::Directory));
+    let folder = twin.call(&Call::Replace(PANEL.to_vec(), vec![7]), 0);
+    assert_eq!(folder, Answer::Refused(Ground::Directory));
+    twin.done(&Call::Replace(ROUTE.to_vec(), vec![7; 90]));
+    assert_eq!(twin.call(&read, 0), Answer::Done(90));
     twin.done(&Call::Rename(ROUTE.to_vec(), OTHER.to_vec()));
     assert_eq!(twin.call(&read, 0), Answer::Done(6));
     twin.done(&Call::Delete(ROUTE.to_vec()));

@@ -88,7 +88,7 @@ fn every_cut(card: &mut Vec<u8>, call: &Call, rows: u32, random: &mut Random) ->
 fn has_cuts(call: &Call) -> bool {
     match call {
         Call::Recover | Call::Read(..) | Call::List(..) => false,
-        Call::Append(_, data) => data.len() < 20_000,
+        Call::Append(_, data) | Call::Replace(_, data) => data.len() < 20_000,
         _ => true,
     }
 }
@@ -123,7 +123,9 @@ fn every_cut_in_random_histories() {
     for seed in 0..cases(60) {
         history(seed, &mut tally);
     }
-    for word in ["create", "append", "truncate", "delete", "rename"] {
+    for word in [
+        "create", "append", "replace", "truncate", "delete", "rename",
+    ] {
         for (accepted, sound) in [(true, true), (true, false), (false, true), (false, false)] {
             let count = tally.get(&(word, accepted, sound));
             assert!(count > Some(&2), "{word} {accepted} {sound}: {count:?}");
@@ -140,7 +142,10 @@ fn cuts_on_a_large_card() {
     let data = random.bytes(9 * 512 + 5);
     for call in [
         Call::Create(name.clone()),
-        Call::Append(name.clone(), data),
+        Call::Append(name.clone(), data.clone()),
+        Call::Replace(name.clone(), data[..4 * 512].to_vec()),
+        Call::Replace(name.clone(), Vec::new()),
+        Call::Replace(name.clone(), data),
         Call::Truncate(name.clone(), 3 * 512),
         Call::Delete(name),
     ] {

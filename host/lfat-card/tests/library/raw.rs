@@ -1,68 +1,12 @@
 //! The numbers that cross the C interface: code * 2^32 + count, where a refusal has the count 0. The safe functions do not show
 //! that count.
 
+use lfat_card::raw::*;
 use reference::card_k;
 use testkit::{ALL, PANEL, ROUTE};
 
-/// A pointer and a length make a slice.
-type Bytes = *const u8;
-
-extern "C" {
-    fn lfat_create(
-        card: *mut u8,
-        length: usize,
-        name: Bytes,
-        name_length: usize,
-        limit: u32,
-    ) -> u64;
-    fn lfat_append(
-        card: *mut u8,
-        length: usize,
-        name: Bytes,
-        name_length: usize,
-        data: Bytes,
-        data_length: usize,
-        limit: u32,
-    ) -> u64;
-    fn lfat_truncate(
-        card: *mut u8,
-        length: usize,
-        name: Bytes,
-        name_length: usize,
-        size: u64,
-        limit: u32,
-    ) -> u64;
-    fn lfat_delete(
-        card: *mut u8,
-        length: usize,
-        name: Bytes,
-        name_length: usize,
-        limit: u32,
-    ) -> u64;
-    fn lfat_rename(
-        card: *mut u8,
-        length: usize,
-        old: Bytes,
-        old_length: usize,
-        new: Bytes,
-        new_length: usize,
-        limit: u32,
-    ) -> u64;
-    fn lfat_recover(card: *mut u8, length: usize, limit: u32) -> u64;
-    fn lfat_read(
-        card: Bytes,
-        length: usize,
-        name: Bytes,
-        name_length: usize,
-        offset: u64,
-        buffer: *mut u8,
-        buffer_length: usize,
-    ) -> u64;
-    fn lfat_list(card: Bytes, length: usize, buffer: *mut u8, buffer_length: usize) -> u64;
-}
-
-/// What all eight calls answer, in the header's order.
-fn answers(card: &mut [u8], name: &[u8], limit: u32) -> [u64; 8] {
+/// What all nine calls answer, one after the other.
+fn answers(card: &mut [u8], name: &[u8], limit: u32) -> [u64; 9] {
     let (at, length) = (card.as_mut_ptr(), card.len());
     let (name, name_length) = (name.as_ptr(), name.len());
     let data = [7u8; 600];
@@ -73,6 +17,7 @@ fn answers(card: &mut [u8], name: &[u8], limit: u32) -> [u64; 8] {
         [
             lfat_create(at, length, name, name_length, limit),
             lfat_append(at, length, name, name_length, data.as_ptr(), 600, limit),
+            lfat_replace(at, length, name, name_length, data.as_ptr(), 600, limit),
             lfat_truncate(at, length, name, name_length, 5, limit),
             lfat_delete(at, length, name, name_length, limit),
             lfat_rename(at, length, name, name_length, PANEL.as_ptr(), 11, limit),
@@ -93,48 +38,60 @@ fn ground(number: u64) -> u64 {
 fn refusals_have_no_count() {
     for limit in [0, 3, ALL] {
         let mut card = card_k();
-        assert_eq!(answers(&mut card[..511], ROUTE, limit), [ground(1); 8]);
-        assert_eq!(answers(&mut card[..512], ROUTE, limit), [ground(3); 8]);
+        assert_eq!(answers(&mut card[..511], ROUTE, limit), [ground(1); 9]);
+        assert_eq!(answers(&mut card[..512], ROUTE, limit), [ground(3); 9]);
         card[511] = 0;
-        assert_eq!(answers(&mut card, ROUTE, limit), [ground(2); 8]);
+        assert_eq!(answers(&mut card, ROUTE, limit), [ground(2); 9]);
         card[511] = 0xAA;
         card[512 + 2 * 100..][..2].copy_from_slice(&[0xF6, 0xFF]);
-        assert_eq!(answers(&mut card, ROUTE, limit), [ground(4); 8]);
+        assert_eq!(answers(&mut card, ROUTE, limit), [ground(4); 9]);
         let mut card = card_k();
         card[33 * 512 + 32] = 0xE5;
-        assert_eq!(answers(&mut card, ROUTE, limit), [ground(5); 8]);
+        assert_eq!(answers(&mut card, ROUTE, limit), [ground(5); 9]);
         let mut card = card_k();
         card[65 * 512] = b'A';
-        assert_eq!(answers(&mut card, ROUTE, limit), [ground(6); 8]);
+        assert_eq!(answers(&mut card, ROUTE, limit), [ground(6); 9]);
     }
     let (unclean, name) = (ground(7), ground(8));
     let mut card = card_k();
     card[16 * 512] = 1;
-    let mut expected = [unclean; 8];
-    expected[5] = STOPPED;
+    let mut expected = [unclean; 9];
+    expected[6] = STOPPED;
     assert_eq!(answers(&mut card, ROUTE, 0), expected);
-    let expected = [name, name, name, name, name, 0, name, 0];
+    let expected = [name, name, name, name, name, name, 0, name, 0];
     assert_eq!(answers(&mut card_k(), b"ROUTE.CUT", 0), expected);
 }
 
 #[test]
 fn counts_of_finished_and_stopped_calls() {
     let mut card = card_k();
-    // Create, append, truncate, delete and rename, one after the other; the last finds nothing.
-    let finished = [3, 7, 5, 5, ground(9), 0, ground(9), 0];
+    // Create, append, replace, truncate, delete and rename, one after the other; the last finds nothing.
+    let finished = [3, 7, 7, 5, 5, ground(9), 0, ground(9), 0];
     assert_eq!(answers(&mut card, ROUTE, ALL), finished);
     let mut card = card_k();
+    let absent = ground(9);
     let stopped = [
-        STOPPED,
-        ground(9),
-        ground(9),
-        ground(9),
-        ground(9),
-        0,
-        ground(9),
-        0,
+        STOPPED, absent, absent, absent, absent, absent, 0, absent, 0,
     ];
     assert_eq!(answers(&mut card, ROUTE, 0), stopped);
+}
+
+/// A call on the card and two other slices.
+type OnTwo = unsafe extern "C" fn(*mut u8, usize, *const u8, usize, *const u8, usize, u32) -> u64;
+
+/// Makes a call on slices that overlap and on copies of them: both make so many stores and leave the same card.
+fn as_on_copies(call: OnTwo, start: &[u8], first: &[u8], second: &[u8], stores: u64) -> Vec<u8> {
+    let run = |first: &[u8], second: &[u8]| {
+        let mut card = start.to_vec();
+        let (at, length) = (card.as_mut_ptr(), card.len());
+        let (one, other) = (first.as_ptr(), second.as_ptr());
+        let answer = unsafe { call(at, length, one, first.len(), other, second.len(), ALL) };
+        assert_eq!(answer, stores);
+        card
+    };
+    let card = run(first, second);
+    assert!(card == run(&first.to_vec(), &second.to_vec()) && card != start);
+    card
 }
 
 /// Two parts that overlap but are only read give what copies of them give.
@@ -143,75 +100,18 @@ fn parts_that_are_only_read_may_overlap() {
     let text = b"PATHS_1CUTNEW_PART1CUT";
     let (old, new) = (&text[..11], &text[6..17]);
     let start = card_with(old);
-    let (mut one, mut other) = (start.clone(), start.clone());
-    let answers = unsafe {
-        [
-            lfat_rename(
-                one.as_mut_ptr(),
-                one.len(),
-                old.as_ptr(),
-                11,
-                new.as_ptr(),
-                11,
-                ALL,
-            ),
-            lfat_rename(
-                other.as_mut_ptr(),
-                other.len(),
-                old.to_vec().as_ptr(),
-                11,
-                new.to_vec().as_ptr(),
-                11,
-                ALL,
-            ),
-        ]
-    };
-    assert_eq!(answers, [3, 3]);
-    assert!(one == other && one != start);
-
+    as_on_copies(lfat_rename, &start, old, new, 3);
     // The name is the data's beginning.
-    let (mut one, mut other) = (start.clone(), start.clone());
-    let answers = unsafe {
-        [
-            lfat_append(
-                one.as_mut_ptr(),
-                one.len(),
-                text.as_ptr(),
-                11,
-                text.as_ptr(),
-                text.len(),
-                ALL,
-            ),
-            lfat_append(
-                other.as_mut_ptr(),
-                other.len(),
-                old.to_vec().as_ptr(),
-                11,
-                text.as_ptr(),
-                text.len(),
-                ALL,
-            ),
-        ]
-    };
-    assert_eq!(answers, [6, 6]);
-    assert!(one == other && one != start);
-
-    // The name lies in the root directory of the card that is read.
-    let mut buffer = [0; 30];
-    let slot = one[33 * 512..].as_ptr();
-    let read = unsafe {
-        lfat_read(
-            one.as_ptr(),
-            one.len(),
-            slot,
-            11,
-            0,
-            buffer.as_mut_ptr(),
-            30,
-        )
-    };
-    assert_eq!(read, text.len() as u64);
-    assert_eq!(buffer[..text.len()], text[..]);
+    for call in [lfat_append as OnTwo, lfat_replace] {
+        let card = as_on_copies(call, &start, old, text, 6);
+        // The name lies in the root directory of the card that is read.
+        let slot = card[33 * 512..].as_ptr();
+        let mut buffer = [0; 30];
+        let out = buffer.as_mut_ptr();
+        let read = unsafe { lfat_read(card.as_ptr(), card.len(), slot, 11, 0, out, 30) };
+        assert_eq!(read, text.len() as u64);
+        assert_eq!(buffer[..text.len()], text[..]);
+    }
 }
 
 /// Card K with an empty file.

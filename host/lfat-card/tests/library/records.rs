@@ -9,6 +9,8 @@ use testkit::random::Random;
 use testkit::{cases, ALL, OTHER, PANEL, ROUTE};
 
 const RENAME: u8 = 5;
+/// Create, update, delete, truncate, rename and replace.
+const OPERATIONS: std::ops::RangeInclusive<u8> = 1..=6;
 /// Live slots of the card; the next one is the lowest beginning 0.
 const LIVE: u16 = 40;
 
@@ -75,7 +77,7 @@ fn expect(operation: u8, changes: &[(usize, u8)], accepted: bool) {
 
 #[test]
 fn fields_of_record_0() {
-    for operation in 1..=5 {
+    for operation in OPERATIONS {
         // A rename's record 1 has to be alike.
         let both = |at: usize, byte| match operation {
             RENAME => vec![(at, byte), (at + 32, byte)],
@@ -98,7 +100,9 @@ fn fields_of_record_0() {
         expect(operation, &[(0, 1), (5, 0), (10, 0xE5)], true);
         expect(operation, &[(18, LIVE as u8 + 1)], false);
         expect(operation, &[(18, 0), (19, 2)], false);
-        expect(operation, &[(13, 6)], false);
+        for unknown in [7, 8, 0x86, 0xFF] {
+            expect(operation, &[(13, unknown)], false);
+        }
         expect(operation, &[(13, 0)], false);
         let end = if operation == RENAME { 64 } else { 32 };
         for after in [end, end + 31, 480, 511] {
@@ -135,7 +139,7 @@ fn fields_of_record_1() {
 
 #[test]
 fn groups_elsewhere() {
-    for operation in 1..=5u8 {
+    for operation in OPERATIONS {
         let plain = group(operation);
         for place in 0..8 {
             let answer = recovered(card(), place, &plain);
@@ -161,11 +165,38 @@ fn groups_elsewhere() {
     }
 }
 
+/// First cluster and size of a replace go into the slot unjudged, be they proper or not.
+#[test]
+fn odd_fields_of_a_replace() {
+    for (dir_cluster, size) in [
+        (0, 0),
+        (0, 1_500),
+        (22, 0),
+        (1, u32::MAX),
+        (0xFFFF, 1),
+        (4_087, 512),
+        (2, 512),
+    ] {
+        let mut sector = group(6);
+        sector[22..24].copy_from_slice(&u16::to_le_bytes(dir_cluster));
+        sector[28..32].copy_from_slice(&u32::to_le_bytes(size));
+        let mut twin = Twin::new(card());
+        twin.edit(|card| card.log_sector_mut(4).copy_from_slice(&sector));
+        let before = twin.card.slot(3).to_vec();
+        // FAT1 sectors 0, 1 and 15, the root sector and the commit.
+        assert_eq!(twin.call(&Call::Recover, ALL), Answer::Done(5));
+        let slot = twin.card.slot(3);
+        assert_eq!(slot[..26], before[..26]);
+        assert_eq!(slot[26..28], u16::to_le_bytes(dir_cluster));
+        assert_eq!(slot[28..], u32::to_le_bytes(size));
+    }
+}
+
 /// With no slot beginning 0, the root entries alone bound a record's slots.
 #[test]
 fn slots_of_a_full_root() {
     for (slot, accepted) in [(511u16, true), (512, false), (u16::MAX, false)] {
-        for operation in 1..=5 {
+        for operation in OPERATIONS {
             let mut full = card();
             full.fill_root(usize::from(LIVE));
             let mut sector = group(operation);
@@ -182,7 +213,7 @@ fn random_groups() {
     let mut random = Random::new(20_000);
     let mut accepted = 0;
     for _ in 0..cases(300) {
-        let mut sector = group(1 + random.below(5) as u8);
+        let mut sector = group(1 + random.below(6) as u8);
         for at in [11, 26, 27, 28, 29, 30, 31] {
             sector[at] = random.byte();
             sector[at + 32] = if sector[13] == RENAME { sector[at] } else { 0 };

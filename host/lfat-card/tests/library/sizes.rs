@@ -77,6 +77,10 @@ fn small_clusters() {
                     twin.call(&Call::Truncate(ROUTE.to_vec(), size as u64), ALL);
                 }
                 twin.done(&Call::Append(ROUTE.to_vec(), path(second)));
+                for length in [second, first] {
+                    twin.done(&Call::Replace(ROUTE.to_vec(), path(length)));
+                    assert_eq!(reference::file_bytes(&twin.card.bytes, 0), path(length));
+                }
                 twin.done(&Call::Delete(ROUTE.to_vec()));
             }
         }
@@ -100,6 +104,12 @@ fn large_clusters() {
             twin.done(&Call::Truncate(ROUTE.to_vec(), size as u64));
         }
         twin.done(&Call::Append(ROUTE.to_vec(), path(3 * cluster + 1)));
+        // Data, FAT2, group, FAT1, root, commit.
+        let data = u32::from(sectors_per_cluster) + 2;
+        for limit in [0, 1, data, data + 1, data + 2, data + 3, ALL] {
+            twin.call(&Call::Replace(ROUTE.to_vec(), path(cluster + 513)), limit);
+            twin.done(&Call::Recover);
+        }
         twin.done(&Call::Rename(ROUTE.to_vec(), OTHER.to_vec()));
         twin.done(&Call::Delete(OTHER.to_vec()));
         twin.done(&Call::List(64));
@@ -117,10 +127,16 @@ fn longest_log() {
             let (old, new) = (&names[(turn + 1) % 2], &names[turn % 2]);
             twin.done(&Call::Rename(old.clone(), new.clone()));
         }
-        let call = Call::Append(names[1].clone(), path(600));
-        let clearing = twin.stores(&call);
-        assert!(clearing > 128);
-        twin.all_limits(&call, |twin| twin.done(&Call::Recover));
-        assert_eq!(twin.call(&call, ALL), Answer::Done(clearing as u32));
+        for call in [
+            Call::Replace(names[1].clone(), path(700)),
+            Call::Append(names[1].clone(), path(600)),
+        ] {
+            let clearing = twin.stores(&call);
+            assert!(clearing > 128);
+            twin.all_limits(&call, |twin| twin.done(&Call::Recover));
+            if matches!(call, Call::Append(..)) {
+                assert_eq!(twin.call(&call, ALL), Answer::Done(clearing as u32));
+            }
+        }
     }
 }

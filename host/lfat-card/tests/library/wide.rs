@@ -61,6 +61,15 @@ fn largest_card() {
             Call::Append(PANEL.to_vec(), vec![5; 32_769]),
             Answer::Done(65 + 5),
         ),
+        // From clusters 2 and 3 to 4, 5 and 6, and back.
+        (
+            Call::Replace(PANEL.to_vec(), vec![8; 65_537]),
+            Answer::Done(129 + 5),
+        ),
+        (
+            Call::Replace(PANEL.to_vec(), vec![5; 32_769]),
+            Answer::Done(65 + 5),
+        ),
         (
             Call::Append(route(), vec![6; 65_536]),
             Answer::Done(129 + 7),
@@ -91,6 +100,10 @@ fn lengths_past_32_bits() {
     // Cut to 32 bits it would be 600 bytes, which fit.
     assert_eq!(
         calls::append(&mut card, ROUTE, &long, ALL).encode(),
+        15 << 32
+    );
+    assert_eq!(
+        calls::replace(&mut card, ROUTE, &long, ALL).encode(),
         15 << 32
     );
     assert_eq!(calls::create(&mut card, &long, ALL).encode(), 8 << 32);

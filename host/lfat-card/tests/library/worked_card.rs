@@ -89,6 +89,55 @@ fn rows_of_the_worked_card() {
     assert_eq!(m10, [72, 71, 70, 69, 68, 67, 66, 65, 65, 33, 65]);
 }
 
+/// The record in a log sector: operation, DIR_Cluster, first/last cluster and size.
+fn record(card: &[u8], sector: usize) -> (u8, u32, u16, u32) {
+    let record = &card[sector * 512..][..32];
+    let long = |at: usize| u32::from_le_bytes(record[at..at + 4].try_into().expect("four bytes"));
+    let first_or_last = u16::from_le_bytes([record[26], record[27]]);
+    (record[13], long(22), first_or_last, long(28))
+}
+
+/// After M4 the file is saved over: by 600 bytes, by the same again, by none, and by none once more.
+#[test]
+fn replace_on_the_worked_card() {
+    let mut card = reference::card_k();
+    assert_eq!(calls::create(&mut card, NAME, ALL), Answer::Done(3));
+    let m4 = calls::append(&mut card, NAME, &path(1_300), ALL);
+    assert_eq!(m4, Answer::Done(8));
+    let new: Vec<u8> = path(600).iter().map(|byte| byte ^ 0x80).collect();
+    let replace = |card: &mut [u8], limit| calls::replace(card, NAME, &new, limit);
+
+    for (limit, slot_after) in [(3, (10, 1_300)), (4, (13, 600))] {
+        let mut cut = card.clone();
+        assert_eq!(replace(&mut cut, limit), Answer::Stopped(limit));
+        assert!(matches!(calls::recover(&mut cut, ALL), Answer::Done(_)));
+        assert_eq!(slot(&cut), slot_after, "cut after {limit} stores");
+    }
+
+    assert_eq!(stored(&mut card, replace), [76, 77, 17, 67, 1, 33, 67]);
+    assert_eq!(slot(&card), (13, 600));
+    assert_eq!(record(&card, 67), (6, 13, 10, 600));
+    let links = [10, 11, 12, 13, 14].map(|cluster| entry(&card, cluster));
+    assert_eq!(links, [0, 0, 0, 14, 0xFFFF]);
+    let mut buffer = vec![0xA5; 700];
+    assert_eq!(calls::read(&card, NAME, 0, &mut buffer), Answer::Done(600));
+    assert_eq!(buffer[..600], new);
+    assert_eq!(buffer[600..], [0xA5; 100]);
+
+    // The clusters of M4 are free again, and the lowest.
+    assert_eq!(stored(&mut card, replace), [73, 74, 17, 68, 1, 33, 68]);
+    assert_eq!(record(&card, 68), (6, 10, 13, 600));
+
+    let none = |card: &mut [u8], limit| calls::replace(card, NAME, &[], limit);
+    assert_eq!(stored(&mut card, none), [17, 69, 1, 33, 69]);
+    assert_eq!(slot(&card), (0, 0));
+    assert_eq!(record(&card, 69), (6, 0, 10, 0));
+    let before = card.clone();
+    assert_eq!(none(&mut card, ALL), Answer::Done(3));
+    assert_eq!(record(&card, 70), (6, 0, 0, 0));
+    assert!(card[..70 * 512] == before[..70 * 512] && card[71 * 512..] == before[71 * 512..]);
+}
+
 fn name(number: usize) -> Vec<u8> {
     format!("PANEL{number} CUT").into_bytes()
 }

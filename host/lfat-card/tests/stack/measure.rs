@@ -1,21 +1,9 @@
 //! The most that each call has needed so far.
 
 use crate::painted::Stack;
-// Links the library.
-use lfat_card as _;
+use lfat_card::raw::*;
 use std::collections::BTreeMap;
 use testkit::call::Call;
-
-extern "C" {
-    fn lfat_create();
-    fn lfat_append();
-    fn lfat_truncate();
-    fn lfat_delete();
-    fn lfat_rename();
-    fn lfat_recover();
-    fn lfat_read();
-    fn lfat_list();
-}
 
 /// The address of the library's function, and its arguments as numbers.
 fn crossing(call: &Call, card: &mut [u8], limit: u32, buffer: &mut [u8]) -> (*const (), [u64; 7]) {
@@ -34,6 +22,7 @@ fn crossing(call: &Call, card: &mut [u8], limit: u32, buffer: &mut [u8]) -> (*co
     match call {
         Call::Create(name) => (lfat_create as *const (), named(name, [limit, 0, 0])),
         Call::Append(name, data) => (lfat_append as *const (), with(name, data)),
+        Call::Replace(name, data) => (lfat_replace as *const (), with(name, data)),
         Call::Truncate(name, size) => (lfat_truncate as *const (), named(name, [*size, limit, 0])),
         Call::Delete(name) => (lfat_delete as *const (), named(name, [limit, 0, 0])),
         Call::Rename(old, new) => (lfat_rename as *const (), with(old, new)),

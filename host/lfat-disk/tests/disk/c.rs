@@ -77,6 +77,10 @@ fn the_example() {
     );
     assert!(after.iter().any(|entry| entry.3 == points(200_000)));
 
+    // A file that is there keeps its slot; nothing else is left behind.
+    let slots: Vec<usize> = after.iter().map(|entry| entry.0).collect();
+    assert_eq!(slots, [0, 1, 2]);
+
     // A card that was cut is recovered first.
     let mut cut = two_files();
     reference::append(&mut cut, ROUTE, &points(1_300), 6);
@@ -88,6 +92,23 @@ fn the_example() {
     assert!(after
         .iter()
         .any(|entry| entry.1 == ROUTE && entry.3.len() == 2_600));
+
+    // More than fits: the old file stays as it was, and under a new name no empty one is left.
+    let large = Temporary::new(&points(2_000_000));
+    let before = state(&card.bytes()).expect("clean");
+    for (name, what) in [
+        ("PANEL.CUT", "save: NOSPACE: "),
+        ("KEEL", "append: NOSPACE: "),
+    ] {
+        let output = run(&save, &[path(&card), name, path(&large)]);
+        let errors = String::from_utf8_lossy(&output.stderr).into_owned();
+        assert!(
+            errors.starts_with(what) && errors.lines().count() == 1,
+            "{errors}"
+        );
+        assert_eq!(output.status.code(), Some(1));
+        assert!(state(&card.bytes()).expect("clean") == before, "{name}");
+    }
 
     let before = card.bytes();
     for (words, what) in [
@@ -193,6 +214,14 @@ int main(int argc, char **argv)
     DUE(lfat_disk_append(disk, keel, 11, bytes, sizeof bytes), LFAT_DONE, 9);
     DUE(lfat_disk_append(disk, keel, 11, NULL, 0), LFAT_DONE, 0);
     DUE(lfat_disk_append(disk, keel, 11, NULL, 1), LFAT_DISK_ARGUMENT, 0);
+    DUE(lfat_disk_replace(disk, keel, 11, bytes, 600), LFAT_DONE, 7);
+    DUE(lfat_disk_replace(disk, keel, 11, NULL, 0), LFAT_DONE, 5);
+    /* Eight groups fill the log: it is cleared first. */
+    DUE(lfat_disk_replace(disk, keel, 11, NULL, 0), LFAT_DONE, 11);
+    DUE(lfat_disk_replace(disk, keel, 11, NULL, 1), LFAT_DISK_ARGUMENT, 0);
+    DUE(lfat_disk_replace(disk, NULL, 11, bytes, 1), LFAT_DISK_ARGUMENT, 0);
+    DUE(lfat_disk_replace(disk, (const uint8_t *)"NONE       ", 11, bytes, 1), LFAT_ABSENT, 0);
+    DUE(lfat_disk_replace(disk, keel, 11, bytes, sizeof bytes), LFAT_DONE, 9);
     DUE(lfat_disk_truncate(disk, keel, 11, 2001), LFAT_LENGTH, 0);
     DUE(lfat_disk_truncate(disk, keel, 11, 1000), LFAT_DONE, 5);
     memset(bytes, 0, sizeof bytes);
@@ -201,7 +230,7 @@ int main(int argc, char **argv)
         wrong = 1;
     DUE(lfat_disk_read(disk, keel, 11, 0, NULL, 0), LFAT_DONE, 0);
     DUE(lfat_disk_delete(disk, route, 11), LFAT_DONE, 5);
-    DUE(lfat_disk_rename(disk, keel, 11, route, 11), LFAT_DONE, 11);
+    DUE(lfat_disk_rename(disk, keel, 11, route, 11), LFAT_DONE, 3);
     DUE(lfat_disk_list(disk, entries, sizeof entries), LFAT_DONE, 2);
     DUE(lfat_disk_delete(disk, keel, 11), LFAT_ABSENT, 0);
     if (strstr(lfat_disk_message(), "ABSENT") == NULL || lfat_disk_errno() != 0)

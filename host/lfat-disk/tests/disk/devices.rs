@@ -60,6 +60,7 @@ fn a_save_on_a_device() {
         open.append(ROUTE, &points(777)).expect("granted");
         open.rename(NEW, PANEL).expect("granted");
         open.truncate(PANEL, 50_001).expect("granted");
+        open.replace(ROUTE, &points(4_321)).expect("granted");
         let mut back = vec![0; 60_000];
         assert_eq!(open.read(PANEL, 0, &mut back).expect("read"), 50_001);
         assert!(back[..50_001] == points(100_000)[..50_001]);
@@ -70,6 +71,7 @@ fn a_save_on_a_device() {
         reference::append(&mut wanted, ROUTE, &points(777), u32::MAX);
         reference::rename(&mut wanted, NEW, PANEL, u32::MAX);
         reference::truncate(&mut wanted, PANEL, 50_001, u32::MAX);
+        reference::replace(&mut wanted, ROUTE, &points(4_321), u32::MAX);
         assert!(file.bytes() == wanted, "{block}");
     }
 }
@@ -91,8 +93,11 @@ fn a_save_in_a_partition_of_a_device() {
     let mut open = DiskCard::open(&device.0, Access::Write).expect("opened");
     assert_eq!(open.partition().map(|found| found.first), Some(101));
     open.append(ROUTE, &points(5_000)).expect("granted");
+    open.replace(ROUTE, &points(999)).expect("granted");
     drop(open);
     drop(device);
-    reference::append(&mut disk[place], ROUTE, &points(5_000), u32::MAX);
+    let card = &mut disk[place];
+    reference::append(card, ROUTE, &points(5_000), u32::MAX);
+    reference::replace(card, ROUTE, &points(999), u32::MAX);
     assert!(file.bytes() == disk);
 }

@@ -120,6 +120,10 @@ fn sectors_that_cannot_be_read() {
         open.read(ROUTE, 0, &mut [0; 10]),
         Err(Error::Disk(_))
     ));
+    assert_eq!(
+        open.replace(ROUTE, &[7; 1_024]).expect("looks at no data"),
+        7
+    );
     assert_eq!(open.delete(ROUTE).expect("looks at no data"), 5);
     // Of a file in two pieces the first is read, the second is not: what was read is forgotten, and the next call is right.
     let mut card = two_files();

@@ -38,7 +38,7 @@ fn file_in_fragments() {
     check_with_recoveries(&mut card, &operation);
 }
 
-/// Free clusters far from each other: a store in each of many FAT sectors, for append, truncate and delete.
+/// Free clusters far from each other: a store in each of many FAT sectors, for append, replace, truncate and delete.
 #[test]
 fn many_fat_sectors() {
     let mut card = CardSpec::K.build();
@@ -52,11 +52,16 @@ fn many_fat_sectors() {
     let create = Operation::Create { name };
     let append = Operation::Append { name, data: &data };
     let truncate = Operation::Truncate { name, size: 4_000 };
+    // Clusters 200 to 1,600 are freed and 1,800 to 2,600 taken; then those are freed, and 200 to 1,000 taken.
+    let data = &data[..5 * 512];
+    let replace = Operation::Replace { name, data };
     for (operation, fat_sectors) in [
         (create, 0),
         (append, 15),
         (truncate, 9),
-        (Operation::Delete { name }, 7),
+        (replace, 11),
+        (replace, 8),
+        (Operation::Delete { name }, 4),
     ] {
         for fat in [1..17, 17..33] {
             let count = sectors(&card, &operation, fat).len();

@@ -67,19 +67,19 @@ pub fn check_with_recoveries(card: &mut [u8], operation: &Operation) {
 fn random_operation<'a>(random: &mut Random, data: &'a [u8]) -> Operation<'a> {
     let names: [&[u8; 11]; 4] = [ROUTE, PANEL, b"KEEL       ", b"STEM    1  "];
     let (name, new) = (random.pick(&names), random.pick(&names));
-    match random.below(9) {
+    let start = random.below(data.len());
+    let length = [100, 512, 1_700, 4_000][random.below(4)];
+    let data = &data[start..(start + length).min(data.len())];
+    match random.below(12) {
         0 | 1 => Operation::Create { name },
-        2..=5 => {
-            let start = random.below(data.len());
-            let length = [100, 512, 1_700, 4_000][random.below(4)];
-            let data = &data[start..(start + length).min(data.len())];
-            Operation::Append { name, data }
-        }
+        2..=5 => Operation::Append { name, data },
         6 => Operation::Truncate {
             name,
             size: random.below(3_000) as u64,
         },
         7 => Operation::Delete { name },
+        8 | 9 => Operation::Replace { name, data },
+        10 => Operation::Replace { name, data: &[] },
         _ => Operation::Rename { old: name, new },
     }
 }
@@ -106,6 +106,21 @@ fn spec(sectors_per_cluster: u8) -> CardSpec {
         log_clusters: 2,
         ..CardSpec::K
     }
+}
+
+/// A replace writes its group, also where nothing else changes: log record, root directory, commit mark.
+#[test]
+fn nothing_to_replace() {
+    let mut card = reference::card_k();
+    reference::create(&mut card, ROUTE, NO_LIMIT);
+    let replace = Operation::Replace {
+        name: ROUTE,
+        data: &[],
+    };
+    let writes = writes(&card, &replace).expect("granted");
+    let sectors: Vec<usize> = writes.iter().map(|(sector, _)| *sector).collect();
+    assert_eq!(sectors, [66, 33, 66]);
+    check_with_recoveries(&mut card, &replace);
 }
 
 /// A call that stores nothing writes nothing.

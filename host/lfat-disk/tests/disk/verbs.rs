@@ -61,11 +61,12 @@ fn random_histories() {
         );
         let data = &data[..random.pick(&[1, 100, 512, 1_700])];
         let size = random.below(2_000) as u64;
-        let operation = match random.below(8) {
+        let operation = match random.below(11) {
             0 | 1 => Operation::Create { name },
             2..=4 => Operation::Append { name, data },
             5 => Operation::Truncate { name, size },
             6 => Operation::Delete { name },
+            7..=9 => Operation::Replace { name, data },
             _ => Operation::Rename {
                 old: name,
                 new: other,
@@ -81,12 +82,15 @@ fn random_histories() {
 /// list's stores.
 #[test]
 fn where_the_flushes_stand() {
+    let (name, data) = (ROUTE, &points(1_300)[..]);
+    flushes_stand(&Operation::Append { name, data });
+    flushes_stand(&Operation::Replace { name, data });
+}
+
+/// Of a call whose list ends with the log record, FAT1, root directory and commit mark.
+fn flushes_stand(operation: &Operation) {
     let card = two_files();
-    let operation = Operation::Append {
-        name: ROUTE,
-        data: &points(1_300),
-    };
-    let stores = reference::plan(&card, &operation).expect("granted");
+    let stores = reference::plan(&card, operation).expect("granted");
     let words: Vec<String> = stores
         .iter()
         .map(|store| store.sector.to_string())
@@ -102,7 +106,7 @@ fn where_the_flushes_stand() {
     }
     let mut disk = Lying::new(&card);
     DiskCard::on(&mut disk, Planned, Access::Write)
-        .and_then(|mut card| card.append(ROUTE, &points(1_300)))
+        .and_then(|mut card| card.save(&[*operation], u32::MAX))
         .expect("granted");
     let events = disk.events.iter().map(|event| match event {
         Event::Write(sector, _) => sector.to_string(),

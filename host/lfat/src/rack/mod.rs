@@ -21,56 +21,67 @@ use lfat_card::Name;
 use lfat_disk::{Access, DiskCard, Operation};
 use std::ffi::{OsStr, OsString};
 
+/// The operations, each with its second word after the name, if it has one.
+const OPERATIONS: [(&str, Option<&str>); 7] = [
+    ("create", None),
+    ("append", Some("FILE")),
+    ("put", Some("FILE")),
+    ("replace", Some("FILE")),
+    ("truncate", Some("SIZE")),
+    ("rm", None),
+    ("mv", Some("NEW")),
+];
+
 /// The operation in words.
 struct Asked {
-    verb: String,
-    words: Vec<OsString>,
+    verb: &'static str,
+    name: OsString,
+    /// What the second word is, and the word.
+    second: Option<(&'static str, OsString)>,
 }
 
 impl Asked {
     fn parse(args: &mut Args) -> Result<Asked, Failure> {
-        let verb = args.text("OPERATION")?;
-        let rest: &[&str] = match verb.as_str() {
-            "create" | "rm" => &["NAME"],
-            "truncate" => &["NAME", "SIZE"],
-            "mv" => &["OLD", "NEW"],
-            "append" | "put" => &["NAME", "FILE"],
-            other => {
-                let known = "create, append, put, truncate, rm, mv";
-                return Err(Failure::Usage(format!(
-                    "OPERATION: '{other}' is none of {known}"
-                )));
-            }
+        let asked = args.text("OPERATION")?;
+        let known = OPERATIONS.iter().find(|(verb, _)| *verb == asked);
+        let &(verb, second) = known.ok_or_else(|| {
+            let known = OPERATIONS.map(|(verb, _)| verb).join(", ");
+            Failure::Usage(format!("OPERATION: '{asked}' is none of {known}"))
+        })?;
+        let name = args.word(if second == Some("NEW") { "OLD" } else { "NAME" })?;
+        let second = match second {
+            Some(what) => Some((what, args.word(what)?)),
+            None => None,
         };
-        let words = rest.iter().map(|what| args.word(what));
-        let words = words.collect::<Result<_, _>>()?;
         args.end()?;
-        Ok(Asked { verb, words })
+        Ok(Asked { verb, name, second })
+    }
+
+    /// The second word, if it is such a one.
+    fn second(&self, wanted: &str) -> Option<&OsString> {
+        let second = self.second.as_ref();
+        second
+            .filter(|(what, _)| *what == wanted)
+            .map(|(_, word)| word)
     }
 
     /// The names that are given, one or two.
     fn names(&self) -> Result<(Name, Option<Name>), Failure> {
-        let first = name(&self.words[0])?;
-        match self.verb.as_str() {
-            "mv" => Ok((first, Some(name(&self.words[1])?))),
-            _ => Ok((first, None)),
-        }
+        let new = self.second("NEW").map(|word| name(word));
+        Ok((name(&self.name)?, new.transpose()?))
     }
 
     /// The file of this machine that is given, if any.
     fn source(&self, card: &DiskCard, target: &Target) -> Result<Option<Source>, Failure> {
-        match self.verb.as_str() {
-            "append" | "put" => Source::open(&self.words[1], card.window().len(), target).map(Some),
-            _ => Ok(None),
-        }
+        let file = self.second("FILE");
+        file.map(|file| Source::open(file, card.window().len(), target))
+            .transpose()
     }
 
     /// The size that is given, if any.
     fn size(&self) -> Result<u64, Failure> {
-        match self.verb.as_str() {
-            "truncate" => number(&self.words[1].to_string_lossy(), "SIZE"),
-            _ => Ok(0),
-        }
+        let size = self.second("SIZE");
+        size.map_or(Ok(0), |size| number(&size.to_string_lossy(), "SIZE"))
     }
 
     /// The calls: one, or two for a put.
@@ -81,12 +92,13 @@ impl Asked {
         data: &'a [u8],
         size: u64,
     ) -> Vec<Operation<'a>> {
-        match self.verb.as_str() {
+        match self.verb {
             "create" => vec![Operation::Create { name }],
             "rm" => vec![Operation::Delete { name }],
             "truncate" => vec![Operation::Truncate { name, size }],
             "mv" => vec![Operation::Rename { old: name, new }],
             "append" => vec![Operation::Append { name, data }],
+            "replace" => vec![Operation::Replace { name, data }],
             _ => vec![Operation::Create { name }, Operation::Append { name, data }],
         }
     }

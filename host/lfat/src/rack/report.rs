@@ -61,6 +61,9 @@ impl Report<'_> {
             Operation::Append { name, data } => {
                 format!("append {} bytes to {}", data.len(), printed(name))
             }
+            Operation::Replace { name, data } => {
+                format!("replace {} by {} bytes", printed(name), data.len())
+            }
             Operation::Truncate { name, size } => {
                 format!("truncate {} to {size} bytes", printed(name))
             }

@@ -44,6 +44,89 @@ fn a_card_in_use() {
     );
 }
 
+/// `put --replace` and `-f`: longer, shorter, by nothing, from standard input, and a name that is not there.
+#[test]
+fn saved_over() {
+    let folder = start("over");
+    folder.lfat("put card PANEL.CUT path").done();
+    folder.write("long", &points(40_000));
+    folder.write("none", b"");
+    folder.lfat("put --replace card ROUTE.CUT path").done();
+    for (line, length) in [
+        ("put --replace card ROUTE.CUT long", 40_000),
+        ("put card ROUTE.CUT path -f", 1_300),
+        ("put -f card ROUTE.CUT none", 0),
+        ("put -f card ROUTE.CUT none", 0),
+        ("put card -f --replace ROUTE.CUT path", 1_300),
+    ] {
+        folder.lfat(line).done();
+        let back = folder.lfat("get card ROUTE.CUT").done();
+        assert_eq!(back.bytes(), points(length), "{line}");
+    }
+    folder.lfat_from("put -f card ROUTE.CUT -", "long").done();
+    let listed = folder.lfat("ls card").done().text();
+    assert_eq!(listed, "      1300  PANEL.CUT\n     40000  ROUTE.CUT\n");
+    let panel = folder.lfat("get card PANEL.CUT").done();
+    assert_eq!(panel.bytes(), points(1_300));
+    let log = folder.lfat("log card").done().text();
+    assert!(
+        log.contains(" replace committed ?OUTE.CUT slot 1 first "),
+        "{log}"
+    );
+}
+
+/// A save over a file that is cut, with every limit: the old bytes or the new ones, whole.
+#[test]
+fn saved_over_and_cut() {
+    let folder = start("over-cut");
+    folder.lfat("put card ROUTE.CUT path").done();
+    let before = folder.read("card");
+    let new: Vec<u8> = points(700).into_iter().rev().collect();
+    folder.write("new", &new);
+    // Two sectors of data, FAT2, the log record, FAT1, root directory, commit mark.
+    for limit in 0..7 {
+        folder.write("card", &before);
+        folder
+            .lfat(&format!("put -f card ROUTE.CUT new --limit {limit}"))
+            .failed(1, &format!("STOPPED after {limit} stores"));
+        folder.lfat("recover card").done();
+        let wanted = if limit < 4 {
+            points(1_300)
+        } else {
+            new.clone()
+        };
+        let back = folder.lfat("get card ROUTE.CUT").done();
+        assert_eq!(back.bytes(), wanted, "{limit}");
+    }
+    folder.write("card", &before);
+    folder.lfat("put -f card ROUTE.CUT new --limit 7").done();
+}
+
+/// A new name takes two calls with the option too: no file, an empty one, or the whole one.
+#[test]
+fn new_and_cut() {
+    let folder = start("new-cut");
+    let before = folder.read("card");
+    for limit in 0..11 {
+        folder.write("card", &before);
+        folder
+            .lfat(&format!(
+                "put --replace card ROUTE.CUT path --limit {limit}"
+            ))
+            .failed(1, "STOPPED");
+        folder.lfat("recover card").done();
+        // Create: log record, root directory, commit mark. Append: three sectors of data, FAT2, log record ..
+        let wanted = match limit {
+            0 => "",
+            1..=7 => "         0  ROUTE.CUT\n",
+            _ => "      1300  ROUTE.CUT\n",
+        };
+        assert_eq!(folder.lfat("ls card").done().text(), wanted, "{limit}");
+    }
+    folder.write("card", &before);
+    folder.lfat("put -f card ROUTE.CUT path --limit 11").done();
+}
+
 #[test]
 fn info_shows_the_card() {
     let folder = start("info");
@@ -115,6 +198,17 @@ fn help_everywhere() {
             "{help}"
         );
     }
+    let put = folder.lfat("put --help").done().text();
+    for words in [
+        "[--replace] [--limit N]",
+        "\n  --replace   ",
+        "\n  -f ",
+        "\n  --limit N ",
+    ] {
+        assert!(put.contains(words), "{words}: {put}");
+    }
+    let rack = folder.lfat("rack --help").done().text();
+    assert!(rack.contains("replace NAME FILE"), "{rack}");
 }
 
 /// After `--` a name may begin with a dash.

@@ -58,6 +58,21 @@ fn saving_source() -> String {
     )
 }
 
+/// The example that replaces, run on a card with ROUTE.CUT or without; prints the code and what the file has then.
+fn replacing_source() -> String {
+    let example = example("Example: replace");
+    assert!(example.contains("lfat_replace") && example.contains("LFAT_ABSENT"));
+    format!(
+        "#include \"lfat.h\"\n#include <stdio.h>\nstatic uint8_t card[4150 * 512];\n\
+         static const uint8_t name[] = \"ROUTE   CUT\", data[] = \"G1 X9\\n\";\n\
+         int main(void) {{\nsize_t card_len = sizeof card, data_len = 6;\nuint8_t back[2000];\nuint64_t read;\n\
+         if (fread(card, 1, card_len, stdin) != card_len) return 1;\n{{\n{example}\n\
+         printf(\"%s \", lfat_code_name(LFAT_CODE(answer)));\n}}\n\
+         read = lfat_read(card, card_len, name, 11, 0, back, sizeof back);\n\
+         fwrite(back, 1, LFAT_COUNT(read), stdout);\nreturn 0;\n}}\n"
+    )
+}
+
 /// An example that reads ROUTE.CUT; prints what it used.
 fn reading_source(words: &str) -> String {
     let example = example(words);
@@ -104,6 +119,18 @@ fn check(compiler: &str, standard: &str) -> Option<()> {
     assert_eq!(constants.printed(&[]), constants_expected().into_bytes());
     let saving = program("saving", saving_source())?;
     assert_eq!(saving.printed(&reference::card_k()), b"3 G0\n");
+
+    let replacing = program("replacing", replacing_source())?;
+    for card in [
+        card_with_route(1_300),
+        card_with_route(0),
+        reference::card_k(),
+    ] {
+        assert_eq!(replacing.printed(&card), b"DONE G1 X9\n");
+    }
+    let mut cut = card_with_route(1_300);
+    reference::append(&mut cut, b"ROUTE   CUT", &points(1_300), 6);
+    assert_eq!(replacing.printed(&cut), b"UNCLEAN ");
 
     let whole = program(
         "whole",

@@ -4,7 +4,7 @@ use crate::support::cli::Folder;
 use crate::support::random::Random;
 use crate::support::{points, spec};
 use lfat::blank::Blank;
-use lfat_card::{Answer, Card, Name};
+use lfat_card::{Answer, Card, Name, Refusal};
 use std::fs::{self, OpenOptions};
 
 /// A history through the command line and through the wrapper on a copy in memory: the same answers and bytes.
@@ -24,7 +24,7 @@ fn same_as_in_memory() {
             let length = random.below(data.len());
             folder.write("data", &data[..length]);
             let mut card = Card::new(&mut window);
-            let (line, answer) = match random.below(7) {
+            let (line, answer) = match random.below(10) {
                 0 | 1 => {
                     let created = card.create(parsed).map(drop);
                     let both = created.and_then(|()| card.append(parsed, &data[..length]));
@@ -42,6 +42,17 @@ fn same_as_in_memory() {
                     )
                 }
                 5 => (format!("rm card {name}"), card.delete(parsed)),
+                6..=8 => {
+                    // Where there is no such file, it is made.
+                    let saved = match card.replace(parsed, &data[..length]) {
+                        Err(Refusal::Absent) => {
+                            let created = card.create(parsed).map(drop);
+                            created.and_then(|()| card.append(parsed, &data[..length]))
+                        }
+                        other => other,
+                    };
+                    (format!("put --replace card {name} data"), saved)
+                }
                 _ => {
                     let new = Name::parse("D.NEW").expect("a name");
                     (format!("mv card {name} D.NEW"), card.rename(parsed, new))
@@ -78,6 +89,8 @@ fn largest_card() {
     folder.lfat("append card ROUTE.CUT data").done();
     let both = [&data[..], &data].concat();
     assert_eq!(folder.lfat("get card ROUTE.CUT").done().bytes(), both);
+    folder.lfat("put -f card ROUTE.CUT data").done();
+    assert_eq!(folder.lfat("get card ROUTE.CUT").done().bytes(), data);
     folder.lfat("info card").done();
 }
 

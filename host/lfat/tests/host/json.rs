@@ -59,6 +59,23 @@ fn every_command_that_has_it() {
         "v['operations'][0]['mismatch'].startswith('cut after')",
     );
 
+    let run = folder
+        .lfat("rack card replace ROUTE.CUT path --json --random 1")
+        .done();
+    check(
+        &folder,
+        run.bytes(),
+        "v['operations'][0]['operation'] == 'replace ROUTE.CUT by 1300 bytes: 8 stores'",
+    );
+    check(&folder, run.bytes(), "[r['last'] for r in v['operations'][0]['rows']][1:5] == ['data', 'FAT2', 'log record', 'FAT1']");
+    folder.lfat("put -f card ROUTE.CUT path").done();
+    let run = folder.lfat("log card --json").done();
+    check(
+        &folder,
+        run.bytes(),
+        "[v['records'][3][k] for k in ('operation', 'first', 'from', 'size')] == ['replace', 10, 13, 1300]",
+    );
+
     reference::append(&mut card, ROUTE, &points(1_300), 6);
     folder.write("card", &card);
     let run = folder.lfat("info card --json").failed(1, "UNCLEAN");

@@ -54,22 +54,25 @@ fn as_loglist_on_many_tables() {
     }
 }
 
-/// The whole way: an image with all five operations in its log, one of them pending.
+/// The whole way: an image with all six operations in its log, one of them pending.
 #[test]
 fn log_of_an_image() {
     let loglist = Loglist(Folder::new("log-image"));
     let mut card = card_with_route(1_300);
     reference::rename(&mut card, ROUTE, PANEL, ALL);
     reference::truncate(&mut card, PANEL, 600, ALL);
+    reference::replace(&mut card, PANEL, b"path", ALL);
     reference::delete(&mut card, PANEL, ALL);
     reference::create(&mut card, ROUTE, 1);
     loglist.0.write("card", &card);
     let text = loglist.0.lfat("log card").done().text();
     assert_eq!(text.as_bytes(), loglist.text(&card[65 * 512..73 * 512]));
-    let last = "5 0 create pending ROUTE.CUT slot 0 first 0 from 0 size 0\n";
+    let replaced = "\n4 0 replace committed ?ANEL.CUT slot 1 first 10 from 12 size 4\n";
+    assert!(text.contains(replaced), "{text}");
+    let last = "6 0 create pending ROUTE.CUT slot 0 first 0 from 0 size 0\n";
     assert!(text.starts_with("log 8 sectors\n0 0 create committed ?OUTE.CUT slot 0"));
     assert!(text.ends_with(last), "{text}");
-    assert_eq!(text.lines().count(), 8);
+    assert_eq!(text.lines().count(), 9);
 
     let raw = loglist.0.lfat("log card --raw").done();
     assert_eq!(raw.bytes(), &card[65 * 512..73 * 512]);

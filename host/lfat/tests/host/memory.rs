@@ -35,6 +35,8 @@ fn a_large_file() {
         "append card LARGE small",
         "truncate card LARGE 50331648",
         "put card SMALL small",
+        "put --replace card SMALL small",
+        "rack card replace SMALL small --random 1",
         "rack card append LARGE small --random 1",
         "rm card LARGE --limit 70",
     ] {
@@ -47,6 +49,10 @@ fn a_large_file() {
     }
     assert!(folder.read("back") == data);
     assert!(peak(&folder, "recover card") < 20_000);
+    // Nothing of the old bytes is read, and the new ones are held as those of a new file are.
+    let over = peak(&folder, "put -f card LARGE large");
+    assert!(over < 2 * (48 << 10) + 12_000, "{over} kB");
+    assert!(peak(&folder, "put -f card LARGE small") < 20_000);
 }
 
 /// A source without an end does not fit, and is not read to the end that it has not.
@@ -56,6 +62,7 @@ fn an_endless_file() {
     folder.lfat("blank card").done();
     let card = folder.read("card");
     folder.lfat("put card A /dev/zero").failed(1, "NOSPACE");
+    folder.lfat("put -f card A /dev/zero").failed(1, "NOSPACE");
     let zeros = File::open("/dev/zero").expect("zeros");
     let run = folder.run(env!("CARGO_BIN_EXE_lfat"), "put card A -", zeros.into());
     run.failed(1, "NOSPACE");

@@ -33,7 +33,11 @@ fn by_slot() {
         .failed(2, "slot: 'x' is no number");
     folder.lfat("mv card slot:1 ROUTE.CUT").failed(1, "EXISTS");
     folder.lfat("append card slot:1 path").failed(1, "NAME");
+    folder.lfat("put -f card slot:1 path").failed(1, "NAME");
     assert!(folder.read("card") == card());
+    // The lower of two slots with one name is meant.
+    folder.lfat("put -f card ROUTE.CUT path").done();
+    assert_eq!(folder.lfat("get card slot:2").done().bytes(), points(50));
     folder.lfat("mv card slot:2 KEEL").done();
     folder.lfat("rm card slot:1").done();
     assert_eq!(

@@ -64,8 +64,10 @@ fn never_onto_the_card() {
             run.failed(2, "is the card itself").errors().lines().count(),
             1
         );
-        let run = folder.lfat(&format!("put card NEW.CUT {file}"));
-        run.failed(2, "is the card itself");
+        for words in ["put card NEW.CUT", "put -f card ROUTE.CUT"] {
+            let run = folder.lfat(&format!("{words} {file}"));
+            run.failed(2, "is the card itself");
+        }
         assert!(folder.read("card") == card);
     }
 }
@@ -88,11 +90,21 @@ fn a_failed_blank_leaves_nothing() {
 /// A disk that fails in mid-save has a status of its own; the card is then recovered to old or new.
 #[test]
 fn a_disk_that_fails() {
+    for (line, start) in [
+        ("append card ROUTE.CUT path", 1_300),
+        ("put --replace card ROUTE.CUT path", 2_600),
+    ] {
+        fails(line, start);
+    }
+}
+
+/// Of a command that leaves 1,300 bytes where there were 2,600, or the other way round.
+fn fails(line: &str, start: usize) {
     let folder = folder_with("fails", &[]);
     let mut seen = Vec::new();
     for writes in 0.. {
-        folder.write("card", &card_with_route(1_300));
-        let run = folder.lfat_with_writes(writes, "append card ROUTE.CUT path");
+        folder.write("card", &card_with_route(start));
+        let run = folder.lfat_with_writes(writes, line);
         if run.status() == 0 {
             break;
         }
@@ -101,7 +113,8 @@ fn a_disk_that_fails() {
         folder.lfat("recover card").done();
         seen.push(folder.lfat("ls card").done().text());
     }
-    let (old, new) = ("      1300  ROUTE.CUT\n", "      2600  ROUTE.CUT\n");
+    let text = |size: usize| format!("{size:>10}  ROUTE.CUT\n");
+    let (old, new) = (&text(start), &text(3_900 - start));
     let wanted = [old, old, old, old, old, new, new, new];
     assert!(
         seen.iter().all(|text| text == old || text == new),

@@ -51,6 +51,11 @@ fn every_command() {
     let info = folder.lfat("info card").done().text();
     assert!(info.starts_with("partition            2, from sector 2048\n"));
     folder.lfat("rack card create A --random 1").done();
+    folder.lfat("put -f card:2 PANEL.CUT path").done();
+    folder.lfat("put -f card:2 PANEL.CUT path").done();
+    folder
+        .lfat("rack card:2 replace PANEL.CUT path --random 1")
+        .done();
     let after = folder.read("card");
     let before = disk(&card_k());
     assert!(after[..FIRST * 512] == before[..FIRST * 512]);

@@ -8,10 +8,11 @@ use lfat::rack::{run, Settings};
 use lfat_disk::lists::Planned;
 use lfat_disk::{Access, DiskCard, Operation};
 
-const OPERATIONS: [&str; 6] = [
+const OPERATIONS: [&str; 7] = [
     "create NEW.CUT",
     "append ROUTE.CUT path",
     "put NEW.CUT path",
+    "replace ROUTE.CUT path",
     "truncate ROUTE.CUT 100",
     "rm ROUTE.CUT",
     "mv ROUTE.CUT NEW.CUT",
@@ -73,6 +74,59 @@ commit                 1           1         0         1         0
 all                   10          10         6         4         0
 ";
     assert_eq!(run.text(), wanted);
+}
+
+/// The table of a replace: three sectors of new data, and old clusters freed with new ones linked in the one FAT sector.
+#[test]
+fn table_of_a_replace() {
+    let (folder, _) = start("table-replace");
+    let run = folder
+        .lfat("rack card replace ROUTE.CUT path --depth 0 --random 0")
+        .done();
+    let wanted = "\
+replace ROUTE.CUT by 1300 bytes: 8 stores
+
+last store made     cuts  recoveries       old       new  mismatch
+none                   1           1         1         0         0
+data                   3           3         3         0         0
+FAT2                   1           1         1         0         0
+log record             1           1         0         1         0
+FAT1                   1           1         0         1         0
+root                   1           1         0         1         0
+commit                 1           1         0         1         0
+all                    9           9         5         4         0
+";
+    assert_eq!(run.text(), wanted);
+    // By no bytes: no data.
+    folder.write("none", b"");
+    let run = folder.lfat("rack card replace ROUTE.CUT none").done();
+    assert!(run
+        .text()
+        .starts_with("replace ROUTE.CUT by 0 bytes: 5 stores\n"));
+    assert_eq!(totals(&run.text())[0], 6);
+}
+
+/// Wrong orders of a replace: data 1 to 3, FAT2 4, log record 5, FAT1 6, root directory 7, commit mark 8.
+#[test]
+fn wrong_turns_of_a_replace_are_noticed() {
+    let (folder, _) = start("turns-replace");
+    folder.write("other", &points(5_000)[2_000..3_300]);
+    let rack =
+        |swap: &str| folder.lfat(&format!("rack card replace ROUTE.CUT other --break={swap}"));
+    rack("4,5").failed(
+        1,
+        "cut after 4 stores (log record), one whole recovery: not the new state: FAT1 differs",
+    );
+    rack("3,5").failed(
+        1,
+        "cut after 3 stores (log record), one whole recovery: not the new state: ",
+    );
+    rack("6,8").failed(1, "cut after 6 stores (commit), one whole recovery: ");
+    rack("5,7").failed(
+        1,
+        "cut after 5 stores (root), one whole recovery: not the old state: ",
+    );
+    rack("1,3").done();
 }
 
 /// The rack can fail: with the commit mark before the root directory, the cut between the two loses the operation.
@@ -156,18 +210,24 @@ fn full_log() {
         seed: 3,
         swap: None,
     };
-    let mut card = DiskCard::on(Ram(card), Planned, Access::Read).expect("opened");
-    let report = run(&mut card, &Operation::Delete { name }, &settings).expect("granted");
-    let clearing = report
-        .cuts
-        .iter()
-        .filter(|cut| cut.last == Some(Stage::Clearing));
-    assert_eq!(clearing.count(), 8);
-    assert_eq!(report.mismatch, None);
-    assert!(report
-        .cuts
-        .iter()
-        .all(|cut| cut.mismatch == 0 && cut.old + cut.new > 8));
+    let data = &points(700)[..];
+    for operation in [
+        Operation::Delete { name },
+        Operation::Replace { name, data },
+    ] {
+        let mut card = DiskCard::on(Ram(card.clone()), Planned, Access::Read).expect("opened");
+        let report = run(&mut card, &operation, &settings).expect("granted");
+        let clearing = report
+            .cuts
+            .iter()
+            .filter(|cut| cut.last == Some(Stage::Clearing));
+        assert_eq!(clearing.count(), 8);
+        assert_eq!(report.mismatch, None);
+        assert!(report
+            .cuts
+            .iter()
+            .all(|cut| cut.mismatch == 0 && cut.old + cut.new > 8));
+    }
 }
 
 /// On a card whose files share a cluster the FATs and the root directory are compared, and the table says so.

@@ -25,10 +25,11 @@ fn refused(name: &str, card: &[u8], refusal: Refusal, lines: &[&str]) {
     }
 }
 
-pub const ALL_COMMANDS: [&str; 11] = [
+pub const ALL_COMMANDS: [&str; 13] = [
     "ls card",
     "get card ROUTE.CUT",
     "put card PANEL.CUT path",
+    "put --replace card ROUTE.CUT path",
     "append card ROUTE.CUT path",
     "truncate card ROUTE.CUT 5",
     "rm card ROUTE.CUT",
@@ -37,6 +38,7 @@ pub const ALL_COMMANDS: [&str; 11] = [
     "log card",
     "info card",
     "rack card rm ROUTE.CUT",
+    "rack card replace ROUTE.CUT path",
 ];
 
 #[test]
@@ -81,6 +83,8 @@ fn damaged_card() {
     let lines = [
         "get card ROUTE.CUT",
         "append card ROUTE.CUT path",
+        "put -f card ROUTE.CUT path",
+        "rack card replace ROUTE.CUT path",
         "truncate card ROUTE.CUT 5",
         "rm card ROUTE.CUT",
     ];
@@ -106,6 +110,7 @@ fn names_and_lengths() {
     let bad = [
         "get card route.cut",
         "put card PANELS.CUTS path",
+        "put --replace card route.cut path",
         "append card A*B path",
         "truncate card .CUT 5",
         "rm card ROUTE.",
@@ -125,24 +130,30 @@ fn names_and_lengths() {
         "truncate card PANEL.CUT 0",
         "rm card PANEL.CUT",
         "mv card PANEL.CUT KEEL",
+        "rack card replace PANEL.CUT path",
     ];
     refused("absent", &card, Refusal::Absent, &absent);
     let directory = [
         "get card SUB",
         "append card SUB path",
+        "put --replace card SUB path",
         "rm card SUB",
         "mv card SUB A",
     ];
     refused("directory", &card, Refusal::Directory, &directory);
     let exists = [
         "put card ROUTE.CUT path",
+        "put card SUB path",
         "mv card ROUTE.CUT SUB",
         "mv card ROUTE.CUT ROUTE.CUT",
     ];
     refused("exists", &card, Refusal::Exists, &exists);
     folder
         .lfat("put card ROUTE.CUT path")
-        .failed(1, "'lfat append', or remove it first with 'lfat rm'");
+        .failed(1, "Save over ROUTE.CUT with 'lfat put --replace'");
+    folder
+        .lfat("mv card ROUTE.CUT ROUTE.CUT")
+        .failed(1, "'lfat put --replace' saves over a file");
     refused(
         "length",
         &card,
@@ -151,7 +162,7 @@ fn names_and_lengths() {
     );
 }
 
-/// A put whose bytes do not fit leaves no empty file behind.
+/// A put whose bytes do not fit leaves no empty file behind. Two clusters are free, and the old file's three are not.
 #[test]
 fn full_card() {
     let mut card = card_with_route(1_300);
@@ -160,8 +171,11 @@ fn full_card() {
     }
     let lines = [
         "put card PANEL.CUT path",
+        "put --replace card PANEL.CUT path",
+        "put --replace card ROUTE.CUT path",
         "append card ROUTE.CUT path",
         "rack card put A path",
+        "rack card replace ROUTE.CUT path",
     ];
     refused("nospace", &card, Refusal::Nospace, &lines);
 
@@ -169,6 +183,13 @@ fn full_card() {
     for slot in 0..512 {
         card[33 * 512 + slot * 32..][..11].copy_from_slice(format!("F{slot:07}CUT").as_bytes());
     }
-    let lines = ["put card PANEL.CUT path", "mv card F0000000.CUT PANEL.CUT"];
+    let lines = [
+        "put card PANEL.CUT path",
+        "put -f card PANEL.CUT path",
+        "mv card F0000000.CUT PANEL.CUT",
+    ];
     refused("rootfull", &card, Refusal::Rootfull, &lines);
+    // A file that is there needs no slot.
+    let folder = folder_with("rootfull-over", &card);
+    folder.lfat("put -f card F0000000.CUT path").done();
 }

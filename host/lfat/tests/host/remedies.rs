@@ -13,7 +13,7 @@ fn what_is_missing() {
     for (line, words) in [
         (
             "put card NOTES.TXT",
-            "lfat: FILE is missing; usage: lfat put IMAGE NAME FILE [--limit N]\n",
+            "lfat: FILE is missing; usage: lfat put IMAGE NAME FILE [--replace] [--limit N]\n",
         ),
         ("put card notes.txt", "lfat: FILE is missing; "),
         ("put card", "lfat: NAME and FILE are missing; "),
@@ -41,17 +41,56 @@ fn a_put_that_was_cut() {
     folder.lfat("recover card").done();
     folder.lfat("put card ROUTE.CUT path").failed(
         1,
-        "ROUTE.CUT is there and empty, as a put that was cut leaves it: fill it with 'lfat append'",
+        "ROUTE.CUT is there and empty, as a put that was cut leaves it: fill it with 'lfat put --replace'",
     );
-    folder.lfat("append card ROUTE.CUT path").done();
+    folder.lfat("put --replace card ROUTE.CUT path").done();
     assert_eq!(
         folder.lfat("get card ROUTE.CUT").done().bytes(),
         points(1_300)
     );
+}
+
+/// A name that is taken: what the refusal says saves over it, or adds to it; of a directory it says that it is one.
+#[test]
+fn a_name_that_is_taken() {
+    let mut card = card_with_route(700);
+    reference::create(&mut card, b"SUB        ", u32::MAX);
+    card[33 * 512 + 32 + 11] = 0x10;
+    let folder = folder_with("taken", &card);
     folder.lfat("put card ROUTE.CUT path").failed(
         1,
-        "Add to ROUTE.CUT with 'lfat append', or remove it first with 'lfat rm'",
+        "EXISTS: the name is taken. Save over ROUTE.CUT with 'lfat put --replace', or add to it with 'lfat append'.",
     );
+    folder.lfat("put --replace card ROUTE.CUT path").done();
+    folder.lfat("append card ROUTE.CUT path").done();
+    let both = [points(1_300), points(1_300)].concat();
+    assert_eq!(folder.lfat("get card ROUTE.CUT").done().bytes(), both);
+    folder
+        .lfat("put card SUB path")
+        .failed(1, "SUB is a directory: save under another name.");
+}
+
+/// New bytes that do not fit beside the old ones: once another file is removed, they do.
+#[test]
+fn no_room_beside_the_old_bytes() {
+    let mut card = card_with_route(1_300);
+    reference::create(&mut card, b"OTHER      ", u32::MAX);
+    reference::append(&mut card, b"OTHER      ", &points(1_300), u32::MAX);
+    (16..4_087).for_each(|cluster| set_fats(&mut card, cluster, 0xFFF7));
+    let folder = folder_with("beside", &card);
+    folder.lfat("put -f card ROUTE.CUT path").failed(
+        1,
+        "The old bytes of ROUTE.CUT keep their room until the new ones are saved. 'lfat info' shows the free clusters; 'lfat rm' frees",
+    );
+    assert!(folder.read("card") == card);
+    folder.lfat("rm card OTHER").done();
+    folder.lfat("put -f card ROUTE.CUT path").done();
+    // An empty file has no old bytes.
+    folder.write("none", b"");
+    folder.lfat("put card EMPTY none").done();
+    folder.write("long", &points(5_000));
+    let run = folder.lfat("put -f card EMPTY long").failed(1, "NOSPACE");
+    assert!(!run.errors().contains("old bytes"), "{}", run.errors());
 }
 
 /// A card without a log: what the refusal says leads to one that has it.
@@ -79,19 +118,27 @@ fn a_card_without_a_log() {
     );
 }
 
-/// What recovery did, in words: dropped, finished, nothing.
+/// What recovery did, in words: dropped, finished, nothing. An append of four sectors; a replace by three.
 #[test]
 fn what_recovery_did() {
     let folder = folder_with("recovered", &[]);
-    for (limit, words) in [
-        (4, "nothing to recover\n"),
-        (5, "recovered: a half-made save was dropped, every file is as before it, 1 sector written\n"),
-        (6, "recovered: the save that was cut is finished (update ROUTE.CUT), 3 sectors written\n"),
-        (8, "recovered: the save that was cut is finished (update ROUTE.CUT), 2 sectors written\n"),
-    ] {
-        folder.write("card", &card_with_route(1_300));
-        folder.lfat(&format!("append card ROUTE.CUT path --limit {limit}")).failed(1, "STOPPED");
-        assert_eq!(folder.lfat("recover card").done().text(), words, "{limit}");
+    for (command, data, word) in [("append", 4, "update"), ("put -f", 3, "replace")] {
+        let finished = format!("recovered: the save that was cut is finished ({word} ROUTE.CUT)");
+        for (limit, words) in [
+            (data, "nothing to recover\n".to_string()),
+            (
+                data + 1,
+                "recovered: a half-made save was dropped, every file is as before it, 1 sector written\n".to_string(),
+            ),
+            (data + 2, format!("{finished}, 3 sectors written\n")),
+            (data + 4, format!("{finished}, 2 sectors written\n")),
+        ] {
+            folder.write("card", &card_with_route(1_300));
+            folder
+                .lfat(&format!("{command} card ROUTE.CUT path --limit {limit}"))
+                .failed(1, "STOPPED");
+            assert_eq!(folder.lfat("recover card").done().text(), words, "{limit}");
+        }
     }
 }
 

@@ -48,6 +48,17 @@ fn wrong_usage() {
     for (line, words) in [
         ("get card", "NAME is missing"),
         ("put card A", "FILE is missing"),
+        ("put card A -f", "FILE is missing"),
+        (
+            "put card A path --replace=yes",
+            "unknown option --replace=yes",
+        ),
+        ("append card ROUTE.CUT path -f", "unknown option -f"),
+        ("rack card replace ROUTE.CUT", "FILE is missing"),
+        (
+            "rack card put ROUTE.CUT path --replace",
+            "unknown option --replace",
+        ),
         ("append card ROUTE.CUT", "FILE is missing"),
         ("truncate card ROUTE.CUT", "SIZE is missing"),
         ("truncate card ROUTE.CUT -1", "unknown option -1"),

@@ -1,22 +1,26 @@
-//! The worked card in C: all eight calls.
+//! The worked card in C: all nine calls.
 
 use crate::support::c::{build, top};
 use crate::support::cli::Folder;
 use std::process::Stdio;
 
 #[test]
-fn all_eight_calls() {
+fn all_nine_calls() {
     let folder = Folder::new("worked-card");
     let program = folder.path().join("worked");
     build("gcc", "c99", &top().join("examples/worked.c"), &program).expect("gcc is there");
     let run = folder.run(&program, "", Stdio::null()).done();
     let text = run.text();
-    assert_eq!(text.lines().count(), 21);
+    assert_eq!(text.lines().count(), 33);
     for line in [
         "M3  create ROUTE.CUT: DONE 3",
         "M5  append 1300, cut after 4 stores: STOPPED 4",
         "M6  append 1300, cut after 5 stores: STOPPED 5",
         "    read: DONE 1300",
+        "    replace by 600, cut after 3 stores: STOPPED 3",
+        "    replace by 600, cut after 4 stores: STOPPED 4",
+        "    replace by 600: DONE 7",
+        "    replace by nothing again: DONE 3",
         "    truncate to 1401: LENGTH 0",
         "M10 rename, the ninth group: DONE 11",
         "    list, with room for two: DONE 3",

@@ -1,7 +1,7 @@
 //! The safe wrapper: names, entries, refusals, a card's whole life.
 
-use crate::support::points;
 use crate::support::random::Random;
+use crate::support::{points, ALL};
 use lfat_card::{calls, Answer, Card, Name, Operation, Refusal};
 use reference::card_k;
 
@@ -125,6 +125,15 @@ fn a_whole_life() {
     assert_eq!(card.read(route, 1_295, &mut part), Ok(5));
     assert_eq!(part[..5], points(1_300)[1_295..]);
     assert_eq!(part[5..], [0; 5]);
+    assert_eq!(card.replace(route, &points(700)), Ok(7));
+    assert_eq!(card.read_whole(route), Ok(points(700)));
+    assert_eq!(card.replace(panel, &points(700)), Err(Refusal::Absent));
+    let operation = Operation::Replace {
+        name: route,
+        data: &points(1_300),
+    };
+    assert_eq!(card.run(&operation, ALL), Answer::Done(8));
+    assert_eq!(card.read_whole(route), Ok(points(1_300)));
     assert_eq!(card.truncate(route, 512), Ok(5));
     assert_eq!(card.truncate(route, 513), Err(Refusal::Length));
     assert_eq!(card.rename(route, panel), Ok(3));

@@ -13,6 +13,7 @@ pub const UPDATE: u8 = 2;
 pub const DELETE: u8 = 3;
 pub const TRUNCATE: u8 = 4;
 pub const RENAME: u8 = 5;
+pub const REPLACE: u8 = 6;
 
 /// The fields we write. Long-name count, directory cluster and high words are
 /// always 0.

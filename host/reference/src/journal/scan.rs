@@ -1,6 +1,6 @@
 //! The search for a pending group, and the judging of what is found.
 
-use super::record::{CREATE, DELETE, RECORD_BYTES, RENAME, TRUNCATE, UPDATE};
+use super::record::{CREATE, DELETE, RECORD_BYTES, RENAME, REPLACE, TRUNCATE, UPDATE};
 use crate::answer::Ground;
 use crate::bytes::{get16, get32};
 use crate::name::name_at_start;
@@ -92,6 +92,8 @@ fn is_zero(bytes: &[u8]) -> bool {
 /// The change that a group of one record stands for.
 fn single_change(record: &[u8], slot: usize) -> Option<RootChange> {
     let size = get32(record, 28);
+    // The low word is all of DIR_Cluster: it is below 65,536.
+    let dir_cluster = get16(record, 22);
     match record[13] {
         CREATE => Some(RootChange::Create {
             slot,
@@ -99,16 +101,19 @@ fn single_change(record: &[u8], slot: usize) -> Option<RootChange> {
         }),
         UPDATE => {
             let was_empty = get16(record, 26) == 0;
-            // The low word is all of DIR_Cluster: it is below 65,536.
-            let first_cluster = was_empty.then_some(get16(record, 22));
             Some(RootChange::Update {
                 slot,
                 size,
-                first_cluster,
+                first_cluster: was_empty.then_some(dir_cluster),
             })
         }
         DELETE => Some(RootChange::Delete { slot }),
         TRUNCATE => Some(RootChange::Truncate { slot, size }),
+        REPLACE => Some(RootChange::Replace {
+            slot,
+            first_cluster: dir_cluster,
+            size,
+        }),
         _ => None,
     }
 }

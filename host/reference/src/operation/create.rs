@@ -32,8 +32,5 @@ pub fn plan<'a>(card: &'a [u8], name: &[u8]) -> Result<Planned<'a, 'static>, Gro
         records: vec![record],
         root: RootChange::Create { slot, name },
     };
-    Ok(Planned {
-        card,
-        change: Some(transaction),
-    })
+    Ok(transaction.on(card))
 }

@@ -4,6 +4,7 @@ mod append;
 mod create;
 mod delete;
 mod rename;
+mod replace;
 mod truncate;
 
 use crate::answer::{Answer, Ground};
@@ -17,6 +18,7 @@ use crate::transaction::Planned;
 pub enum Operation<'a> {
     Create { name: &'a [u8] },
     Append { name: &'a [u8], data: &'a [u8] },
+    Replace { name: &'a [u8], data: &'a [u8] },
     Truncate { name: &'a [u8], size: u64 },
     Delete { name: &'a [u8] },
     Rename { old: &'a [u8], new: &'a [u8] },
@@ -31,6 +33,7 @@ fn planned<'a, 'd>(
     Some(match *operation {
         Operation::Create { name } => create::plan(card, name),
         Operation::Append { name, data } => append::plan(card, name, data),
+        Operation::Replace { name, data } => replace::plan(card, name, data),
         Operation::Truncate { name, size } => truncate::plan(card, name, size),
         Operation::Delete { name } => delete::plan(card, name),
         Operation::Rename { old, new } => rename::plan(card, old, new),
@@ -71,6 +74,11 @@ pub fn create(card: &mut [u8], name: &[u8], limit: u32) -> Answer {
 /// Adds bytes at the end of a file.
 pub fn append(card: &mut [u8], name: &[u8], data: &[u8], limit: u32) -> Answer {
     run(card, &Operation::Append { name, data }, limit)
+}
+
+/// Saves over a file: it has these bytes and no others.
+pub fn replace(card: &mut [u8], name: &[u8], data: &[u8], limit: u32) -> Answer {
+    run(card, &Operation::Replace { name, data }, limit)
 }
 
 /// Shortens a file.

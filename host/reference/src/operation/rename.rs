@@ -30,23 +30,12 @@ pub fn plan<'a>(card: &'a [u8], old: &[u8], new: &[u8]) -> Result<Planned<'a, 's
             new_name,
         },
     };
-    Ok(Planned {
-        card,
-        change: Some(transaction),
-    })
+    Ok(transaction.on(card))
 }
 
 /// Record 1 is record 0 with the new name, operation 0 and the new slot.
 fn rename_records(file: &File, new_name: Name, new_slot: usize) -> Vec<Record> {
-    let old = Record {
-        name: file.name,
-        attributes: file.attributes,
-        operation: record::RENAME,
-        slot: file.slot,
-        first_or_last: file.first_cluster,
-        dir_cluster: 0,
-        size: file.size,
-    };
+    let old = file.record(record::RENAME, file.first_cluster, 0, file.size);
     let new = Record {
         name: new_name,
         operation: record::PART,

@@ -1,5 +1,6 @@
 //! Chains that grow and shrink, and the chain rule.
 
+use crate::support::worked::with_file;
 use crate::support::{pattern, planned_sectors, run_done, run_storing};
 use reference::*;
 use testkit::cards::Card;
@@ -11,15 +12,6 @@ fn append(data: &[u8]) -> Operation<'_> {
 
 fn truncate(size: u64) -> Operation<'static> {
     Operation::Truncate { name: ROUTE, size }
-}
-
-/// Card K with a file of the given size on the given chain.
-fn with_file(chain: &[u16], end: u16, size: u32) -> Card {
-    let mut card = Card::k();
-    let first = chain.first().copied().unwrap_or(0);
-    card.put_slot(0, ROUTE, 0x20, first, size);
-    card.put_chain(chain, end);
-    card
 }
 
 #[test]
@@ -195,16 +187,20 @@ fn bad_and_odd_values_are_not_free() {
 }
 
 /// The ground on which each call that follows a chain refuses.
-fn chain_grounds(card: &Card) -> [Option<Ground>; 4] {
-    let delete = Operation::Delete { name: ROUTE };
-    let append = append(b"x");
-    let truncate = truncate(0);
+fn chain_grounds(card: &Card) -> [Option<Ground>; 6] {
+    let name = ROUTE;
+    let replace = Operation::Replace { name, data: b"x" };
+    let empty = Operation::Replace { name, data: &[] };
     let read = match read(&card.bytes, ROUTE, 0, &mut []) {
         Answer::Refused(ground) => Some(ground),
         _ => None,
     };
-    let calls = [append, truncate, delete].map(|call| plan(&card.bytes, &call).err());
-    [calls[0], calls[1], calls[2], read]
+    let delete = Operation::Delete { name };
+    let calls = [append(b"x"), truncate(0), delete, replace, empty];
+    let grounds = calls.map(|call| plan(&card.bytes, &call).err());
+    [
+        grounds[0], grounds[1], grounds[2], grounds[3], grounds[4], read,
+    ]
 }
 
 #[test]
@@ -214,8 +210,8 @@ fn chain_rule() {
         let grounds = chain_grounds(&card);
         assert_eq!(file_chain(&card.bytes, 0).is_some(), grounds[0].is_none());
         match grounds {
-            [None, None, None, None] => true,
-            [Some(Ground::Chain), rest @ ..] if rest == [Some(Ground::Chain); 3] => false,
+            all if all == [None; 6] => true,
+            all if all == [Some(Ground::Chain); 6] => false,
             other => panic!("{other:?}"),
         }
     };
@@ -248,16 +244,16 @@ fn chain_rule() {
 fn chain_may_not_enter_the_log() {
     let mut card = with_file(&[], 0, 0);
     card.put_slot(0, ROUTE, 0x20, 5, 1);
-    assert_eq!(chain_grounds(&card), [Some(Ground::Chain); 4]);
+    assert_eq!(chain_grounds(&card), [Some(Ground::Chain); 6]);
     let card = with_file(&[10], 5, 600);
-    assert_eq!(chain_grounds(&card), [Some(Ground::Chain); 4]);
+    assert_eq!(chain_grounds(&card), [Some(Ground::Chain); 6]);
     let card = with_file(&[10], 5, 512);
-    assert_eq!(chain_grounds(&card), [Some(Ground::Chain); 4]);
+    assert_eq!(chain_grounds(&card), [Some(Ground::Chain); 6]);
 }
 
 #[test]
 fn chain_rule_of_a_directory_is_not_asked() {
     let mut card = with_file(&[10], 0xFFFF, 512);
     card.put_slot(1, b"FOLDER     ", 0x10, 5_000, 77);
-    assert_eq!(chain_grounds(&card), [None; 4]);
+    assert_eq!(chain_grounds(&card), [None; 6]);
 }

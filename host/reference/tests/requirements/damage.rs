@@ -2,6 +2,7 @@
 //! without altering anything, or makes its stores and no others.
 
 use crate::support::history::random_step;
+use crate::support::operation;
 use reference::*;
 use std::collections::BTreeSet;
 use testkit::cards::{random_card, Card};
@@ -16,12 +17,12 @@ fn used_card(random: &mut Random) -> Card {
     let cluster_bytes = usize::from(card.spec.sectors_per_cluster) * 512;
     for _ in 0..20 {
         let step = random_step(random, cluster_bytes);
-        run(&mut card.bytes, &step.operation(), ALL);
+        run(&mut card.bytes, &operation(&step), ALL);
     }
     if random.one_in(2) {
         let step = random_step(random, cluster_bytes);
         let limit = random.below(8) as u32;
-        run(&mut card.bytes, &step.operation(), limit);
+        run(&mut card.bytes, &operation(&step), limit);
     }
     card.bytes.extend(GUARD);
     card
@@ -99,7 +100,7 @@ fn damaged_cards() {
             grounds.extend(check_call(&mut card, &Operation::Recover, limit));
             let step = random_step(&mut random, cluster_bytes);
             let limit = random.pick(&[0, 1, 3, 6, ALL]);
-            grounds.extend(check_call(&mut card, &step.operation(), limit));
+            grounds.extend(check_call(&mut card, &operation(&step), limit));
             let name = random.pick(&crate::support::history::NAMES);
             check_reading(&card, name, &mut random);
         }
@@ -151,6 +152,7 @@ fn short_windows() {
         let window = &mut card[..length];
         assert_eq!(create(window, name, ALL), refused);
         assert_eq!(append(window, name, &[1], ALL), refused);
+        assert_eq!(replace(window, name, &[1], ALL), refused);
         assert_eq!(truncate(window, name, 0, ALL), refused);
         assert_eq!(delete(window, name, ALL), refused);
         assert_eq!(rename(window, name, b"PANEL   CUT", ALL), refused);

@@ -94,10 +94,8 @@ fn create_ladder() {
     assert!(plan(&ladder.card.bytes, &call(PANEL)).is_ok());
 }
 
-#[test]
-fn append_ladder() {
-    let data = pattern(5_000, 0);
-    let call = |name| Operation::Append { name, data: &data };
+/// Append and replace have the same grounds. The file has two clusters; one more byte than `free` clusters hold is too much.
+fn saving_ladder<'a>(call: impl Fn(&'a [u8]) -> Operation<'a>, free: u16) {
     let mut ladder = Ladder::new();
     ladder.climb(&call(BAD_NAME), Ground::Unclean);
     ladder.expect_all(&[
@@ -107,12 +105,26 @@ fn append_ladder() {
         (call(BROKEN), Ground::Chain),
         (call(ROUTE), Ground::Nospace),
     ]);
-    for cluster in 100..109 {
+    for cluster in 100..100 + free {
         ladder.card.set_fats(cluster, 0);
     }
     ladder.expect(&call(ROUTE), Ground::Nospace);
-    ladder.card.set_fats(109, 0);
+    ladder.card.set_fats(100 + free, 0);
     assert!(plan(&ladder.card.bytes, &call(ROUTE)).is_ok());
+}
+
+/// 700 and 5,000 bytes need 12 clusters, of which the file has two.
+#[test]
+fn append_ladder() {
+    let data = pattern(5_000, 0);
+    saving_ladder(|name| Operation::Append { name, data: &data }, 9);
+}
+
+/// 5,000 bytes need 10 clusters, whatever the file has.
+#[test]
+fn replace_ladder() {
+    let data = pattern(5_000, 0);
+    saving_ladder(|name| Operation::Replace { name, data: &data }, 9);
 }
 
 #[test]

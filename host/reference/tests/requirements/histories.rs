@@ -1,8 +1,10 @@
 //! Random histories next to a model that knows only names and bytes.
 
-use crate::support::history::{random_step, Step};
+use crate::support::history::random_step;
+use crate::support::operation;
 use reference::*;
 use std::collections::BTreeMap;
+use testkit::call::Call;
 use testkit::cards::{random_card, Card};
 use testkit::random::Random;
 use testkit::ALL;
@@ -53,13 +55,13 @@ impl Model {
         }
     }
 
-    fn step(&mut self, step: &Step) -> Result<(), Ground> {
+    fn step(&mut self, step: &Call) -> Result<(), Ground> {
         match step {
-            Step::Create(name) => {
+            Call::Create(name) => {
                 self.check_new(name)?;
                 self.files.insert(name.clone(), Vec::new());
             }
-            Step::Append(name, data) => {
+            Call::Append(name, data) => {
                 let size = self.find(name)?.len();
                 let more = self.clusters(size + data.len()) - self.clusters(size);
                 if more > self.free() {
@@ -67,18 +69,26 @@ impl Model {
                 }
                 self.find(name)?.extend(data);
             }
-            Step::Truncate(name, size) => {
+            Call::Replace(name, data) => {
+                self.find(name)?;
+                // The old bytes have their room until the new ones are saved.
+                if self.clusters(data.len()) > self.free() {
+                    return Err(Ground::Nospace);
+                }
+                *self.find(name)? = data.clone();
+            }
+            Call::Truncate(name, size) => {
                 let file = self.find(name)?;
                 if *size as usize > file.len() {
                     return Err(Ground::Length);
                 }
                 file.truncate(*size as usize);
             }
-            Step::Delete(name) => {
+            Call::Delete(name) => {
                 self.find(name)?;
                 self.files.remove(name);
             }
-            Step::Rename(old, new) => {
+            Call::Rename(old, new) => {
                 if new.len() != 11 {
                     return Err(Ground::Name);
                 }
@@ -87,6 +97,7 @@ impl Model {
                 let file = self.files.remove(old).unwrap();
                 self.files.insert(new.clone(), file);
             }
+            other => panic!("{other:?} changes no file"),
         }
         Ok(())
     }
@@ -115,7 +126,7 @@ fn histories_agree_with_a_model() {
         let mut model = Model::new(&card);
         for _ in 0..120 {
             let step = random_step(&mut random, model.cluster_bytes);
-            let answer = run(&mut card.bytes, &step.operation(), ALL);
+            let answer = run(&mut card.bytes, &operation(&step), ALL);
             match model.step(&step) {
                 Ok(()) => assert!(matches!(answer, Answer::Done(_)), "{seed} {step:?}"),
                 Err(ground) => {
@@ -172,7 +183,7 @@ fn taken_and_released_clusters() {
         for _ in 0..100 {
             let before = free_clusters(&card.bytes);
             let step = random_step(&mut random, cluster_bytes);
-            run(&mut card.bytes, &step.operation(), ALL);
+            run(&mut card.bytes, &operation(&step), ALL);
             let now = chains(&card);
             let released = used.iter().filter(|c| !now.contains(c));
             let mut expected: Vec<u16> = before.iter().chain(released).copied().collect();

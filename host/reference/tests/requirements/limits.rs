@@ -53,6 +53,10 @@ fn every_operation() {
             name: ROUTE,
             data: &data,
         },
+        Operation::Replace {
+            name: ROUTE,
+            data: &data,
+        },
         Operation::Truncate {
             name: ROUTE,
             size: 600,
@@ -98,6 +102,12 @@ fn the_calls_are_the_operations() {
     let operation = Operation::Append {
         name: PANEL,
         data: &data,
+    };
+    same(answer, &called, &operation, ALL);
+    let answer = replace(&mut called, PANEL, &data[..300], ALL);
+    let operation = Operation::Replace {
+        name: PANEL,
+        data: &data[..300],
     };
     same(answer, &called, &operation, ALL);
     let answer = truncate(&mut called, PANEL, 9, ALL);

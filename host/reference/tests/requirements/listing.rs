@@ -41,6 +41,7 @@ fn whole_log_of_card_k() {
     append(&mut card, ROUTE, &[1; 100], u32::MAX);
     truncate(&mut card, ROUTE, 512, u32::MAX);
     rename(&mut card, ROUTE, PANEL, u32::MAX);
+    replace(&mut card, PANEL, &[1; 700], u32::MAX);
     delete(&mut card, PANEL, 2);
     let expected = "log 8 sectors\n\
         0 0 create committed ?OUTE.CUT slot 0 first 0 from 0 size 0\n\
@@ -49,7 +50,8 @@ fn whole_log_of_card_k() {
         3 0 truncate committed ?OUTE.CUT slot 0 first 10 from 11 size 512\n\
         4 0 rename committed ?OUTE.CUT slot 0 first 10 from 0 size 512\n\
         4 1 part committed ?ANEL.CUT slot 1 first 10 from 0 size 512\n\
-        5 0 delete pending PANEL.CUT slot 1 first 10 from 0 size 512\n";
+        5 0 replace committed ?ANEL.CUT slot 1 first 10 from 11 size 700\n\
+        6 0 delete pending PANEL.CUT slot 1 first 11 from 0 size 700\n";
     assert_eq!(listing(&card[65 * 512..73 * 512]), expected);
 }
 
@@ -76,7 +78,9 @@ fn every_place_in_the_log() {
 
 #[test]
 fn operation_words() {
-    let words = ["part", "create", "update", "delete", "truncate", "rename"];
+    let words = [
+        "part", "create", "update", "delete", "truncate", "rename", "replace",
+    ];
     for operation in 0..=255u8 {
         let mut record = record_named(ROUTE);
         record[13] = operation;

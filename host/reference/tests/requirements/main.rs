@@ -17,5 +17,6 @@ mod names;
 mod power_cuts;
 mod records;
 mod recovery;
+mod replace;
 mod support;
 mod worked_card;

@@ -2,7 +2,7 @@
 //! turn, on small random cards.
 
 use crate::support::history::{random_step, NAMES};
-use crate::support::pattern;
+use crate::support::{operation, pattern};
 use reference::*;
 use testkit::cards::{random_card, Card};
 use testkit::random::Random;
@@ -151,8 +151,8 @@ fn every_cut_in_random_histories() {
         let mut card = random_card(&mut random);
         for _ in 0..40 {
             let step = random_step(&mut random, cluster_bytes(&card));
-            check_all_cuts(&mut card, &step.operation(), 1);
-            run(&mut card.bytes, &step.operation(), ALL);
+            check_all_cuts(&mut card, &operation(&step), 1);
+            run(&mut card.bytes, &operation(&step), ALL);
         }
         assert!(is_sound(&card.bytes));
     }
@@ -172,6 +172,14 @@ fn three_cut_recoveries_in_a_row() {
         Operation::Append {
             name: ROUTE,
             data: &data,
+        },
+        Operation::Replace {
+            name: ROUTE,
+            data: &data,
+        },
+        Operation::Replace {
+            name: ROUTE,
+            data: &[],
         },
         Operation::Truncate {
             name: ROUTE,
@@ -209,8 +217,8 @@ fn every_cut_on_unsound_cards() {
         for _ in 0..12 {
             unsound += usize::from(!is_sound(&card.bytes));
             let step = random_step(&mut random, cluster_bytes(&card));
-            check_all_cuts(&mut card, &step.operation(), 1);
-            run(&mut card.bytes, &step.operation(), ALL);
+            check_all_cuts(&mut card, &operation(&step), 1);
+            run(&mut card.bytes, &operation(&step), ALL);
         }
     }
     assert!(unsound > 100, "{unsound}");
@@ -263,7 +271,7 @@ fn many_short_recoveries() {
         let mut card = random_card(&mut random);
         for _ in 0..30 {
             let step = random_step(&mut random, cluster_bytes(&card));
-            check_random_cut(&mut card, &step.operation(), &mut random);
+            check_random_cut(&mut card, &operation(&step), &mut random);
         }
     }
 }

@@ -4,6 +4,9 @@ use reference::*;
 use testkit::cards::Card;
 use testkit::{OTHER, PANEL, ROUTE};
 
+/// Create, update, delete, truncate and replace: the groups of one record.
+const SINGLE: [u8; 5] = [1, 2, 3, 4, 6];
+
 /// A card with three slots in use; slot 3 is the lowest beginning 0.
 fn card() -> Card {
     let mut card = Card::k();
@@ -50,6 +53,7 @@ fn is_accepted(card: &mut Card) -> bool {
     let bytes = &mut card.bytes;
     assert_eq!(create(bytes, PANEL, 9), expected);
     assert_eq!(append(bytes, ROUTE, b"x", 9), expected);
+    assert_eq!(replace(bytes, ROUTE, b"x", 9), expected);
     assert_eq!(truncate(bytes, ROUTE, 0, 9), expected);
     assert_eq!(delete(bytes, ROUTE, 9), expected);
     assert_eq!(rename(bytes, ROUTE, PANEL, 9), expected);
@@ -70,7 +74,7 @@ fn accepts(mut card: Card, at: usize, bytes: &[u8]) -> bool {
 
 #[test]
 fn groups_are_accepted_as_written() {
-    for operation in [1, 2, 3, 4] {
+    for operation in SINGLE {
         assert!(is_accepted(&mut pending(operation)), "{operation}");
     }
     assert!(is_accepted(&mut pending_rename()));
@@ -79,7 +83,7 @@ fn groups_are_accepted_as_written() {
 #[test]
 fn operation() {
     for operation in 0..=255 {
-        let expected = (1..=4).contains(&operation);
+        let expected = SINGLE.contains(&operation);
         assert_eq!(
             is_accepted(&mut pending(operation)),
             expected,
@@ -150,7 +154,7 @@ fn dir_cluster_fits_16_bits() {
 
 #[test]
 fn slots_up_to_the_lowest_beginning_0() {
-    for operation in 1..=4 {
+    for operation in SINGLE {
         for slot in 0..=3 {
             assert!(accepts(pending(operation), 18, &[slot, 0]), "{slot}");
         }
@@ -226,7 +230,7 @@ fn a_rename_may_share_odd_fields() {
 
 #[test]
 fn other_fields_are_not_judged() {
-    for operation in 1..=4 {
+    for operation in SINGLE {
         for at in (1..12).chain([22, 23]).chain(26..32) {
             for byte in [0, 0xFF] {
                 assert!(accepts(pending(operation), at, &[byte]), "{at}");

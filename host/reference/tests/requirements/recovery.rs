@@ -93,6 +93,36 @@ fn truncate_to_nothing_clears_the_first_cluster() {
     recover_changing(card, &[33, 67], &[(3, slot)]);
 }
 
+/// First cluster and size go into the slot unjudged: a size without a cluster, a cluster without a size, and what is none.
+#[test]
+fn replace_sets_first_cluster_and_size() {
+    for (dir_cluster, size) in [
+        ([0x34, 0x12], [4, 3, 2, 1]),
+        ([0, 0], [4, 3, 2, 1]),
+        ([0x34, 0x12], [0, 0, 0, 0]),
+        ([1, 0], [0xFF; 4]),
+        ([0xFF, 0xFF], [1, 0, 0, 0]),
+    ] {
+        let mut fields = FIELDS;
+        fields[..2].copy_from_slice(&dir_cluster);
+        fields[6..].copy_from_slice(&size);
+        let card = pending(6, 3, fields);
+        let mut slot = card.slot(3).to_vec();
+        slot[26..28].copy_from_slice(&dir_cluster);
+        slot[28..].copy_from_slice(&size);
+        recover_changing(card, &[33, 67], &[(3, slot)]);
+    }
+}
+
+/// A first/last cluster of 0 makes no difference, as it does for an update.
+#[test]
+fn replace_of_an_empty_file_too() {
+    let card = pending(6, 3, FROM_EMPTY);
+    let mut slot = card.slot(3).to_vec();
+    slot[26..].copy_from_slice(&[0x34, 0x12, 4, 3, 2, 1]);
+    recover_changing(card, &[33, 67], &[(3, slot)]);
+}
+
 #[test]
 fn rename_takes_the_old_slot_as_it_stands() {
     for (old, new, sectors) in [

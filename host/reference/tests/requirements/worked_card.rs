@@ -1,5 +1,6 @@
 //! Card K worked through: M1 to M10.
 
+use crate::support::worked::{after_m3, after_m4, assert_committed, record};
 use crate::support::{pattern, run_done, run_storing, sector};
 use reference::*;
 use testkit::cards::Card;
@@ -16,20 +17,6 @@ fn truncate(size: u64) -> Operation<'static> {
     Operation::Truncate { name: ROUTE, size }
 }
 
-/// Card K after M3.
-fn after_m3() -> Card {
-    let mut card = Card::k();
-    run_done(&mut card.bytes, &CREATE);
-    card
-}
-
-/// Card K after M4.
-fn after_m4() -> Card {
-    let mut card = after_m3();
-    run_done(&mut card.bytes, &append(&pattern(1_300, 0)));
-    card
-}
-
 fn after_m7() -> Card {
     let mut card = after_m4();
     run_done(&mut card.bytes, &append(&pattern(100, 9)));
@@ -40,24 +27,6 @@ fn after_m8() -> Card {
     let mut card = after_m7();
     run_done(&mut card.bytes, &truncate(512));
     card
-}
-
-/// A log record from its fields in card order; the ones that are always 0 are
-/// left out.
-fn record(name: &[u8], operation: u8, slot: u8, dir: u8, cluster: u8, size: u16) -> Vec<u8> {
-    let mut bytes = name.to_vec();
-    bytes.extend([0x20, 0, operation, 0, 0, 0, 0, slot, 0, 0, 0]);
-    bytes.extend([dir, 0, 0, 0, cluster, 0]);
-    bytes.extend(u32::from(size).to_le_bytes());
-    bytes
-}
-
-/// The log sector holds this one record, committed, and zeros.
-fn assert_committed(card: &Card, number: usize, record: &[u8]) {
-    let log = sector(&card.bytes, number);
-    assert_eq!(log[0], 0xE5);
-    assert_eq!(log[1..32], record[1..]);
-    assert!(log[32..].iter().all(|&byte| byte == 0));
 }
 
 #[test]

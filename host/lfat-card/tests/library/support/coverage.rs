@@ -7,9 +7,10 @@ use std::collections::BTreeSet;
 pub type Seen = BTreeSet<(&'static str, u64)>;
 
 /// All that each call can answer.
-pub const POSSIBLE: [(&str, &[u64]); 8] = [
+pub const POSSIBLE: [(&str, &[u64]); 9] = [
     ("create", &[0, 1, 2, 3, 4, 5, 6, 7, 8, 11, 12, 255]),
     ("append", &[0, 1, 2, 3, 4, 5, 6, 7, 8, 9, 10, 13, 15, 255]),
+    ("replace", &[0, 1, 2, 3, 4, 5, 6, 7, 8, 9, 10, 13, 15, 255]),
     ("truncate", &[0, 1, 2, 3, 4, 5, 6, 7, 8, 9, 10, 13, 14, 255]),
     ("delete", &[0, 1, 2, 3, 4, 5, 6, 7, 8, 9, 10, 13, 255]),
     ("rename", &[0, 1, 2, 3, 4, 5, 6, 7, 8, 9, 10, 11, 12, 255]),

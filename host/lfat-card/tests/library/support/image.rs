@@ -73,6 +73,16 @@ impl Image {
         printed(program, &[&["-i", file], arguments].concat())
     }
 
+    /// Has mtools write a file, over one that is there.
+    pub fn copy_in(&mut self, data: &[u8], path: &str) {
+        let source = self.file.with_extension("source");
+        std::fs::write(&source, data).expect("the source");
+        let from = source.to_str().expect("plain path");
+        self.tool("mcopy", &["-o", from, path]);
+        std::fs::remove_file(&source).expect("the source");
+        self.load();
+    }
+
     /// The files' names in the root directory, as mtools lists them.
     pub fn listed(&self) -> Vec<String> {
         let text = String::from_utf8(self.tool("mdir", &["-b", "-a", "::"])).expect("names");

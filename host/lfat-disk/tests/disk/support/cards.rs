@@ -93,6 +93,7 @@ impl fmt::Debug for Verb {
         let words = |call: &Operation| match call {
             Operation::Create { .. } => "create".to_string(),
             Operation::Append { data, .. } => format!("append {} bytes", data.len()),
+            Operation::Replace { data, .. } => format!("replace by {} bytes", data.len()),
             Operation::Truncate { size, .. } => format!("truncate to {size}"),
             Operation::Delete { .. } => "delete".to_string(),
             Operation::Rename { .. } => "rename".to_string(),
@@ -125,6 +126,18 @@ pub fn verbs() -> Vec<Verb> {
         Operation::Append {
             name: PANEL,
             data: data(9_000),
+        },
+        Operation::Replace {
+            name: ROUTE,
+            data: data(700),
+        },
+        Operation::Replace {
+            name: PANEL,
+            data: data(9_000),
+        },
+        Operation::Replace {
+            name: PANEL,
+            data: &[],
         },
         Operation::Truncate {
             name: PANEL,

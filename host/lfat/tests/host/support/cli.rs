@@ -3,16 +3,19 @@
 use std::ffi::OsStr;
 use std::path::{Path, PathBuf};
 use std::process::{Command, Output, Stdio};
+use std::sync::atomic::{AtomicUsize, Ordering};
 use std::sync::OnceLock;
 use std::{env, fs};
 
-/// A folder that goes when the test ends.
+/// A folder that goes when the test ends. Two of one name are two folders.
 pub struct Folder(PathBuf);
 
 impl Folder {
     pub fn new(name: &str) -> Folder {
-        let path = env::temp_dir().join(format!("lfat-{}-{name}", std::process::id()));
-        fs::create_dir_all(&path).expect("a folder for the test");
+        static COUNT: AtomicUsize = AtomicUsize::new(0);
+        let number = COUNT.fetch_add(1, Ordering::Relaxed);
+        let path = env::temp_dir().join(format!("lfat-{}-{number}-{name}", std::process::id()));
+        fs::create_dir(&path).expect("a folder for the test");
         Folder(path)
     }
 

@@ -1,6 +1,6 @@
 //! Random operations on few names, so that refusals come up often too.
 
-use reference::Operation;
+use testkit::call::Call;
 use testkit::random::Random;
 use testkit::{Name, OTHER, PANEL, ROUTE};
 
@@ -12,28 +12,6 @@ pub const NAMES: [&Name; 6] = [
     b"STEM       ",
     b"SHEER_L CUT",
 ];
-
-/// An operation that owns what it is given.
-#[derive(Clone, Debug)]
-pub enum Step {
-    Create(Vec<u8>),
-    Append(Vec<u8>, Vec<u8>),
-    Truncate(Vec<u8>, u64),
-    Delete(Vec<u8>),
-    Rename(Vec<u8>, Vec<u8>),
-}
-
-impl Step {
-    pub fn operation(&self) -> Operation<'_> {
-        match self {
-            Step::Create(name) => Operation::Create { name },
-            Step::Append(name, data) => Operation::Append { name, data },
-            Step::Truncate(name, size) => Operation::Truncate { name, size: *size },
-            Step::Delete(name) => Operation::Delete { name },
-            Step::Rename(old, new) => Operation::Rename { old, new },
-        }
-    }
-}
 
 fn random_name(random: &mut Random) -> Vec<u8> {
     if random.one_in(40) {
@@ -54,19 +32,24 @@ fn random_length(random: &mut Random, cluster_bytes: usize) -> usize {
     }
 }
 
-pub fn random_step(random: &mut Random, cluster_bytes: usize) -> Step {
+/// A call that stores, and no recovery.
+pub fn random_step(random: &mut Random, cluster_bytes: usize) -> Call {
     let name = random_name(random);
-    match random.below(16) {
-        0..=3 => Step::Create(name),
+    match random.below(20) {
+        0..=3 => Call::Create(name),
         4..=8 => {
             let length = random_length(random, cluster_bytes);
-            Step::Append(name, random.bytes(length))
+            Call::Append(name, random.bytes(length))
         }
         9..=11 => {
             let size = random_length(random, cluster_bytes);
-            Step::Truncate(name, size as u64)
+            Call::Truncate(name, size as u64)
         }
-        12 | 13 => Step::Delete(name),
-        _ => Step::Rename(name, random_name(random)),
+        12 | 13 => Call::Delete(name),
+        14..=17 => {
+            let length = random_length(random, cluster_bytes);
+            Call::Replace(name, random.bytes(length))
+        }
+        _ => Call::Rename(name, random_name(random)),
     }
 }

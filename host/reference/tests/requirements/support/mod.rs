@@ -1,9 +1,16 @@
 //! What these tests share among themselves; `testkit` has what others use too.
 
 pub mod history;
+pub mod worked;
 
 use reference::{plan, run, Answer, Operation};
+use testkit::call::Call;
 use testkit::ALL;
+
+/// A call that stores.
+pub fn operation(call: &Call) -> Operation<'_> {
+    call.operation().expect("a call that stores")
+}
 
 /// The sectors that a call would store, in order.
 pub fn planned_sectors(card: &[u8], operation: &Operation) -> Vec<usize> {
