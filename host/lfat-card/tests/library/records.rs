@@ -181,7 +181,11 @@ fn odd_fields_of_a_replace() {
         sector[22..24].copy_from_slice(&u16::to_le_bytes(dir_cluster));
         sector[28..32].copy_from_slice(&u32::to_le_bytes(size));
         let mut twin = Twin::new(card());
-        twin.edit(|card| card.log_sector_mut(4).copy_from_slice(&sector));
+        twin.edit(|card| {
+            card.log_sector_mut(4).copy_from_slice(&sector);
+            // The high word too.
+            card.slot_mut(3)[12..26].fill(0x5A);
+        });
         let before = twin.card.slot(3).to_vec();
         // FAT1 sectors 0, 1 and 15, the root sector and the commit.
         assert_eq!(twin.call(&Call::Recover, ALL), Answer::Done(5));
