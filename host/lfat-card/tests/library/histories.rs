@@ -114,9 +114,25 @@ fn last_free_clusters() {
             let full = twin.call(&append(1), ALL);
             assert_eq!(full, Answer::Refused(Ground::Nospace));
             twin.done(&append(0));
+            replace_on_full_card(&mut twin, usize::from(free) + start.div_ceil(1_024));
             twin.done(&Call::Truncate(ROUTE.to_vec(), 0));
         }
     }
+}
+
+/// The file has all clusters that there are: only no bytes can take their place. Then half of them, which leaves the other half.
+fn replace_on_full_card(twin: &mut Twin, clusters: usize) {
+    let replace = |length| Call::Replace(ROUTE.to_vec(), vec![3; length]);
+    let refused = Answer::Refused(Ground::Nospace);
+    assert_eq!(twin.call(&replace(1), ALL), refused);
+    twin.done(&replace(0));
+    assert_eq!(twin.call(&replace(clusters * 1_024 + 1), ALL), refused);
+    twin.all_limits(&replace(clusters * 1_024), |twin| twin.done(&Call::Recover));
+    let half = clusters / 2;
+    twin.done(&replace(half * 1_024));
+    let left = (clusters - half) * 1_024;
+    assert_eq!(twin.call(&replace(left + 1), ALL), refused);
+    twin.done(&replace(left));
 }
 
 /// Create and rename take the last slot, whether it is deleted or at the end.

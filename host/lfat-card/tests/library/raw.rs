@@ -90,7 +90,8 @@ fn as_on_copies(call: OnTwo, start: &[u8], first: &[u8], second: &[u8], stores: 
         card
     };
     let card = run(first, second);
-    assert!(card == run(&first.to_vec(), &second.to_vec()) && card != start);
+    let (first, second) = (first.to_vec(), second.to_vec());
+    assert!(card == run(&first, &second) && card != start);
     card
 }
 
