@@ -33,7 +33,8 @@ at-place g s r h =
     rw (a, b)
 
 -- A sector whose records all begin 0 has none that pends.
-pub blank-idle : (g : Log) (s : ℕ) → all (λ i. eqb (g s (32 * i)) 0) 16 ≡ true → Sofar (pending-at g) false 0 (16 * s) → Sofar (pending-at g) false 0 (16 * (s + 1))
+pub blank-idle : (g : Log) (s : ℕ) → all (λ i. eqb (g s (32 * i)) 0) 16 ≡ true → Sofar (pending-at g) false 0 (16 * s)
+    → Sofar (pending-at g) false 0 (16 * (s + 1))
 unfolding pends tells
 blank-idle g s blank inv m l h =
     ⊎-elim

@@ -38,7 +38,8 @@ loop-again c =
     let next : c .before .entry-at .result ≡ a .k + turn .m = omega arith in (
       search needs,
       search needs,
-      adjacent-more (entry (fat1-of (a .l) (card-of (a .w .now)))) (a .k) (turn .m) (turn .inv .0) (turn .inv .2) (sym (c .before .entry-at .ensures .0) ∙ next),
+      adjacent-more (entry (fat1-of (a .l) (card-of (a .w .now)))) (a .k) (turn .m) (turn .inv .0) (turn .inv .2)
+          (sym (c .before .entry-at .ensures .0) ∙ next),
       omega (arith, c .before .entry-at .ensures .1),
     )
 
