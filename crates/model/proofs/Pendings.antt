@@ -9,7 +9,7 @@ use lib.Dec.{eqb, ltb, leb}
 use lib.ListN.{length, getD}
 use borrow.Author.Tests.{eq-eqb, eqb-true, lt-ltb, le-ltb, ltb-false, ltb-true, le-leb, leb-true, ne-eqb}
 use Rattle.model.specs.Bytes.{Bytes, zeros, pick, byte-of, overlay}
-use Rattle.model.specs.Scan.{first, between, all-from, walk}
+use Rattle.model.specs.Scan.{first, every, between, all-from, walk}
 use Rattle.model.specs.Sector.{clip}
 use Rattle.model.specs.Log.{Log}
 use Rattle.model.specs.Record.{pends, tells, committed, record-bytes, record-of, encode, lay, records, group-size, record-at}
@@ -204,6 +204,12 @@ pub record-fine : (n z : ℕ) (e : Entry) (number k from size : ℕ) → 1 ≤ n
 unfolding record-ok record-of
 record-fine n z e number k from size low high small seat =
     each-every _ (between-is 1 last-number number low high also refl also refl also refl also lt-ltb from 65536 small also slot-read n z (e .slot) seat also tt)
+
+-- The numbers that RECORD takes of record 0: 1 to 6 and no others.
+numbers : (e : Entry) → map (λ n. record-ok 1 0 (record-of (record { slot = 0; name = e .name; attributes = e .attributes }) n 0 0 0))
+    (0 ∷ 1 ∷ 2 ∷ 3 ∷ 4 ∷ 5 ∷ 6 ∷ 7 ∷ 255 ∷ []) ≡ false ∷ true ∷ true ∷ true ∷ true ∷ true ∷ true ∷ false ∷ false ∷ []
+unfolding record-ok record-of every between slot-ok
+numbers e = refl
 
 -- The second of two records, with another name, number and slot.
 pub part-fine : (n z : ℕ) (e f : Entry) (number k from size : ℕ) → f .attributes ≡ e .attributes → Seat n z (f .slot) → (e .slot ≡ f .slot → ⊥) → (i : ℕ)
