@@ -20,8 +20,9 @@ use Rattle.model.proofs.Chains.{Used, chain-used}
 use Rattle.model.proofs.Needed.{needed-mono}
 use Rattle.model.proofs.Walks.{chain-length, chain-here, chain-drop}
 use Rattle.operations.specs.Plan.{clusters-of, old-fat, last-cluster, operate, shorten, truncate-along, truncate-stores, delete-stores}
-use Rattle.file_read.specs.Files.{links}
-use Rattle.file_read.proofs.Laws.{chain-at, links-none, links-more, link-inside}
+use Rattle.fat_chain.specs.Links.{links}
+use Rattle.fat_chain.proofs.Links.{links-none, links-more}
+use Rattle.file_read.proofs.Laws.{chain-at, link-inside}
 use Rattle.fat_release.specs.Release.{cut, Inside}
 use Rattle.fat_release.proofs.Shortens.{release-cut, truncate-cut, whole-inside, inside-drop}
 use Rattle.call_truncate.specs.declared.Tail.{Tail}

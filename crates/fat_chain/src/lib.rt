@@ -2,7 +2,7 @@
 use model::Class;
 use model::Layout;
 ghost use mathlib.Core.Path.{_≡_};
-ghost use Prim.Native.Nat.{_+_, _-_, _≤_};
+ghost use Prim.Native.Nat.{_+_, _-_, _≤_, _<_};
 ghost use lib.ListN.{length};
 ghost use Rattle.model.specs.Scan.{first-from};
 ghost use Rattle.model.specs.Sector.{card-of};
@@ -10,6 +10,7 @@ ghost use Rattle.model.specs.Fat.{fat1-of, entry, in-range, is-end, free-cluste
 ghost use Rattle.model.specs.Chain.{needed, ends-after, keeps-chain};
 ghost use Rattle.model.specs.Promises.{Fits, Held};
 ghost use Rattle.fat_read.specs.Located.{holds};
+ghost use Rattle.fat_chain.specs.Links.{Adjacent};
 
 // A cluster of the card.
 fn is_inside(l: Layout, k: u32) -> bool
@@ -46,28 +47,45 @@ pub fn clusters_for(l: Layout, size: u32) -> u32
     (size - 1) / (512 * l.factor) + 1
 }
 
-// The n clusters from the first on are within range, and the last holds an end value.
+// How many clusters from k on lie one after another on the card, each linked to the next: at least 1, at most n.
+pub fn run_length(w: &[u8], l: Layout, k: u32, n: u32) -> u32
+    requires { ⌜ Held l (now w) × (k < 65536) × (1 ≤ n) ⌝ }
+    ensures { λ r. ⌜ (1 ≤ r) × (r ≤ n) × (k + r ≤ 65536) × Adjacent (entry (fat1-of l (card-of (now (w .entry))))) k r ⌝ }
+{
+    let mut m = 1;
+    while m < n {
+        if fat_read::entry_at(w, l.fat1, k + m - 1) != k + m {
+            return m;
+        }
+        m += 1;
+    }
+    m
+}
+
+// The n clusters from the first on are within range, and the last holds an end value. Clusters that lie one after another are
+// passed at once: the processor need not wait for one entry to know where the next is.
 fn ends(w: &[u8], l: Layout, first: u32, n: u32) -> bool
     requires { ⌜ Held l (now w) ⌝ }
     ensures { λ r. ⌜ r ≡ ends-after l (entry (fat1-of l (card-of (now (w .entry))))) n first ⌝ }
 {
-    let fat = l.fat1;
     let mut k = first;
     let mut left = n;
-    while 1 < left {
+    while 0 < left {
         if !is_inside(l, k) {
             return false;
         }
-        k = fat_read::entry_at(w, fat, k);
-        left -= 1;
+        let m = run_length(w, l, k, left);
+        let last = k + m - 1;
+        if !is_inside(l, last) {
+            return false;
+        }
+        k = fat_read::entry_at(w, l.fat1, last);
+        if left == m {
+            return is_end(l, k);
+        }
+        left -= m;
     }
-    if left == 0 {
-        return false;
-    }
-    if !is_inside(l, k) {
-        return false;
-    }
-    is_end(l, fat_read::entry_at(w, fat, k))
+    false
 }
 
 // The chain rule for a file with this first cluster and size. A chain has no more clusters than the card, so that a size

@@ -4,15 +4,13 @@ use native.Mathlib.Nat.{mul-le-mul, mul-le-mul-right, add-mul, mod-lt, div-add-m
 use native.Mathlib.Omega.{arith}
 use mathlib.Core.Path.{_≡_, refl, sym, ap, _∙_}
 use mathlib.Core.List.{List}
-use mathlib.Core.Bool.{Bool, true, false}
-use lib.Dec.{ltb}
-use borrow.Author.Tests.{ltb-true, ltb-false}
-use lib.ListN.{length, getD}
+use mathlib.Core.Bool.{true}
+use lib.ListN.{getD}
 use Rattle.model.specs.Bytes.{Bytes, bytes-of, overlay, part}
 use Rattle.model.specs.Sector.{Card, card-of}
 use Rattle.model.specs.Fat.{Fat, entry, fat1-of}
 use Rattle.model.specs.Chain.{chain, needed, keeps-chain, cluster-sector, file-sector}
-use Rattle.model.specs.Promises.{Fits, Held, Shape}
+use Rattle.model.specs.Promises.{Fits, Shape}
 use Rattle.model.specs.declared.Layout.{Layout}
 use Rattle.model.specs.declared.File.{File}
 use Rattle.model.proofs.Indices.{all-getD}
@@ -24,58 +22,25 @@ use Rattle.model.proofs.Walks.{chain-length}
 use Rattle.model.proofs.Needed.{needed-none, needed-some}
 use Rattle.operations.specs.Plan.{clusters-of, last-cluster}
 use Rattle.operations.specs.Reading.{file-byte, reading}
-use Rattle.file_read.specs.Files.{links, Adjacent, Adjoining, Reaches, bytes-from, Read}
+use Rattle.fat_chain.specs.Links.{links, Adjacent}
+use Rattle.fat_chain.proofs.Links.{links-none, links-shift, links-add}
+use Rattle.file_read.specs.Files.{Adjoining, Reaches, bytes-from, Read}
 use Rattle.operations.specs.Promises.{Fills}
 
 -- ---- links
 
 module _ (e : ℕ → ℕ) where
-  pub links-none : (k : ℕ) → links e 0 k ≡ k
-  unfolding links
-  links-none k = refl
-
-  pub links-more : (n k : ℕ) → links e (n + 1) k ≡ e (links e n k)
-  unfolding links
-  links-more n k = let z : n + 1 ≡ suc n = omega arith in rw z
-
-  links-shift : (n k : ℕ) → links e n (e k) ≡ links e (suc n) k
-  unfolding links
-  links-shift zero k = refl
-  links-shift (suc n) k = ap e (links-shift n k)
-
-  pub links-add : (n m k : ℕ) → links e m (links e n k) ≡ links e (n + m) k
-  unfolding links
-  links-add n zero k = let z : n + 0 ≡ n = omega arith in rw z
-  links-add n (suc m) k = let z : n + suc m ≡ suc (n + m) = omega arith in rw z (ap e (links-add n m k))
-
   -- From a cluster reached on to a later one.
   pub links-on : (first k i x r : ℕ) → k ≡ links e i first → i ≤ x → r ≡ links e (x - i) k → r ≡ links e x first
-  links-on first k i x r at le is = let z : i + (x - i) ≡ x = omega arith in is ∙ ap (links e (x - i)) at ∙ links-add i (x - i) first
+  links-on first k i x r at le is = let z : i + (x - i) ≡ x = omega arith in is ∙ ap (links e (x - i)) at ∙ links-add e i (x - i) first
       ∙ ap (λ m. links e m first) z
-
-  -- One cluster, and one more that follows on the card and in the chain.
-  pub adjacent-one : (k : ℕ) → Adjacent e k 1
-  unfolding links
-  adjacent-one k zero less = omega arith
-  adjacent-one k (suc i) less = absurd (omega arith)
-
-  pub adjacent-more : (k m : ℕ) → 1 ≤ m → Adjacent e k m → e (k + m - 1) ≡ k + m → Adjacent e k (m + 1)
-  adjacent-more k m some so next i less = go (ltb i m) refl
-    where
-      go : (t : Bool) → ltb i m ≡ t → links e i k ≡ k + i
-      go true h = so i (ltb-true i m h)
-      go false h =
-          let high : m ≤ i = ltb-false i m h in
-          let z : i ≡ m - 1 + 1 = omega arith in
-          let last : k + (m - 1) ≡ k + m - 1 = omega arith in
-          ap (λ (n : ℕ). links e n k) z ∙ links-more (m - 1) k ∙ ap e (so (m - 1) (omega arith) ∙ last) ∙ next ∙ omega arith
 
   -- The clusters of a chain are its links.
   pub chain-at : (n k i : ℕ) → i < n → getD (chain e n k) i 0 ≡ links e i k
   unfolding chain links
   chain-at zero k i h = absurd (omega arith)
   chain-at (suc n) k zero h = refl
-  chain-at (suc n) k (suc i) h = chain-at n (e k) i (omega arith) ∙ links-shift i k
+  chain-at (suc n) k (suc i) h = chain-at n (e k) i (omega arith) ∙ links-shift e i k
 
 -- The links of a file that keeps the chain rule are clusters of the card.
 pub link-inside : (l : Layout) → Fits l → (e : ℕ → ℕ) (k size : ℕ) → keeps-chain l e k size ≡ true → (i : ℕ) → i < needed l size
@@ -107,12 +72,6 @@ module _ (l : Layout) (one : 1 ≤ l .factor) (t : Fat) (f : File) where
       let n : needed l (f .size) ≡ (f .size - 1) / (512 * l .factor) + 1 = needed-some l one (f .size) h in
       is ∙ sym (chain-at (entry t) (needed l (f .size)) (f .first) (needed l (f .size) - 1) (omega arith))
       ∙ ap (λ m. getD (chain (entry t) (needed l (f .size)) (f .first)) (m - 1) 0) (sym (chain-length (entry t) (needed l (f .size)) (f .first)))
-
--- Any entry that a link can name lies in the window.
-pub in-window : (l : Layout) (xs : List ℕ) (k : ℕ) → Held l xs → k < 65536 → 512 * l .fat1 + 2 * (k + 1) ≤ length xs
-in-window l xs k h less =
-    let m : 4085 * 1 ≤ l .clusters * l .factor = mul-le-mul (h .fits .shape .many) (h .fits .shape .factor-low) in
-    omega arith
 
 -- ---- bytes of sectors
 

@@ -1,4 +1,4 @@
--- Words that the contracts use: the chain rule, links of a chain, and what reading leaves of a lent buffer.
+-- Words that the contracts use: the chain rule, sectors along a chain, and what reading leaves of a lent buffer.
 use Prim.Native.Nat.{ℕ, zero, suc, _+_, _-_, _/_, _%_, _≤_, _<_, min}
 use mathlib.Core.Path.{_≡_}
 use mathlib.Core.Bool.{true}
@@ -10,19 +10,11 @@ use Rattle.model.specs.Fat.{entry, fat1-of}
 use Rattle.model.specs.Chain.{keeps-chain, cluster-sector}
 use Rattle.model.specs.declared.Layout.{Layout}
 use Rattle.model.specs.declared.File.{File}
+use Rattle.fat_chain.specs.Links.{links}
 
 -- The file keeps the chain rule.
 abbrev pub Proper : Layout → Card → File → Type 0
 Proper l c f = keeps-chain l (entry (fat1-of l c)) (f .first) (f .size) ≡ true
-
--- The cluster n links after k, along the values e of a FAT's entries.
-unfoldable pub links : (ℕ → ℕ) → ℕ → ℕ → ℕ
-links e zero k = k
-links e (suc n) k = e (links e n k)
-
--- The n clusters from k on along the chain lie one after another on the card.
-abbrev pub Adjacent : (ℕ → ℕ) → ℕ → ℕ → Type 0
-Adjacent e k n = (i : ℕ) → i < n → links e i k ≡ k + i
 
 -- The m sectors of a file from the one number q on, which is in cluster k, lie one after another on the card.
 abbrev pub Adjoining : Layout → (ℕ → ℕ) → ℕ → ℕ → ℕ → Type 0

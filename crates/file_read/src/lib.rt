@@ -10,7 +10,8 @@ ghost use Rattle.model.specs.Chain.{cluster-sector};
 ghost use Rattle.model.specs.Promises.{Fits, Held};
 ghost use Rattle.operations.specs.Plan.{clusters-of, last-cluster};
 ghost use Rattle.operations.specs.Reading.{reading};
-ghost use Rattle.file_read.specs.Files.{Proper, links, Adjacent, Adjoining, Reaches, bytes-from, Read};
+ghost use Rattle.fat_chain.specs.Links.{links};
+ghost use Rattle.file_read.specs.Files.{Proper, Adjoining, Reaches, bytes-from, Read};
 ghost use Rattle.operations.specs.Promises.{Fills};
 
 // n, but no more than the room.
@@ -56,28 +57,13 @@ pub fn sector_in(l: Layout, k: u32, q: u32) -> u32
     fat_read::cluster_sector(l, k) + q % l.factor
 }
 
-// How many clusters from k on lie one after another on the card, each linked to the next: at least 1, at most n.
-fn run_length(w: &[u8], l: Layout, k: u32, n: u32) -> u32
-    requires { ⌜ Held l (now w) × (k < 65536) × (1 ≤ n) ⌝ }
-    ensures { λ r. ⌜ (1 ≤ r) × (r ≤ n) × Adjacent (entry (fat1-of l (card-of (now (w .entry))))) k r ⌝ }
-{
-    let mut m = 1;
-    while m < n {
-        if fat_read::entry_at(w, l.fat1, k + m - 1) != k + m {
-            return m;
-        }
-        m += 1;
-    }
-    m
-}
-
 // How many sectors of a file, from the one number q on, lie one after another: those of cluster k and of up to n more.
 fn sectors_ahead(w: &[u8], l: Layout, k: u32, q: u32, n: u32) -> u32
     requires { ⌜ Held l (now w) × Reaches l (entry (fat1-of l (card-of (now w)))) k n × (n < 4294967295) ⌝ }
     ensures { λ r. ⌜
         (1 ≤ r) × (r < 8388608) × (cluster-sector l k + q % l .factor + r ≤ l .total) × Adjoining l (entry (fat1-of l (card-of (now (w .entry))))) k q r ⌝ }
 {
-    run_length(w, l, k, n + 1) * l.factor - q % l.factor
+    fat_chain::run_length(w, l, k, n + 1) * l.factor - q % l.factor
 }
 
 // The bytes of the m sectors from s on, from an offset on, into the buffer from `done` on, up to `count`; and how far the buffer

@@ -4,7 +4,7 @@ use Rattle.model.specs.Sector.{card-of}
 use Rattle.model.specs.Fat.{fat1-of}
 use Rattle.model.specs.Chain.{needed}
 use Rattle.model.proofs.Needed.{needed-mono}
-use Rattle.file_read.proofs.Laws.{in-window}
+use Rattle.fat_chain.proofs.Links.{in-window}
 use Rattle.call_truncate.proofs.Cuts.{first-low, parts-none, parts-all, parts-some}
 use borrow.Author.Needs.{needs}
 use Rattle.call_truncate.proofs.cut_at.Statement.{statement}

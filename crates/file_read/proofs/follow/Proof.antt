@@ -3,8 +3,8 @@ use Prim.Native.Nat.{ℕ, _-_, _≤_, _<_}
 use native.Mathlib.Omega.{arith}
 use Rattle.model.specs.Sector.{card-of}
 use Rattle.model.specs.Fat.{entry, fat1-of}
-use Rattle.file_read.specs.Files.{links}
-use Rattle.file_read.proofs.Laws.{links-none, links-more, in-window}
+use Rattle.fat_chain.specs.Links.{links}
+use Rattle.fat_chain.proofs.Links.{links-none, links-more, in-window}
 use borrow.Author.Needs.{needs}
 use Rattle.file_read.proofs.follow.Statement.{statement}
 use Rattle.file_read.proofs.follow.Tie as tie

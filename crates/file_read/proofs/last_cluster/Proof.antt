@@ -4,9 +4,10 @@ use native.Mathlib.Omega.{arith}
 use Rattle.model.specs.Sector.{card-of}
 use Rattle.model.specs.Fat.{entry, fat1-of}
 use Rattle.model.specs.Chain.{needed}
-use Rattle.file_read.specs.Files.{links}
+use Rattle.fat_chain.specs.Links.{links}
 use Rattle.model.proofs.Needed.{needed-some}
-use Rattle.file_read.proofs.Laws.{links-none, link-inside, last-none, last-is}
+use Rattle.fat_chain.proofs.Links.{links-none}
+use Rattle.file_read.proofs.Laws.{link-inside, last-none, last-is}
 use borrow.Author.Needs.{needs}
 use Rattle.file_read.proofs.last_cluster.Statement.{statement}
 use Rattle.file_read.proofs.last_cluster.Tie as tie

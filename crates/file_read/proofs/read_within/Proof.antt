@@ -9,8 +9,9 @@ use Rattle.model.specs.Fat.{entry, fat1-of}
 use Rattle.model.specs.Chain.{needed}
 use Rattle.model.proofs.Overlays.{overlay-none}
 use Rattle.model.proofs.Needed.{div-mono}
-use Rattle.file_read.specs.Files.{links}
-use Rattle.file_read.proofs.Laws.{links-none, links-on, link-inside, reaches, in-needed, along, read-more, read-on, read-all}
+use Rattle.fat_chain.specs.Links.{links}
+use Rattle.fat_chain.proofs.Links.{links-none}
+use Rattle.file_read.proofs.Laws.{links-on, link-inside, reaches, in-needed, along, read-more, read-on, read-all}
 use borrow.Author.Needs.{needs}
 use Rattle.file_read.proofs.read_within.Statement.{statement}
 use Rattle.file_read.proofs.read_within.Tie as tie

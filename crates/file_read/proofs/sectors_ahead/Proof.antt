@@ -1,13 +1,14 @@
 use native.Mathlib.Omega.{arith}
 use Rattle.model.specs.Sector.{card-of}
 use Rattle.model.specs.Fat.{entry, fat1-of}
-use Rattle.file_read.proofs.Laws.{links-none, run-ahead}
+use Rattle.fat_chain.proofs.Links.{links-none}
+use Rattle.file_read.proofs.Laws.{run-ahead}
 use borrow.Author.Needs.{needs}
 use Rattle.file_read.proofs.sectors_ahead.Statement.{statement}
 use Rattle.file_read.proofs.sectors_ahead.Tie as tie
 use Rattle.file_read.proofs.sectors_ahead.Reads as reads
 use Rattle.file_read.proofs.sectors_ahead.Lts as lts
-use Rattle.file_read.proofs.run_length.Reads as run-length-reads
+use Rattle.fat_chain.proofs.run_length.Reads as run-length-reads
 
 run-length-requires : tie.Need-run-length-requires
 run-length-requires c κs =
@@ -22,7 +23,7 @@ mul-result c =
     let a = c .before .before .before .args in
     let pre = c .before .before .before .pre in
     let e = entry (fat1-of (a .l) (card-of (a .w .now))) in
-    let h = run-ahead (a .l) (pre .0 .fits .shape) e (a .k) (a .q) (a .n) (run .result) (pre .1) (run .ensures .0) (run .ensures .1) (run .ensures .2) in
+    let h = run-ahead (a .l) (pre .0 .fits .shape) e (a .k) (a .q) (a .n) (run .result) (pre .1) (run .ensures .0) (run .ensures .1) (run .ensures .3) in
     omega (arith, h .1)
 
 sub-result : tie.Need-sub-result
@@ -31,7 +32,7 @@ sub-result c =
     let a = c .before .before .before .before .args in
     let pre = c .before .before .before .before .pre in
     let e = entry (fat1-of (a .l) (card-of (a .w .now))) in
-    let h = run-ahead (a .l) (pre .0 .fits .shape) e (a .k) (a .q) (a .n) (run .result) (pre .1) (run .ensures .0) (run .ensures .1) (run .ensures .2) in
+    let h = run-ahead (a .l) (pre .0 .fits .shape) e (a .k) (a .q) (a .n) (run .result) (pre .1) (run .ensures .0) (run .ensures .1) (run .ensures .3) in
     omega (arith, h .0)
 
 returns : tie.Need-returns
@@ -40,7 +41,7 @@ returns c =
     let a = c .before .before .before .before .args in
     let pre = c .before .before .before .before .pre in
     let e = entry (fat1-of (a .l) (card-of (a .w .now))) in
-    let h = run-ahead (a .l) (pre .0 .fits .shape) e (a .k) (a .q) (a .n) (run .result) (pre .1) (run .ensures .0) (run .ensures .1) (run .ensures .2) in
+    let h = run-ahead (a .l) (pre .0 .fits .shape) e (a .k) (a .q) (a .n) (run .result) (pre .1) (run .ensures .0) (run .ensures .1) (run .ensures .3) in
     (omega (arith, h .0), omega (arith, h .1), h .2, h .3)
 
 pub sectors-ahead-spec : {M : Type 1} → statement M

@@ -3,13 +3,13 @@ use Prim.Native.Nat.{_+_, _-_, _≤_}
 use native.Mathlib.Omega.{arith}
 use Rattle.model.specs.Sector.{card-of}
 use Rattle.model.specs.Fat.{entry, fat1-of}
-use Rattle.file_read.specs.Files.{Adjacent}
-use Rattle.file_read.proofs.Laws.{adjacent-one, adjacent-more, in-window}
+use Rattle.fat_chain.specs.Links.{Adjacent}
+use Rattle.fat_chain.proofs.Links.{adjacent-one, adjacent-more, in-window}
 use borrow.Author.Needs.{needs}
-use Rattle.file_read.proofs.run_length.Statement.{statement}
-use Rattle.file_read.proofs.run_length.Tie as tie
-use Rattle.file_read.proofs.run_length.Reads as reads
-use Rattle.file_read.proofs.run_length.Lts as lts
+use Rattle.fat_chain.proofs.run_length.Statement.{statement}
+use Rattle.fat_chain.proofs.run_length.Tie as tie
+use Rattle.fat_chain.proofs.run_length.Reads as reads
+use Rattle.fat_chain.proofs.run_length.Lts as lts
 use Rattle.fat_read.proofs.entry_at.Reads as entry-at-reads
 
 abbrev Inv-loop : tie.InvT-loop
@@ -29,7 +29,7 @@ entry-at-requires c κs =
     in-window (a .l) (a .w .now) (a .k + c .before .loop .m - 1) (c .before .before .before .pre .0) (omega (arith, c .before .loop .inv))
 
 returns : tie.Need-returns Inv-loop μ-loop
-returns c = let turn = c .before .before .before .loop in (turn .inv .0, turn .inv .1, turn .inv .2)
+returns c = let turn = c .before .before .before .loop in (turn .inv .0, turn .inv .1, turn .inv .3, turn .inv .2)
 
 loop-again : tie.Need-loop-again Inv-loop μ-loop
 loop-again c =
@@ -44,7 +44,7 @@ loop-again c =
     )
 
 returns-2 : tie.Need-returns-2 Inv-loop μ-loop
-returns-2 c = let turn = c .before .loop in (turn .inv .0, turn .inv .1, turn .inv .2)
+returns-2 c = let turn = c .before .loop in (turn .inv .0, turn .inv .1, turn .inv .3, turn .inv .2)
 
 pub run-length-spec : {M : Type 1} → statement M
 run-length-spec =
