@@ -26,7 +26,7 @@ use Rattle.model.proofs.Cards.{Away}
 use Rattle.model.proofs.Chains.{Used, chain-used}
 use Rattle.operations.specs.Program.{ending, stores}
 use Rattle.operations.specs.Plan.{clusters-of, last-cluster, added, new-clusters, operate, append-along, append-stores}
-use Rattle.operations.specs.Calls.{append, unless-none}
+use Rattle.operations.specs.Calls.{append-to, append-on, append, unless-none}
 use Rattle.volume.specs.Opened.{Ready}
 use Rattle.volume.proofs.Ready.{ready-run, ready-log}
 use Rattle.file_read.specs.Files.{Proper}
@@ -38,7 +38,7 @@ use Rattle.file_append.proofs.Apart.{append-off-log}
 use Rattle.file_append.proofs.Front.{front-kept, data-cut, data-then}
 use Rattle.log_steps.specs.Steps.{log-steps}
 use Rattle.log_steps.proofs.Parts.{operate-cut, operate-ran}
-use Rattle.call_append.specs.Append.{append-to, append-on, chain-stores}
+use Rattle.call_append.specs.Append.{chain-stores}
 
 -- ---- grounds
 
@@ -47,23 +47,23 @@ module _ (w : Window) (n d : Span) where
   unfolding append _>>=_
   append-refused g e = rw e
 
-  pub append-clean : (v : Volume) → clean w ≡ granted v → append w n d ≡ append-on (w .card) v n d
-  unfolding append append-on append-to _>>=_
+  pub append-clean : (v : Volume) → clean w ≡ granted v → append w n d ≡ append-on v (w .card) n d
+  unfolding append _>>=_
   append-clean v e = rw e
 
 module _ (c : Card) (v : Volume) (f : File) (d : Span) where
   abbrev free-count : ℕ
   free-count = length (free-clusters (v .layout) (fat1-of (v .layout) c))
 
-  pub append-full : free-count < added (v .layout) f (d .size) → append-to c v f d ≡ refused Ground.Nospace
+  pub append-full : free-count < added (v .layout) f (d .size) → append-to v c f d ≡ refused Ground.Nospace
   unfolding append-to _when_ _>>_
   append-full h = rw (lt-ltb free-count (added (v .layout) f (d .size)) h)
 
-  pub append-none : added (v .layout) f (d .size) ≤ free-count → d .size ≡ 0 → append-to c v f d ≡ granted (ending [])
+  pub append-none : added (v .layout) f (d .size) ≤ free-count → d .size ≡ 0 → append-to v c f d ≡ granted (ending [])
   unfolding append-to _when_ _>>_ unless-none
   append-none h e = rw (le-ltb free-count (added (v .layout) f (d .size)) h, e)
 
-  pub append-some : added (v .layout) f (d .size) ≤ free-count → (d .size ≡ 0 → ⊥) → append-to c v f d ≡ granted (append-stores v c f d)
+  pub append-some : added (v .layout) f (d .size) ≤ free-count → (d .size ≡ 0 → ⊥) → append-to v c f d ≡ granted (append-stores v c f d)
   unfolding append-to _when_ _>>_ unless-none
   append-some h e = rw (le-ltb free-count (added (v .layout) f (d .size)) h, ne-eqb (d .size) 0 e)
 

@@ -17,12 +17,12 @@ ghost use Rattle.model.specs.Fat.{fat1-of};
 ghost use Rattle.model.specs.Promises.{Held, Ran};
 ghost use Rattle.operations.specs.Program.{stores};
 ghost use Rattle.operations.specs.Plan.{clusters-of, last-cluster, added, append-stores};
-ghost use Rattle.operations.specs.Calls.{append};
+ghost use Rattle.operations.specs.Calls.{append-to, append-on, append};
 ghost use Rattle.volume.specs.Opened.{Ready};
 ghost use Rattle.root_lookup.specs.Found.{Chained};
 ghost use Rattle.file_append.specs.Extents.{Room};
 ghost use Rattle.log_steps.specs.Did.{Did};
-ghost use Rattle.call_append.specs.Append.{append-to, append-on, chain-stores};
+ghost use Rattle.call_append.specs.Append.{chain-stores};
 
 // Steps 1 and 2: the data sectors, then FAT2.
 fn store_chain(
@@ -83,7 +83,7 @@ fn store_append(
 // NOSPACE; then the stores, none where there are no bytes to append.
 fn append_to(w: &mut [u8], v: Volume, f: File, bytes: &[u8], limit: u32) -> Outcome
     requires { ⌜ Ready v (now w) × Chained v (card-of (now w)) f ⌝ }
-    ensures { λ r. ⌜ Did limit (append-to (card-of (now (w .entry))) v f (view (now (bytes .entry)))) (now (w .entry)) (now (w .exit)) r ⌝ }
+    ensures { λ r. ⌜ Did limit (append-to v (card-of (now (w .entry))) f (view (now (bytes .entry)))) (now (w .entry)) (now (w .exit)) r ⌝ }
 {
     let l = v.layout;
     let n = file_append::added_clusters(l, f, bytes.len());
@@ -101,7 +101,7 @@ fn append_to(w: &mut [u8], v: Volume, f: File, bytes: &[u8], limit: u32) -> Outc
 fn append_on(w: &mut [u8], v: Volume, name: &[u8], bytes: &[u8], limit: u32) -> Outcome
     requires { ⌜ Ready v (now w) ⌝ }
     ensures { λ r. ⌜
-        Did limit (append-on (card-of (now (w .entry))) v (view (now (name .entry))) (view (now (bytes .entry)))) (now (w .entry)) (now (w .exit)) r ⌝ }
+        Did limit (append-on v (card-of (now (w .entry))) (view (now (name .entry))) (view (now (bytes .entry)))) (now (w .entry)) (now (w .exit)) r ⌝ }
 {
     let o = root_lookup::file_of(w, v, name);
     match o {

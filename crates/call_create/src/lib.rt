@@ -18,11 +18,10 @@ ghost use Rattle.model.specs.Sector.{card-of, window-of};
 ghost use Rattle.model.specs.Root.{name-ok};
 ghost use Rattle.model.specs.Ground.{granted};
 ghost use Rattle.operations.specs.Finish.{Slots};
-ghost use Rattle.operations.specs.Plan.{operate, old-fat};
-ghost use Rattle.operations.specs.Calls.{create, rename};
+ghost use Rattle.operations.specs.Plan.{operate, old-fat, create-stores, rename-stores};
+ghost use Rattle.operations.specs.Calls.{name-of, create-on, rename-as, rename-on, create, rename};
 ghost use Rattle.volume.specs.Opened.{Ready};
 ghost use Rattle.log_steps.specs.Did.{Did};
-ghost use Rattle.call_create.specs.Calls.{create-at, create-on, rename-to, rename-as, rename-on};
 
 // The stores of a change that needs neither data nor FAT stores.
 fn record_change(w: &mut [u8], v: Volume, x: Change, limit: u32) -> Outcome
@@ -38,7 +37,8 @@ fn record_change(w: &mut [u8], v: Volume, x: Change, limit: u32) -> Outcome
 fn create_at(w: &mut [u8], v: Volume, name: &[u8], slot: u32, limit: u32) -> Outcome
     requires { ⌜ Ready v (now w) ⌝ }
     requires { ⌜ (slot < v .layout .entries) × (name-ok (view (now name)) ≡ true) ⌝ }
-    ensures { λ r. ⌜ Did limit (granted (create-at (card-of (now (w .entry))) v (view (now (name .entry))) slot)) (now (w .entry)) (now (w .exit)) r ⌝ }
+    ensures { λ r. ⌜
+        Did limit (granted (create-stores v (card-of (now (w .entry))) slot (name-of (view (now (name .entry)))))) (now (w .entry)) (now (w .exit)) r ⌝ }
 {
     let entry = Entry {
         slot,
@@ -51,7 +51,7 @@ fn create_at(w: &mut [u8], v: Volume, name: &[u8], slot: u32, limit: u32) -> Out
 // Create, on a clean card.
 fn create_on(w: &mut [u8], v: Volume, name: &[u8], limit: u32) -> Outcome
     requires { ⌜ Ready v (now w) ⌝ }
-    ensures { λ r. ⌜ Did limit (create-on (card-of (now (w .entry))) v (view (now (name .entry)))) (now (w .entry)) (now (w .exit)) r ⌝ }
+    ensures { λ r. ⌜ Did limit (create-on v (card-of (now (w .entry))) (view (now (name .entry)))) (now (w .entry)) (now (w .exit)) r ⌝ }
 {
     if !root_names::is_name(name) {
         return Outcome::Refused(Ground::Name);
@@ -77,7 +77,8 @@ pub fn create(w: &mut [u8], name: &[u8], limit: u32) -> Outcome
 fn rename_to(w: &mut [u8], v: Volume, f: File, name: &[u8], to: u32, limit: u32) -> Outcome
     requires { ⌜ Ready v (now w) ⌝ }
     requires { ⌜ (f .entry .slot < v .layout .entries) × (to < v .layout .entries) × (name-ok (view (now name)) ≡ true) ⌝ }
-    ensures { λ r. ⌜ Did limit (granted (rename-to (card-of (now (w .entry))) v f (view (now (name .entry))) to)) (now (w .entry)) (now (w .exit)) r ⌝ }
+    ensures { λ r. ⌜
+        Did limit (granted (rename-stores v (card-of (now (w .entry))) f to (name-of (view (now (name .entry)))))) (now (w .entry)) (now (w .exit)) r ⌝ }
 {
     let entry = f.entry;
     let o = Operation::Rename {
@@ -94,7 +95,7 @@ fn rename_to(w: &mut [u8], v: Volume, f: File, name: &[u8], to: u32, limit: u32)
 fn rename_as(w: &mut [u8], v: Volume, f: File, name: &[u8], limit: u32) -> Outcome
     requires { ⌜ Ready v (now w) ⌝ }
     requires { ⌜ (f .entry .slot < v .layout .entries) × (name-ok (view (now name)) ≡ true) ⌝ }
-    ensures { λ r. ⌜ Did limit (rename-as (card-of (now (w .entry))) v f (view (now (name .entry)))) (now (w .entry)) (now (w .exit)) r ⌝ }
+    ensures { λ r. ⌜ Did limit (rename-as v (card-of (now (w .entry))) f (view (now (name .entry)))) (now (w .entry)) (now (w .exit)) r ⌝ }
 {
     let p = root_lookup::new_slot(w, v, name);
     match p {
@@ -116,7 +117,7 @@ fn are_names(old: &[u8], new: &[u8]) -> bool
 fn rename_on(w: &mut [u8], v: Volume, old: &[u8], new: &[u8], limit: u32) -> Outcome
     requires { ⌜ Ready v (now w) ⌝ }
     ensures { λ r. ⌜
-        Did limit (rename-on (card-of (now (w .entry))) v (view (now (old .entry))) (view (now (new .entry)))) (now (w .entry)) (now (w .exit)) r ⌝ }
+        Did limit (rename-on v (card-of (now (w .entry))) (view (now (old .entry))) (view (now (new .entry)))) (now (w .entry)) (now (w .exit)) r ⌝ }
 {
     if !are_names(old, new) {
         return Outcome::Refused(Ground::Name);

@@ -1,6 +1,5 @@
 -- How read and list end, by what the card and the name give.
 use Prim.Native.Nat.{ℕ, _-_}
-use native.Mathlib.Omega.{arith}
 use mathlib.Core.Path.{_≡_}
 use Rattle.model.specs.Bytes.{Span}
 use Rattle.model.specs.Sector.{Window}
@@ -8,8 +7,7 @@ use Rattle.model.specs.Ground.{refused, granted, _>>=_}
 use Rattle.model.specs.Volume.{clean}
 use Rattle.model.specs.declared.Ground.{Ground}
 use Rattle.model.specs.declared.Volume.{Volume}
-use Rattle.operations.specs.Reading.{list, read, directory-listing, shown}
-use Rattle.call_read.specs.Gave.{read-on}
+use Rattle.operations.specs.Reading.{list, read-on, read, directory-listing, shown}
 
 module _ (w : Window) where
   pub list-refused : (room : ℕ) (g : Ground) → clean w ≡ refused g → list w room ≡ refused g
@@ -26,6 +24,6 @@ module _ (w : Window) where
     unfolding read _>>=_
     read-refused g e = rw e
 
-    pub read-granted : (v : Volume) → clean w ≡ granted v → read w n offset room ≡ read-on (w .card) v n offset room
-    unfolding read read-on _>>=_
+    pub read-granted : (v : Volume) → clean w ≡ granted v → read w n offset room ≡ read-on v (w .card) n offset room
+    unfolding read _>>=_
     read-granted v e = rw e

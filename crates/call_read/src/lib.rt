@@ -8,8 +8,8 @@ ghost use lib.ListN.{length, getD};
 ghost use Rattle.model.specs.Bytes.{view, bytes-of, overlay};
 ghost use Rattle.model.specs.Sector.{card-of, window-of};
 ghost use Rattle.model.specs.Promises.{Held};
-ghost use Rattle.operations.specs.Reading.{read, list, shown, directory-listing};
-ghost use Rattle.call_read.specs.Gave.{Gave, read-on};
+ghost use Rattle.operations.specs.Reading.{read-on, read, list, shown, directory-listing};
+ghost use Rattle.call_read.specs.Gave.{Gave};
 ghost use mathlib.Core.Path.{_≡_};
 ghost use Prim.Native.Nat.{ℕ, _+_, _≤_, _<_};
 ghost use Rattle.model.specs.Root.{slot-at};
@@ -78,7 +78,7 @@ pub fn list(w: &[u8], buffer: &mut [u8]) -> Outcome
 fn read_from(w: &[u8], v: Volume, name: &[u8], offset: u64, buffer: &mut [u8]) -> Outcome
     requires { ⌜ Held (v .layout) (now w) ⌝ }
     ensures { λ r. ⌜
-        Gave (read-on (card-of (now (w .entry))) v (view (now (name .entry))) offset (length (now (buffer .entry)))) (now (buffer .entry))
+        Gave (read-on v (card-of (now (w .entry))) (view (now (name .entry))) offset (length (now (buffer .entry)))) (now (buffer .entry))
         (now (buffer .exit)) r ⌝ }
 {
     let o = root_lookup::file_of(w, v, name);

@@ -25,21 +25,20 @@ use Rattle.model.specs.declared.Operation.the-variants.{Replace}
 use Rattle.model.proofs.Cards.{Away}
 use Rattle.model.proofs.Needed.{needed-none}
 use Rattle.operations.specs.Program.{stores}
-use Rattle.operations.specs.Plan.{clusters-of, last-cluster, added, data-stores, fresh-clusters, operate, replace-along, replace-stores}
-use Rattle.operations.specs.Calls.{replace}
+use Rattle.operations.specs.Plan.{clusters-of, last-cluster, added, fresh-clusters, operate, replace-along, replace-stores}
+use Rattle.operations.specs.Calls.{replace-file, replace-on, replace}
 use Rattle.volume.specs.Opened.{Ready}
 use Rattle.volume.proofs.Ready.{ready-run, ready-log}
 use Rattle.file_read.specs.Files.{Proper}
 use Rattle.fat_release.specs.Release.{Inside}
 use Rattle.fat_write.specs.Renew.{exchanged}
 use Rattle.fat_write.proofs.Kept.{free-kept, chain-kept, exchange-kept}
-use Rattle.file_append.specs.Extents.{extended, append-data, Room, first-of}
-use Rattle.file_append.proofs.Clusters.{has-room}
+use Rattle.file_append.specs.Extents.{append-data, Room, first-of}
 use Rattle.file_append.proofs.Apart.{append-off-log}
 use Rattle.file_append.proofs.Front.{front-kept, data-cut, data-then}
 use Rattle.log_steps.specs.Steps.{log-steps}
 use Rattle.log_steps.proofs.Parts.{operate-cut, operate-ran}
-use Rattle.call_replace.specs.Replace.{emptied, replace-file, replace-on, exchange-stores}
+use Rattle.call_replace.specs.Replace.{emptied, exchange-stores}
 
 -- ---- the file without its bytes
 
@@ -70,8 +69,8 @@ module _ (w : Window) (n d : Span) where
   unfolding replace _>>=_
   replace-refused g e = rw e
 
-  pub replace-clean : (v : Volume) → clean w ≡ granted v → replace w n d ≡ replace-on (w .card) v n d
-  unfolding replace replace-on replace-file _>>=_
+  pub replace-clean : (v : Volume) → clean w ≡ granted v → replace w n d ≡ replace-on v (w .card) n d
+  unfolding replace _>>=_
   replace-clean v e = rw e
 
 -- NOSPACE asks for the clusters of an append to the file without its bytes.
@@ -79,11 +78,11 @@ module _ (c : Card) (v : Volume) (f : File) (d : Span) (one : 1 ≤ v .layout .f
   abbrev free-count : ℕ
   free-count = length (free-clusters (v .layout) (fat1-of (v .layout) c))
 
-  pub replace-full : free-count < added (v .layout) (emptied f) (d .size) → replace-file c v f d ≡ refused Ground.Nospace
+  pub replace-full : free-count < added (v .layout) (emptied f) (d .size) → replace-file v c f d ≡ refused Ground.Nospace
   unfolding replace-file _when_ _>>_
   replace-full h = rw (lt-ltb free-count (needed (v .layout) (d .size)) (rw (emptied-added (v .layout) one f (d .size)) at h))
 
-  pub replace-granted : added (v .layout) (emptied f) (d .size) ≤ free-count → replace-file c v f d ≡ granted (replace-stores v c f d)
+  pub replace-granted : added (v .layout) (emptied f) (d .size) ≤ free-count → replace-file v c f d ≡ granted (replace-stores v c f d)
   unfolding replace-file _when_ _>>_
   replace-granted h = rw (le-ltb free-count (needed (v .layout) (d .size)) (rw (emptied-added (v .layout) one f (d .size)) at h))
 

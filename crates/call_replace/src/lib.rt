@@ -17,14 +17,14 @@ ghost use Rattle.model.specs.Chain.{chain, needed};
 ghost use Rattle.model.specs.Promises.{Held, Ran};
 ghost use Rattle.operations.specs.Program.{stores};
 ghost use Rattle.operations.specs.Plan.{clusters-of, last-cluster, added, replace-stores};
-ghost use Rattle.operations.specs.Calls.{replace};
+ghost use Rattle.operations.specs.Calls.{replace-file, replace-on, replace};
 ghost use Rattle.volume.specs.Opened.{Ready};
 ghost use Rattle.root_lookup.specs.Found.{Chained};
 ghost use Rattle.fat_release.specs.Release.{Inside};
 ghost use Rattle.file_read.specs.Files as files;
 ghost use Rattle.file_append.specs.Extents.{Room};
 ghost use Rattle.log_steps.specs.Did.{Did};
-ghost use Rattle.call_replace.specs.Replace.{emptied, replace-file, replace-on, exchange-stores};
+ghost use Rattle.call_replace.specs.Replace.{emptied, exchange-stores};
 
 // Steps 1 and 2 on a file g that has no bytes: the data sectors along n new clusters, then FAT2 with these linked and the m
 // clusters from `old` on freed.
@@ -105,7 +105,7 @@ fn store_replace(w: &mut [u8], v: Volume, f: File, n: u32, bytes: &[u8], limit: 
 // NOSPACE; then the stores.
 fn replace_file(w: &mut [u8], v: Volume, f: File, bytes: &[u8], limit: u32) -> Outcome
     requires { ⌜ Ready v (now w) × Chained v (card-of (now w)) f ⌝ }
-    ensures { λ r. ⌜ Did limit (replace-file (card-of (now (w .entry))) v f (view (now (bytes .entry)))) (now (w .entry)) (now (w .exit)) r ⌝ }
+    ensures { λ r. ⌜ Did limit (replace-file v (card-of (now (w .entry))) f (view (now (bytes .entry)))) (now (w .entry)) (now (w .exit)) r ⌝ }
 {
     let l = v.layout;
     let entry = f.entry;
@@ -125,7 +125,7 @@ fn replace_file(w: &mut [u8], v: Volume, f: File, bytes: &[u8], limit: u32) -> O
 fn replace_on(w: &mut [u8], v: Volume, name: &[u8], bytes: &[u8], limit: u32) -> Outcome
     requires { ⌜ Ready v (now w) ⌝ }
     ensures { λ r. ⌜
-        Did limit (replace-on (card-of (now (w .entry))) v (view (now (name .entry))) (view (now (bytes .entry)))) (now (w .entry)) (now (w .exit)) r ⌝ }
+        Did limit (replace-on v (card-of (now (w .entry))) (view (now (name .entry))) (view (now (bytes .entry)))) (now (w .entry)) (now (w .exit)) r ⌝ }
 {
     let o = root_lookup::file_of(w, v, name);
     match o {

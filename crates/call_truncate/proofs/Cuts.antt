@@ -26,7 +26,7 @@ use Rattle.file_read.proofs.Laws.{chain-at, link-inside}
 use Rattle.fat_release.specs.Release.{cut, Inside}
 use Rattle.fat_release.proofs.Shortens.{release-cut, truncate-cut, whole-inside, inside-drop}
 use Rattle.call_truncate.specs.declared.Tail.{Tail}
-use Rattle.call_truncate.specs.Calls.{Parts}
+use Rattle.call_truncate.specs.Parts.{Parts}
 
 module _ (l : Layout) (fits : Fits l) (t : Fat) (f : File) (h : keeps-chain l (entry t) (f .first) (f .size) ≡ true) where
   abbrev ks : List ℕ

@@ -14,37 +14,36 @@ use Rattle.model.specs.declared.Ground.the-variants as Ground
 use Rattle.model.specs.declared.Volume.{Volume}
 use Rattle.operations.specs.Program.{ending}
 use Rattle.operations.specs.Plan.{truncate-stores}
-use Rattle.operations.specs.Calls.{truncate, delete, unless-none}
-use Rattle.call_truncate.specs.Calls.{delete-on, truncate-as, truncate-on}
+use Rattle.operations.specs.Calls.{truncate-as, truncate-on, delete-on, truncate, delete, unless-none}
 
 module _ (w : Window) where
   pub delete-refused : (n : Span) (g : Ground) → clean w ≡ refused g → delete w n ≡ refused g
   unfolding delete _>>=_
   delete-refused n g e = rw e
 
-  pub delete-granted : (n : Span) (v : Volume) → clean w ≡ granted v → delete w n ≡ delete-on (w .card) v n
-  unfolding delete delete-on _>>=_
+  pub delete-granted : (n : Span) (v : Volume) → clean w ≡ granted v → delete w n ≡ delete-on v (w .card) n
+  unfolding delete _>>=_
   delete-granted n v e = rw e
 
   pub truncate-refused : (n : Span) (size : ℕ) (g : Ground) → clean w ≡ refused g → truncate w n size ≡ refused g
   unfolding truncate _>>=_
   truncate-refused n size g e = rw e
 
-  pub truncate-granted : (n : Span) (size : ℕ) (v : Volume) → clean w ≡ granted v → truncate w n size ≡ truncate-on (w .card) v n size
-  unfolding truncate truncate-on truncate-as _>>=_
+  pub truncate-granted : (n : Span) (size : ℕ) (v : Volume) → clean w ≡ granted v → truncate w n size ≡ truncate-on v (w .card) n size
+  unfolding truncate _>>=_
   truncate-granted n size v e = rw e
 
 module _ (c : Card) (v : Volume) (f : File) (size : ℕ) where
-  pub as-longer : f .size < size → truncate-as c v f size ≡ refused Ground.Length
+  pub as-longer : f .size < size → truncate-as v c f size ≡ refused Ground.Length
   unfolding truncate-as _when_ _>>_
   as-longer h = rw (lt-ltb (f .size) size h)
 
-  pub as-same : f .size ≡ size → truncate-as c v f size ≡ granted (ending [])
+  pub as-same : f .size ≡ size → truncate-as v c f size ≡ granted (ending [])
   unfolding truncate-as unless-none _when_ _>>_
   as-same h =
       let z : f .size - size ≡ 0 = omega arith in
       rw (le-ltb (f .size) size (omega arith), z)
 
-  pub as-shorter : size < f .size → truncate-as c v f size ≡ granted (truncate-stores v c f size)
+  pub as-shorter : size < f .size → truncate-as v c f size ≡ granted (truncate-stores v c f size)
   unfolding truncate-as unless-none _when_ _>>_
   as-shorter h = rw (le-ltb (f .size) size (omega arith), ne-eqb (f .size - size) 0 (λ e. omega arith))

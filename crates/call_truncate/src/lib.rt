@@ -19,13 +19,13 @@ ghost use Rattle.model.specs.Promises.{Held, Ran};
 ghost use Rattle.operations.specs.Finish.{Slots};
 ghost use Rattle.operations.specs.Program.{stores};
 ghost use Rattle.operations.specs.Plan.{operate, old-fat, truncate-stores, delete-stores};
-ghost use Rattle.operations.specs.Calls.{truncate, delete};
+ghost use Rattle.operations.specs.Calls.{truncate-as, truncate-on, delete-on, truncate, delete};
 ghost use Rattle.volume.specs.Opened.{Ready};
 ghost use Rattle.root_lookup.specs.Found.{Chained};
 ghost use Rattle.file_read.specs.Files as files;
 ghost use Rattle.fat_release.specs.Release.{cut, Inside};
 ghost use Rattle.log_steps.specs.Did.{Did};
-ghost use Rattle.call_truncate.specs.Calls.{Parts, truncate-as, truncate-on, delete-on};
+ghost use Rattle.call_truncate.specs.Parts.{Parts};
 
 // The part of a chain that is freed: the last cluster kept before it, its first cluster, 0 where there is none, and how many it has.
 pub struct Tail {
@@ -76,7 +76,7 @@ fn delete_file(w: &mut [u8], v: Volume, f: File, limit: u32) -> Progress
 // Delete, on a clean card.
 fn delete_on(w: &mut [u8], v: Volume, name: &[u8], limit: u32) -> Outcome
     requires { ⌜ Ready v (now w) ⌝ }
-    ensures { λ r. ⌜ Did limit (delete-on (card-of (now (w .entry))) v (view (now (name .entry)))) (now (w .entry)) (now (w .exit)) r ⌝ }
+    ensures { λ r. ⌜ Did limit (delete-on v (card-of (now (w .entry))) (view (now (name .entry)))) (now (w .entry)) (now (w .exit)) r ⌝ }
 {
     let o = root_lookup::file_of(w, v, name);
     match o {
@@ -146,7 +146,7 @@ fn truncate_file(w: &mut [u8], v: Volume, f: File, size: u32, limit: u32) -> Pro
 fn truncate_as(w: &mut [u8], v: Volume, f: File, size: u64, limit: u32) -> Outcome
     requires { ⌜ Ready v (now w) ⌝ }
     requires { ⌜ Chained v (card-of (now w)) f ⌝ }
-    ensures { λ r. ⌜ Did limit (truncate-as (card-of (now (w .entry))) v f size) (now (w .entry)) (now (w .exit)) r ⌝ }
+    ensures { λ r. ⌜ Did limit (truncate-as v (card-of (now (w .entry))) f size) (now (w .entry)) (now (w .exit)) r ⌝ }
 {
     let present = sector::wider(f.size);
     if present < size {
@@ -161,7 +161,7 @@ fn truncate_as(w: &mut [u8], v: Volume, f: File, size: u64, limit: u32) -> Outco
 // Truncate, on a clean card.
 fn truncate_on(w: &mut [u8], v: Volume, name: &[u8], size: u64, limit: u32) -> Outcome
     requires { ⌜ Ready v (now w) ⌝ }
-    ensures { λ r. ⌜ Did limit (truncate-on (card-of (now (w .entry))) v (view (now (name .entry))) size) (now (w .entry)) (now (w .exit)) r ⌝ }
+    ensures { λ r. ⌜ Did limit (truncate-on v (card-of (now (w .entry))) (view (now (name .entry))) size) (now (w .entry)) (now (w .exit)) r ⌝ }
 {
     let o = root_lookup::file_of(w, v, name);
     match o {

@@ -52,14 +52,18 @@ unfolding ones onesIn
     Rattle.operations.specs.Plan.truncate-stores Rattle.operations.specs.Plan.delete-stores
     Rattle.operations.specs.Plan.rename-stores Rattle.operations.specs.Plan.recover-stores
     Rattle.operations.specs.Calls.slot-of Rattle.operations.specs.Calls.file-in Rattle.operations.specs.Calls.whole
-    Rattle.operations.specs.Calls.taken Rattle.operations.specs.Calls.root-full Rattle.operations.specs.Calls.create
-    Rattle.operations.specs.Calls.unless-none Rattle.operations.specs.Calls.file-of Rattle.operations.specs.Calls.append
+    Rattle.operations.specs.Calls.taken Rattle.operations.specs.Calls.root-full Rattle.operations.specs.Calls.new-slot
+    Rattle.operations.specs.Calls.file-of Rattle.operations.specs.Calls.create-on Rattle.operations.specs.Calls.unless-none
+    Rattle.operations.specs.Calls.append-to Rattle.operations.specs.Calls.append-on Rattle.operations.specs.Calls.replace-file
+    Rattle.operations.specs.Calls.replace-on Rattle.operations.specs.Calls.truncate-as Rattle.operations.specs.Calls.truncate-on
+    Rattle.operations.specs.Calls.delete-on Rattle.operations.specs.Calls.rename-as Rattle.operations.specs.Calls.rename-on
+    Rattle.operations.specs.Calls.create Rattle.operations.specs.Calls.append Rattle.operations.specs.Calls.replace
     Rattle.operations.specs.Calls.truncate Rattle.operations.specs.Calls.delete Rattle.operations.specs.Calls.rename
-    Rattle.operations.specs.Calls.replace Rattle.operations.specs.Calls.recover Rattle.operations.specs.Calls.plan
-    Rattle.operations.specs.Calls.named-file
+    Rattle.operations.specs.Calls.recover Rattle.operations.specs.Calls.plan Rattle.operations.specs.Calls.named-file
     Rattle.operations.specs.Calls.taken-by Rattle.operations.specs.Calls.released-by
     Rattle.operations.specs.Outcome.outcome Rattle.operations.specs.Outcome.made Rattle.operations.specs.Outcome.left
-    Rattle.operations.specs.Reading.file-byte Rattle.operations.specs.Reading.reading Rattle.operations.specs.Reading.read
+    Rattle.operations.specs.Reading.file-byte Rattle.operations.specs.Reading.reading Rattle.operations.specs.Reading.read-on
+    Rattle.operations.specs.Reading.read
     Rattle.operations.specs.Reading.shown Rattle.operations.specs.Reading.directory-listing Rattle.operations.specs.Reading.list
     Rattle.operations.specs.Reading.buffer-after Rattle.operations.specs.Reading.filled-outcome
 compute = tt

@@ -57,7 +57,7 @@ span n b = record { size = n; byte = b }
 -- ---- the programs: create, append 600 bytes, append 100, truncate to 512, rename, delete, each after the ones before it
 
 abbrev creation : Program
-creation = create-stores v blank one
+creation = create-stores v blank 0 one
 
 abbrev created : Card
 created = after (stores creation) blank
@@ -78,7 +78,7 @@ abbrev deletion : Bytes → Program
 deletion d = delete-stores v (appended d) (file-at l (appended d) 0)
 
 abbrev renaming : Bytes → Program
-renaming d = rename-stores v (appended d) (file-at l (appended d) 0) two
+renaming d = rename-stores v (appended d) (file-at l (appended d) 0) 1 two
 
 -- Replace of the 600 bytes by n others, and of no bytes by none.
 abbrev replacing : Bytes → ℕ → Bytes → Program

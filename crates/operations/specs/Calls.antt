@@ -46,17 +46,12 @@ taken v c n = ltb (slot-of v c n) (v .layout .entries)
 unfoldable pub root-full : Volume → Card → Bool
 root-full v c = not (ltb (free-slot (v .layout) c) (v .layout .entries))
 
-unfoldable pub create : Window → Span → Answer Program
-create w n = do
-  v ← clean w
-  Ground.Name when not (name-ok n)
-  Ground.Exists when taken v (w .card) n
-  Ground.Rootfull when root-full v (w .card)
-  granted (create-stores v (w .card) (name-of n))
-
--- "Appending 0 bytes or truncating to the present size makes no store."
-unfoldable pub unless-none : ℕ → Program → Program
-unless-none n p = pick (eqb n 0) (ending []) p
+-- The slot for a new name: "the lowest beginning 0 or 0xE5".
+unfoldable pub new-slot : Volume → Card → Span → Answer ℕ
+new-slot v c n = do
+  Ground.Exists when taken v c n
+  Ground.Rootfull when root-full v c
+  granted (free-slot (v .layout) c)
 
 -- The file that a name means, if it keeps the chain rule.
 unfoldable pub file-of : Volume → Card → Span → Answer File
@@ -64,46 +59,100 @@ file-of v c n = do
   Ground.Name when not (name-ok n)
   file-in v c (slot-of v c n) >>= whole v c
 
--- "15. NOSPACE: append needs more clusters than FAT1 has free."
-unfoldable pub append : Window → Span → Span → Answer Program
-append w n d = do
-  v ← clean w
-  f ← file-of v (w .card) n
-  Ground.Nospace when ltb (length (free-clusters (v .layout) (old-fat v (w .card)))) (added (v .layout) f (d .size))
-  granted (unless-none (d .size) (append-stores v (w .card) f d))
+-- ---- each call on a clean card: what is asked after grounds 1 to 7
+
+unfoldable pub create-on : Volume → Card → Span → Answer Program
+create-on v c n = do
+  Ground.Name when not (name-ok n)
+  s ← new-slot v c n
+  granted (create-stores v c s (name-of n))
+
+-- "Appending 0 bytes or truncating to the present size makes no store."
+unfoldable pub unless-none : ℕ → Program → Program
+unless-none n p = pick (eqb n 0) (ending []) p
+
+-- "15. NOSPACE: append needs more clusters than FAT1 has free." To a file that was found, and to the one that a name means.
+unfoldable pub append-to : Volume → Card → File → Span → Answer Program
+append-to v c f d = do
+  Ground.Nospace when ltb (length (free-clusters (v .layout) (old-fat v c))) (added (v .layout) f (d .size))
+  granted (unless-none (d .size) (append-stores v c f d))
+
+unfoldable pub append-on : Volume → Card → Span → Span → Answer Program
+append-on v c n d = do
+  f ← file-of v c n
+  append-to v c f d
 
 -- "One call should replace a file's bytes." "Answers: append's grounds", NOSPACE for all clusters of the new bytes. "A replace always
 -- writes a group."
+unfoldable pub replace-file : Volume → Card → File → Span → Answer Program
+replace-file v c f d = do
+  Ground.Nospace when ltb (length (free-clusters (v .layout) (old-fat v c))) (needed (v .layout) (d .size))
+  granted (replace-stores v c f d)
+
+unfoldable pub replace-on : Volume → Card → Span → Span → Answer Program
+replace-on v c n d = do
+  f ← file-of v c n
+  replace-file v c f d
+
+-- "14. LENGTH: truncate asks more than the present size."
+unfoldable pub truncate-as : Volume → Card → File → ℕ → Answer Program
+truncate-as v c f size = do
+  Ground.Length when ltb (f .size) size
+  granted (unless-none (f .size - size) (truncate-stores v c f size))
+
+unfoldable pub truncate-on : Volume → Card → Span → ℕ → Answer Program
+truncate-on v c n size = do
+  f ← file-of v c n
+  truncate-as v c f size
+
+unfoldable pub delete-on : Volume → Card → Span → Answer Program
+delete-on v c n = do
+  f ← file-of v c n
+  granted (delete-stores v c f)
+
+-- "a rename to itself too" is EXISTS. No CHAIN is asked.
+unfoldable pub rename-as : Volume → Card → File → Span → Answer Program
+rename-as v c f m = do
+  s ← new-slot v c m
+  granted (rename-stores v c f s (name-of m))
+
+unfoldable pub rename-on : Volume → Card → Span → Span → Answer Program
+rename-on v c n m = do
+  Ground.Name when not (name-ok n && name-ok m)
+  f ← file-in v c (slot-of v c n)
+  rename-as v c f m
+
+-- ---- the calls
+
+unfoldable pub create : Window → Span → Answer Program
+create w n = do
+  v ← clean w
+  create-on v (w .card) n
+
+unfoldable pub append : Window → Span → Span → Answer Program
+append w n d = do
+  v ← clean w
+  append-on v (w .card) n d
+
 unfoldable pub replace : Window → Span → Span → Answer Program
 replace w n d = do
   v ← clean w
-  f ← file-of v (w .card) n
-  Ground.Nospace when ltb (length (free-clusters (v .layout) (old-fat v (w .card)))) (needed (v .layout) (d .size))
-  granted (replace-stores v (w .card) f d)
+  replace-on v (w .card) n d
 
--- "14. LENGTH: truncate asks more than the present size."
 unfoldable pub truncate : Window → Span → ℕ → Answer Program
 truncate w n size = do
   v ← clean w
-  f ← file-of v (w .card) n
-  Ground.Length when ltb (f .size) size
-  granted (unless-none (f .size - size) (truncate-stores v (w .card) f size))
+  truncate-on v (w .card) n size
 
 unfoldable pub delete : Window → Span → Answer Program
 delete w n = do
   v ← clean w
-  f ← file-of v (w .card) n
-  granted (delete-stores v (w .card) f)
+  delete-on v (w .card) n
 
--- "a rename to itself too" is EXISTS. No CHAIN is asked.
 unfoldable pub rename : Window → Span → Span → Answer Program
 rename w n m = do
   v ← clean w
-  Ground.Name when not (name-ok n && name-ok m)
-  f ← file-in v (w .card) (slot-of v (w .card) n)
-  Ground.Exists when taken v (w .card) m
-  Ground.Rootfull when root-full v (w .card)
-  granted (rename-stores v (w .card) f (name-of m))
+  rename-on v (w .card) n m
 
 -- "Recovery asks 1 to 6"
 unfoldable pub recover : Window → Answer Program

@@ -8,7 +8,6 @@ use Rattle.model.specs.Scan.{range}
 use Rattle.model.specs.Sector.{Card, Store, store, put, after}
 use Rattle.model.specs.Fat.{Fat, entry, fat1-of, fat2-of, free-clusters, link, release, write-fat}
 use Rattle.model.specs.Chain.{needed, chain, file-sector}
-use Rattle.model.specs.Root.{free-slot}
 use Rattle.model.specs.Log.{Log, log-of, unused}
 use Rattle.model.specs.Record.{plain, encode, group-of, group-in}
 use Rattle.model.specs.declared.Layout.{Layout}
@@ -57,9 +56,8 @@ operate v c data-stores f x = journal (v .layout) c (new-group (v .log) c x) (pr
 abbrev pub old-fat : Volume → Card → Fat
 old-fat v c = fat1-of (v .layout) c
 
-unfoldable pub create-stores : Volume → Card → Name → Program
-create-stores v c name =
-    operate v c [] (old-fat v c) (plain (Create (record { slot = free-slot (v .layout) c; name = name; attributes = 0x20 })))
+unfoldable pub create-stores : Volume → Card → ℕ → Name → Program
+create-stores v c s name = operate v c [] (old-fat v c) (plain (Create (record { slot = s; name = name; attributes = 0x20 })))
 
 -- The clusters of a file.
 unfoldable pub clusters-of : Layout → Fat → File → List ℕ
@@ -127,9 +125,8 @@ unfoldable pub delete-stores : Volume → Card → File → Program
 delete-stores v c f =
     operate v c [] (release (clusters-of (v .layout) (old-fat v c) f) (old-fat v c)) (plain (Delete (f .entry) (f .first) (f .size)))
 
-unfoldable pub rename-stores : Volume → Card → File → Name → Program
-rename-stores v c f name =
-    operate v c [] (old-fat v c) (plain (Rename (f .entry) (f .first) (f .size) (free-slot (v .layout) c) name))
+unfoldable pub rename-stores : Volume → Card → File → ℕ → Name → Program
+rename-stores v c f s name = operate v c [] (old-fat v c) (plain (Rename (f .entry) (f .first) (f .size) s name))
 
 -- Replace "takes new clusters, for which the old ones do not count as free": the lowest free ones, as many as n bytes need.
 unfoldable pub fresh-clusters : Volume → Card → ℕ → List ℕ

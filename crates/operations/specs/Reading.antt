@@ -12,6 +12,7 @@ use Rattle.model.specs.Ground.{Answer, refused, granted, _>>=_}
 use Rattle.model.specs.Volume.{clean}
 use Rattle.model.specs.declared.Layout.{Layout}
 use Rattle.model.specs.declared.File.{File}
+use Rattle.model.specs.declared.Volume.{Volume}
 use Rattle.model.specs.declared.Outcome.{Outcome}
 use Rattle.model.specs.declared.Outcome.the-variants.{Refused, Done}
 use Rattle.operations.specs.Plan.{clusters-of}
@@ -33,11 +34,16 @@ reading l c f offset room =
     let n = min room (f .size - offset) in
     record { count = n; bytes = record { size = n; byte = λ i. file-byte l c f (offset + i) } }
 
+-- On a clean card, and on any window.
+unfoldable pub read-on : Volume → Card → Span → ℕ → ℕ → Answer Filled
+read-on v c n offset room = do
+  f ← file-of v c n
+  granted (reading (v .layout) c f offset room)
+
 unfoldable pub read : Window → Span → ℕ → ℕ → Answer Filled
 read w n offset room = do
   v ← clean w
-  f ← file-of v (w .card) n
-  granted (reading (v .layout) (w .card) f offset room)
+  read-on v (w .card) n offset room
 
 -- "List copies live slots without bit 0x08, in slot order, as many as fit whole, touches no byte after them, and gives how many
 -- there are."

@@ -5,13 +5,10 @@ use mathlib.Core.Bool.{true}
 use Rattle.model.specs.Sector.{Card}
 use Rattle.model.specs.Fat.{entry, fat1-of}
 use Rattle.model.specs.Chain.{keeps-chain}
-use Rattle.model.specs.Root.{file-at, free-slot}
-use Rattle.model.specs.Bytes.{Span}
-use Rattle.model.specs.Ground.{Answer, refused, granted, _when_, _>>_}
+use Rattle.model.specs.Root.{file-at}
+use Rattle.model.specs.Ground.{Answer, refused, granted}
 use Rattle.model.specs.declared.File.{File}
 use Rattle.model.specs.declared.Volume.{Volume}
-use Rattle.model.specs.declared.Ground.the-variants as Ground
-use Rattle.operations.specs.Calls.{taken, root-full}
 use Rattle.root_lookup.specs.declared.Found.{Found}
 use Rattle.root_lookup.specs.declared.Found.the-variants.{Missing, At}
 use Rattle.root_lookup.specs.declared.Vacancy.{Vacancy}
@@ -43,13 +40,6 @@ Opens v c (At f) = Chained v c f
 abbrev pub vacancy-of : Vacancy → Answer ℕ
 vacancy-of (Denied g) = refused g
 vacancy-of (Slot s) = granted s
-
--- EXISTS and ROOTFULL of a new name, and "the lowest beginning 0 or 0xE5".
-unfoldable pub new-slot : Volume → Card → Span → Answer ℕ
-new-slot v c n = do
-  Ground.Exists when taken v c n
-  Ground.Rootfull when root-full v c
-  granted (free-slot (v .layout) c)
 
 -- A slot that is given is one of n.
 abbrev pub Below : ℕ → Vacancy → Type 0

@@ -9,8 +9,8 @@ ghost use Rattle.model.specs.Bytes.{view};
 ghost use Rattle.model.specs.Sector.{card-of};
 ghost use Rattle.model.specs.Root.{name-ok};
 ghost use Rattle.model.specs.Promises.{Held};
-ghost use Rattle.operations.specs.Calls.{slot-of, file-in, whole, file-of, taken};
-ghost use Rattle.root_lookup.specs.Found.{found-of, Seated, SeatedAt, Opens, vacancy-of, new-slot, Below};
+ghost use Rattle.operations.specs.Calls.{slot-of, file-in, whole, file-of, taken, new-slot};
+ghost use Rattle.root_lookup.specs.Found.{found-of, Seated, SeatedAt, Opens, vacancy-of, Below};
 
 // A file, or the ground on which there is none.
 pub enum Found {

@@ -23,8 +23,9 @@ use Rattle.model.specs.declared.Volume.{Volume}
 use Rattle.operations.specs.Program.{Program, ending}
 use Rattle.operations.specs.Plan.{operate, create-stores, rename-stores, delete-stores, truncate-stores, truncate-along, append-stores, append-along}
 use Rattle.operations.specs.Plan.{replace-stores, replace-along, clusters-of, new-clusters, added, fresh-clusters}
-use Rattle.operations.specs.Calls.{creates, renames, deletes, truncates, appends, plan, create, rename, delete, truncate, append, unless-none, taken}
-use Rattle.operations.specs.Calls.{replaces, replace, root-full, file-in, file-of, slot-of, name-of}
+use Rattle.operations.specs.Calls.{creates, renames, deletes, truncates, appends, replaces, plan, create, rename, delete, truncate, append, replace}
+use Rattle.operations.specs.Calls.{create-on, rename-on, delete-on, truncate-on, append-on, replace-on, rename-as, truncate-as, append-to, replace-file}
+use Rattle.operations.specs.Calls.{unless-none, taken, root-full, new-slot, file-in, file-of, slot-of, name-of}
 use Rattle.model.proofs.Needed.{needed-none}
 use Rattle.operations.proofs.Added.{added-sum}
 use Rattle.safety.specs.Sound.{proper}
@@ -68,6 +69,14 @@ module _ {size : ℕ} {c : Card} (st : Start size c) (is : clean (window size c)
   unfolding taken
   unused n h = ltb-false (at n) (l .entries) h
 
+  placed : (n : Span) (s : ℕ) → new-slot v c n ≡ granted s → (l .entries ≤ at n) × (free-slot l c < l .entries) × (free-slot l c ≡ s)
+  unfolding new-slot
+  placed n s h =
+      let h1 = asked Ground.Exists (taken v c n) _ s h in
+      let h2 = asked Ground.Rootfull (root-full v c) _ s (h1 .1) in
+      let e : granted (free-slot l c) ≡ granted s = h2 .1 in
+      (unused n (h1 .0), room-in (h2 .0), (cc))
+
   pub live-at : (n : Span) → at n < l .entries → Live l c (at n)
   unfolding slot-of
   live-at n less = found-live l c (name-of n) less
@@ -85,13 +94,14 @@ module _ {size : ℕ} {c : Card} (st : Start size c) (is : clean (window size c)
     pub same : operate v c [] fat (creates-as st n) ≡ p
 
   pub create-granted : (n : Span) (p : Program) → plan (creates n) w ≡ granted p → Created n p
-  unfolding plan create create-stores
+  unfolding plan create create-on create-stores
   create-granted n p h =
       let h1 = asked Ground.Name (not (name-ok n)) _ p (opened _ (granted p) h) in
-      let h2 = asked Ground.Exists (taken v c n) _ p (h1 .1) in
-      let h3 = asked Ground.Rootfull (root-full v c) _ p (h2 .1) in
-      let e : granted (create-stores v c (name-of n)) ≡ granted p = h3 .1 in
-      record { ok = not-false (name-ok n) (h1 .0); unused = unused n (h2 .0); room = room-in (h3 .0); same = cc }
+      let b = bound (new-slot v c n) _ p (h1 .1) in
+      let a = placed n (b .0) (b .1) in
+      let e : granted (create-stores v c (b .0) (name-of n)) ≡ granted p = b .2 in
+      let s : create-stores v c (b .0) (name-of n) ≡ p = cc in
+      record { ok = not-false (name-ok n) (h1 .0); unused = a .0; room = a .1; same = ap (λ k. create-stores v c k (name-of n)) (a .2) ∙ s }
 
   pub record Renamed (n m : Span) (p : Program) : Type 0 where
     pub ok : name-ok n ≡ true
@@ -103,24 +113,24 @@ module _ {size : ℕ} {c : Card} (st : Start size c) (is : clean (window size c)
     pub same : operate v c [] fat (renames-as st (at n) live m) ≡ p
 
   pub rename-granted : (n m : Span) (p : Program) → plan (renames n m) w ≡ granted p → Renamed n m p
-  unfolding plan rename rename-stores file-at
+  unfolding plan rename rename-on rename-as rename-stores file-at
   rename-granted n m p h =
       let h1 = asked Ground.Name (not (name-ok n && name-ok m)) _ p (opened _ (granted p) h) in
       let b = bound (file-in v c (at n)) _ p (h1 .1) in
       let a = there w v is (at n) (b .0) (b .1) in
-      let h2 = asked Ground.Exists (taken v c m) _ p (b .2) in
-      let h3 = asked Ground.Rootfull (root-full v c) _ p (h2 .1) in
-      let e : granted (rename-stores v c (b .0) (name-of m)) ≡ granted p = h3 .1 in
-      let s : rename-stores v c (b .0) (name-of m) ≡ p = cc in
+      let g = bound (new-slot v c m) _ p (b .2) in
+      let t = placed m (g .0) (g .1) in
+      let e : granted (rename-stores v c (b .0) (g .0) (name-of m)) ≡ granted p = g .2 in
+      let s : rename-stores v c (b .0) (g .0) (name-of m) ≡ p = cc in
       let names : (name-ok n && name-ok m) ≡ true = not-false (name-ok n && name-ok m) (h1 .0) in
       record {
         ok = and-left (name-ok n) (name-ok m) names;
         new-ok = and-right (name-ok n) (name-ok m) names;
         live = live-at n (a .0);
         plain = a .1;
-        unused = unused m (h2 .0);
-        room = room-in (h3 .0);
-        same = ap (λ f. rename-stores v c f (name-of m)) (a .2) ∙ s;
+        unused = t .0;
+        room = t .1;
+        same = ap (λ f. rename-stores v c f (free-slot l c) (name-of m)) (a .2) ∙ ap (λ k. rename-stores v c (b .0) k (name-of m)) (t .2) ∙ s;
       }
 
   -- ---- calls on a file that keeps the chain rule
@@ -141,7 +151,7 @@ module _ {size : ℕ} {c : Card} (st : Start size c) (is : clean (window size c)
     pub same : operate v c [] (release (ks st (at n) (it .live) (it .keeps)) fat) (deletes-as st (at n) (it .live) (it .keeps)) ≡ p
 
   pub delete-granted : (n : Span) (p : Program) → plan (deletes n) w ≡ granted p → Deleted n p
-  unfolding plan delete delete-stores file-at clusters-of
+  unfolding plan delete delete-on delete-stores file-at clusters-of
   delete-granted n p h =
       let b = bound (file-of v c n) _ p (opened _ (granted p) h) in
       let e : granted (delete-stores v c (b .0)) ≡ granted p = b .2 in
@@ -163,7 +173,7 @@ module _ {size : ℕ} {c : Card} (st : Start size c) (is : clean (window size c)
         (operate v c [] (cut-fat st (at n) (it .live) (it .keeps) m) (truncates-as st (at n) (it .live) (it .keeps) m)) p
 
   pub truncate-granted : (n : Span) (m : ℕ) (p : Program) → plan (truncates n m) w ≡ granted p → Truncated n m p
-  unfolding plan truncate truncate-stores truncate-along file-at clusters-of
+  unfolding plan truncate truncate-on truncate-as truncate-stores truncate-along file-at clusters-of
   truncate-granted n m p h =
       let b = bound (file-of v c n) _ p (opened _ (granted p) h) in
       let f : File = b .0 in
@@ -191,7 +201,7 @@ module _ {size : ℕ} {c : Card} (st : Start size c) (is : clean (window size c)
         (operate v c (ds st extent) (longer-fat st (at n) (it .live) (it .keeps) extent) (updates-as st (at n) (it .live) (it .keeps) extent)) p
 
   pub append-granted : (n d : Span) (p : Program) → plan (appends n d) w ≡ granted p → Appended n d p
-  unfolding plan append append-stores append-along file-at clusters-of new-clusters
+  unfolding plan append append-on append-to append-stores append-along file-at clusters-of new-clusters
   append-granted n d p h =
       let b = bound (file-of v c n) _ p (opened _ (granted p) h) in
       let f : File = b .0 in
@@ -220,7 +230,7 @@ module _ {size : ℕ} {c : Card} (st : Start size c) (is : clean (window size c)
     pub same : operate v c (ds st extent) (exchanged-fat st (at n) (it .live) (it .keeps) extent) (replaces-as st (at n) (it .live) (it .keeps) extent) ≡ p
 
   pub replace-granted : (n d : Span) (p : Program) → plan (replaces n d) w ≡ granted p → Replaced n d p
-  unfolding plan replace replace-stores replace-along file-at clusters-of fresh-clusters
+  unfolding plan replace replace-on replace-file replace-stores replace-along file-at clusters-of fresh-clusters
   replace-granted n d p h =
       let b = bound (file-of v c n) _ p (opened _ (granted p) h) in
       let f : File = b .0 in

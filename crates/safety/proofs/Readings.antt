@@ -16,7 +16,7 @@ use Rattle.model.specs.declared.Outcome.the-variants.{Refused, Done}
 use Rattle.model.specs.declared.Volume.{Volume}
 use Rattle.model.specs.declared.Ground.the-variants as Ground
 use Rattle.operations.specs.Calls.{file-in, file-of, whole, slot-of, named-file}
-use Rattle.operations.specs.Reading.{read, reading, file-byte, filled-outcome, buffer-after}
+use Rattle.operations.specs.Reading.{read, read-on, reading, file-byte, filled-outcome, buffer-after}
 use Rattle.safety.specs.Sound.{proper}
 use Rattle.safety.specs.Saved.{Holds, Gone, ReadHolds}
 use Rattle.model.proofs.Laying.{overlay-same}
@@ -39,7 +39,7 @@ module _ (w : Window) (v : Volume) (is : clean w ≡ granted v) where
   l = v .layout
 
   pub opened : (n : Span) (offset room : ℕ) → read w n offset room ≡ (file-of v x n >>= λ f. granted (reading l x f offset room))
-  unfolding read
+  unfolding read read-on
   opened n offset room = then (clean w) _ v is
 
   granted-file : (n : Span) (s : ℕ) → Meant v x n s → file-of v x n ≡ granted (file-at l x s)

@@ -5,6 +5,7 @@ use borrow.Author.Tests.{eqb-true}
 use Rattle.model.specs.Root.{name-ok}
 use Rattle.model.proofs.Tests.{every-at}
 use Rattle.operations.specs.Finish.{Slots, edits, operation-edits}
+use Rattle.operations.specs.Plan.{create-stores}
 use borrow.Author.Needs.{needs}
 use Rattle.call_create.proofs.create_at.Statement.{statement}
 use Rattle.call_create.proofs.create_at.Tie as tie
@@ -24,6 +25,7 @@ record-change-requires c κs =
     (p .0, subst (Slots (c .before .before .before .before .before .args .v .layout .entries)) (sym (c .plain .ensures)) ((p .1 .0, p .1 .0), tt))
 
 returns : tie.Need-returns
+unfolding create-stores
 returns c =
     let g = c .before .before .before in
     rw (g .plain .ensures, g .before .before .name-of .ensures) at (c .before .before .record-change .ensures)

@@ -3,7 +3,7 @@ use borrow.Author.Tests.{not-true, not-false}
 use Rattle.model.specs.Ground.{_when_, _>>=_, _>>_}
 use Rattle.log_steps.proofs.Ends.{did-refused}
 use Rattle.root_lookup.specs.Found.{vacancy-of}
-use Rattle.call_create.specs.Calls.{create-on}
+use Rattle.operations.specs.Calls.{create-on}
 use borrow.Author.Needs.{needs}
 use Rattle.call_create.proofs.create_on.Statement.{statement}
 use Rattle.call_create.proofs.create_on.Tie as tie

@@ -2,7 +2,7 @@ use mathlib.Core.Path.{sym, ap, _∙_}
 use Rattle.model.specs.Ground.{_>>=_}
 use Rattle.log_steps.proofs.Ends.{did-refused}
 use Rattle.root_lookup.specs.Found.{vacancy-of}
-use Rattle.call_create.specs.Calls.{rename-as}
+use Rattle.operations.specs.Calls.{rename-as}
 use borrow.Author.Needs.{needs}
 use Rattle.call_create.proofs.rename_as.Statement.{statement}
 use Rattle.call_create.proofs.rename_as.Tie as tie

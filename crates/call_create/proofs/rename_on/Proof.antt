@@ -8,7 +8,7 @@ use Rattle.model.proofs.Tests.{and-left, and-right}
 use Rattle.operations.specs.Calls.{file-in}
 use Rattle.log_steps.proofs.Ends.{did-refused}
 use Rattle.root_lookup.specs.Found.{found-of}
-use Rattle.call_create.specs.Calls.{rename-on}
+use Rattle.operations.specs.Calls.{rename-on}
 use borrow.Author.Needs.{needs}
 use Rattle.call_create.proofs.rename_on.Statement.{statement}
 use Rattle.call_create.proofs.rename_on.Tie as tie

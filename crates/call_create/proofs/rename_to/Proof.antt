@@ -5,6 +5,7 @@ use borrow.Author.Tests.{eqb-true}
 use Rattle.model.specs.Root.{name-ok}
 use Rattle.model.proofs.Tests.{every-at}
 use Rattle.operations.specs.Finish.{Slots, edits, operation-edits}
+use Rattle.operations.specs.Plan.{rename-stores}
 use borrow.Author.Needs.{needs}
 use Rattle.call_create.proofs.rename_to.Statement.{statement}
 use Rattle.call_create.proofs.rename_to.Tie as tie
@@ -26,6 +27,7 @@ record-change-requires c κs =
     (p .0, subst (Slots (b .args .v .layout .entries)) (sym (c .plain .ensures)) ((p .1 .0, p .1 .0), ((p .1 .1, p .1 .0), tt)))
 
 returns : tie.Need-returns
+unfolding rename-stores
 returns c =
     let g = c .before .before .before in
     rw (g .plain .ensures, g .before .before .name-of .ensures) at (c .before .before .record-change .ensures)

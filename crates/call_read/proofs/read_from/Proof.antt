@@ -1,9 +1,8 @@
 use mathlib.Core.Path.{refl, sym, ap, _∙_}
 use Rattle.model.specs.Ground.{_>>=_}
 use Rattle.model.specs.declared.Outcome.the-variants.{Done}
-use Rattle.operations.specs.Reading.{buffer-after, filled-outcome}
+use Rattle.operations.specs.Reading.{read-on, buffer-after, filled-outcome}
 use Rattle.root_lookup.specs.Found.{found-of}
-use Rattle.call_read.specs.Gave.{read-on}
 use borrow.Author.Needs.{needs}
 use Rattle.call_read.proofs.read_from.Statement.{statement}
 use Rattle.call_read.proofs.read_from.Tie as tie

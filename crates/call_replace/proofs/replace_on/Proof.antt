@@ -2,7 +2,7 @@ use mathlib.Core.Path.{sym, ap, _∙_}
 use Rattle.model.specs.Ground.{_>>=_}
 use Rattle.root_lookup.specs.Found.{found-of}
 use Rattle.log_steps.proofs.Ends.{did-refused}
-use Rattle.call_replace.specs.Replace.{replace-on}
+use Rattle.operations.specs.Calls.{replace-on}
 use borrow.Author.Needs.{needs}
 use Rattle.call_replace.proofs.replace_on.Statement.{statement}
 use Rattle.call_replace.proofs.replace_on.Tie as tie

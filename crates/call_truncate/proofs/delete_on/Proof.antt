@@ -4,7 +4,7 @@ use Rattle.model.specs.Ground.{_>>=_}
 use Rattle.operations.specs.Plan.{delete-stores}
 use Rattle.root_lookup.specs.Found.{found-of}
 use Rattle.log_steps.proofs.Ends.{did-refused, did-ran}
-use Rattle.call_truncate.specs.Calls.{delete-on}
+use Rattle.operations.specs.Calls.{delete-on}
 use borrow.Author.Needs.{needs}
 use Rattle.call_truncate.proofs.delete_on.Statement.{statement}
 use Rattle.call_truncate.proofs.delete_on.Tie as tie

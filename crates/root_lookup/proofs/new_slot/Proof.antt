@@ -1,8 +1,7 @@
 use mathlib.Core.Path.{sym, _∙_}
 use borrow.Author.Tests.{lt-ltb, le-ltb}
 use Rattle.model.specs.Ground.{_when_, _>>_}
-use Rattle.operations.specs.Calls.{root-full}
-use Rattle.root_lookup.specs.Found.{new-slot}
+use Rattle.operations.specs.Calls.{root-full, new-slot}
 use borrow.Author.Needs.{needs}
 use Rattle.root_lookup.proofs.new_slot.Statement.{statement}
 use Rattle.root_lookup.proofs.new_slot.Tie as tie
