@@ -1,4 +1,5 @@
 // Append: grounds, data sectors, FAT2, and the steps through the log.
+use model::Access;
 use model::File;
 use model::Ground;
 use model::Layout;
@@ -103,7 +104,7 @@ fn append_on(w: &mut [u8], v: Volume, name: &[u8], bytes: &[u8], limit: u32) -> 
     ensures { λ r. ⌜
         Did limit (append-on v (card-of (now (w .entry))) (view (now (name .entry))) (view (now (bytes .entry)))) (now (w .entry)) (now (w .exit)) r ⌝ }
 {
-    let o = root_lookup::file_of(w, v, name);
+    let o = root_lookup::file_of(w, v, Access::Write, name);
     match o {
         Found::Missing(g) => Outcome::Refused(g),
         Found::At(f) => append_to(w, v, f, bytes, limit),

@@ -1,4 +1,5 @@
 // Create and rename: the calls that change the root directory and neither data nor FATs.
+use model::Access;
 use model::Change;
 use model::Entry;
 use model::File;
@@ -122,7 +123,7 @@ fn rename_on(w: &mut [u8], v: Volume, old: &[u8], new: &[u8], limit: u32) -> Out
     if !are_names(old, new) {
         return Outcome::Refused(Ground::Name);
     }
-    let o = root_lookup::file_in(w, v, root_lookup::slot_of(w, v, old));
+    let o = root_lookup::file_named(w, v, Access::Write, old);
     match o {
         Found::Missing(g) => Outcome::Refused(g),
         Found::At(f) => rename_as(w, v, f, new, limit),

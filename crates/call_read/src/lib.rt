@@ -1,4 +1,5 @@
 // Read and list: a card that is clean, and what they leave in a lent buffer.
+use model::Access;
 use model::Layout;
 use model::Outcome;
 use model::Volume;
@@ -81,7 +82,7 @@ fn read_from(w: &[u8], v: Volume, name: &[u8], offset: u64, buffer: &mut [u8]) -
         Gave (read-on v (card-of (now (w .entry))) (view (now (name .entry))) offset (length (now (buffer .entry)))) (now (buffer .entry))
         (now (buffer .exit)) r ⌝ }
 {
-    let o = root_lookup::file_of(w, v, name);
+    let o = root_lookup::file_of(w, v, Access::Read, name);
     match o {
         Found::Missing(g) => Outcome::Refused(g),
         Found::At(f) => {

@@ -1,4 +1,5 @@
 // Replace: grounds, data sectors along new clusters, FAT2 with these linked and the old ones freed, and the steps through the log.
+use model::Access;
 use model::File;
 use model::Ground;
 use model::Layout;
@@ -127,7 +128,7 @@ fn replace_on(w: &mut [u8], v: Volume, name: &[u8], bytes: &[u8], limit: u32) ->
     ensures { λ r. ⌜
         Did limit (replace-on v (card-of (now (w .entry))) (view (now (name .entry))) (view (now (bytes .entry)))) (now (w .entry)) (now (w .exit)) r ⌝ }
 {
-    let o = root_lookup::file_of(w, v, name);
+    let o = root_lookup::file_of(w, v, Access::Write, name);
     match o {
         Found::Missing(g) => Outcome::Refused(g),
         Found::At(f) => replace_file(w, v, f, bytes, limit),

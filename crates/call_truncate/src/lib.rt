@@ -1,4 +1,5 @@
 // Truncate and delete: the calls that free clusters.
+use model::Access;
 use model::Change;
 use model::File;
 use model::Ground;
@@ -78,7 +79,7 @@ fn delete_on(w: &mut [u8], v: Volume, name: &[u8], limit: u32) -> Outcome
     requires { ⌜ Ready v (now w) ⌝ }
     ensures { λ r. ⌜ Did limit (delete-on v (card-of (now (w .entry))) (view (now (name .entry)))) (now (w .entry)) (now (w .exit)) r ⌝ }
 {
-    let o = root_lookup::file_of(w, v, name);
+    let o = root_lookup::file_of(w, v, Access::Write, name);
     match o {
         Found::Missing(g) => Outcome::Refused(g),
         Found::At(f) => log_steps::ended(delete_file(w, v, f, limit)),
@@ -163,7 +164,7 @@ fn truncate_on(w: &mut [u8], v: Volume, name: &[u8], size: u64, limit: u32) -> O
     requires { ⌜ Ready v (now w) ⌝ }
     ensures { λ r. ⌜ Did limit (truncate-on v (card-of (now (w .entry))) (view (now (name .entry))) size) (now (w .entry)) (now (w .exit)) r ⌝ }
 {
-    let o = root_lookup::file_of(w, v, name);
+    let o = root_lookup::file_of(w, v, Access::Write, name);
     match o {
         Found::Missing(g) => Outcome::Refused(g),
         Found::At(f) => truncate_as(w, v, f, size, limit),

@@ -13,7 +13,7 @@ ghost use Rattle.operations.specs.Calls.{create, append, replace, truncate, del
 ghost use Rattle.operations.specs.Promises.{Called, Answered};
 
 fn ground_number(g: Ground) -> u32
-    ensures { λ r. ⌜ (r ≡ ground-number g) × (r < 16) ⌝ }
+    ensures { λ r. ⌜ (r ≡ ground-number g) × (r < 17) ⌝ }
 {
     match g {
         Ground::Short => 1,
@@ -31,6 +31,7 @@ fn ground_number(g: Ground) -> u32
         Ground::Chain => 13,
         Ground::Length => 14,
         Ground::Nospace => 15,
+        Ground::Locked => 16,
     }
 }
 

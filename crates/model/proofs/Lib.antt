@@ -21,6 +21,7 @@ pub mod Order
 pub mod Names
 pub mod Records
 pub mod Logs
+pub mod Lookups
 pub mod Pendings
 pub mod Grounds
 pub mod Volumes

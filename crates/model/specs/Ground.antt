@@ -4,7 +4,7 @@ use mathlib.Core.Bool.{Bool, true, false}
 use Rattle.model.specs.declared.Ground.{Ground}
 use Rattle.model.specs.declared.Ground.the-variants as Ground
 
--- "Grounds, in checking order"
+-- "Grounds, in checking order"; those of later requests have the next numbers, and are asked where the request says.
 abbrev pub ground-number : Ground → ℕ
 ground-number Ground.Short = 1
 ground-number Ground.Boot = 2
@@ -21,6 +21,7 @@ ground-number Ground.Rootfull = 12
 ground-number Ground.Chain = 13
 ground-number Ground.Length = 14
 ground-number Ground.Nospace = 15
+ground-number Ground.Locked = 16
 
 -- An answer, or the ground on which there is none.
 pub data Answer (A : Type 0) : Type 0 where

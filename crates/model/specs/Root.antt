@@ -3,13 +3,15 @@ use Prim.Native.Nat.{ℕ, _+_, _-_, _*_, _/_, _%_}
 use mathlib.Core.List.{[], _∷_}
 use mathlib.Core.Bool.{Bool, _&&_, _||_, not}
 use lib.Dec.{leb, ltb, eqb}
-use Rattle.model.specs.Bytes.{Bytes, Span, le, part}
+use Rattle.model.specs.Bytes.{Bytes, Span, le, part, pick}
 use Rattle.model.specs.Scan.{every, any, between, first, all, all-from}
 use Rattle.model.specs.Sector.{Card}
 use Rattle.model.specs.declared.Layout.{Layout}
 use Rattle.model.specs.declared.Name.{Name}
 use Rattle.model.specs.declared.Entry.{Entry}
 use Rattle.model.specs.declared.File.{File}
+use Rattle.model.specs.declared.Lookup.{Lookup}
+use Rattle.model.specs.declared.Lookup.the-variants as Lookup
 
 -- The bytes of each slot.
 abbrev pub Directory : Type 0
@@ -45,6 +47,10 @@ is-label b = eqb (attributes b / 8 % 2) 1
 
 unfoldable pub is-directory : Bytes → Bool
 is-directory b = eqb (attributes b / 16 % 2) 1
+
+-- "16 LOCKED, that slot has attribute bit 0x01": the read-only mark.
+unfoldable pub is-locked : Bytes → Bool
+is-locked b = eqb (attributes b % 2) 1
 
 -- A live slot without bit 0x08: only these are sought by name, and listed.
 unfoldable pub listed : Bytes → Bool
@@ -111,3 +117,13 @@ unfoldable pub file-at : Layout → Card → ℕ → File
 file-at l c s =
     let b = slot-at l c s in
     record { entry = entry-at s b; first = first-cluster b; size = file-size b }
+
+-- What slot s holds, where it is one that a name means: a directory, or a file with whether it is locked. Past the last slot, nothing.
+unfoldable pub slot-holds : Layout → Card → ℕ → Lookup
+slot-holds l c s =
+    let b = slot-at l c s in
+    pick (ltb s (l .entries)) (pick (is-directory b) Lookup.Directory (Lookup.File (file-at l c s) (is-locked b))) Lookup.Absent
+
+-- "Finding a name should also say whether it is locked."
+unfoldable pub lookup : Layout → Card → Name → Lookup
+lookup l c name = slot-holds l c (find l c name)

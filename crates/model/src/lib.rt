@@ -64,6 +64,19 @@ pub struct File {
     pub size: u32,
 }
 
+// What a name means: no slot, a directory, or a file, and whether it is marked read-only.
+pub enum Lookup {
+    Absent,
+    Directory,
+    File { file: File, locked: bool },
+}
+
+// What a call is to do with the file that it names.
+pub enum Access {
+    Read,
+    Write,
+}
+
 // The operations that the log can hold, each with its own fields. `from` is DIR_Cluster.
 pub enum Operation {
     Create {
@@ -160,6 +173,7 @@ pub enum Ground {
     Chain,
     Length,
     Nospace,
+    Locked,
 }
 
 // How a call ends: refused; done, with its count (of stores, of bytes read, of entries); or stopped by the limit, with

@@ -18,7 +18,8 @@ unfolding ones onesIn
     Rattle.model.specs.Root.listed Rattle.model.specs.Root.is-file Rattle.model.specs.Root.name-byte Rattle.model.specs.Root.stem-length
     Rattle.model.specs.Root.padded Rattle.model.specs.Root.name-ok Rattle.model.specs.Root.same-name Rattle.model.specs.Root.bears
     Rattle.model.specs.Root.lowest-slot Rattle.model.specs.Root.find Rattle.model.specs.Root.free-run Rattle.model.specs.Root.end-slot
-    Rattle.model.specs.Root.root-ok Rattle.model.specs.Root.entry-at Rattle.model.specs.Root.file-at
+    Rattle.model.specs.Root.root-ok Rattle.model.specs.Root.entry-at Rattle.model.specs.Root.file-at Rattle.model.specs.Root.is-locked
+    Rattle.model.specs.Root.slot-holds Rattle.model.specs.Root.lookup
     Rattle.model.specs.Log.run Rattle.model.specs.Log.run-ok Rattle.model.specs.Log.area Rattle.model.specs.Log.unused
     Rattle.model.specs.Record.record-bytes Rattle.model.specs.Record.record-of Rattle.model.specs.Record.operation-records Rattle.model.specs.Record.records
     Rattle.model.specs.Record.lay Rattle.model.specs.Record.encode Rattle.model.specs.Record.operation-of Rattle.model.specs.Record.change-of
@@ -51,7 +52,8 @@ unfolding ones onesIn
     Rattle.operations.specs.Plan.shorten Rattle.operations.specs.Plan.truncate-along
     Rattle.operations.specs.Plan.truncate-stores Rattle.operations.specs.Plan.delete-stores
     Rattle.operations.specs.Plan.rename-stores Rattle.operations.specs.Plan.recover-stores
-    Rattle.operations.specs.Calls.slot-of Rattle.operations.specs.Calls.file-in Rattle.operations.specs.Calls.whole
+    Rattle.operations.specs.Calls.slot-of Rattle.operations.specs.Calls.admit Rattle.operations.specs.Calls.file-named
+    Rattle.operations.specs.Calls.whole
     Rattle.operations.specs.Calls.taken Rattle.operations.specs.Calls.root-full Rattle.operations.specs.Calls.new-slot
     Rattle.operations.specs.Calls.file-of Rattle.operations.specs.Calls.create-on Rattle.operations.specs.Calls.unless-none
     Rattle.operations.specs.Calls.append-to Rattle.operations.specs.Calls.append-on Rattle.operations.specs.Calls.replace-file

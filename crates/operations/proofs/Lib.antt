@@ -1,5 +1,7 @@
 pub mod Compute
 pub mod Small
+pub mod Locked
+pub mod Admitted
 pub mod Appends
 pub mod Clearing
 pub mod Roots

@@ -29,13 +29,13 @@ use Rattle.operations.specs.Outcome.{made, outcome}
 use Rattle.operations.specs.Reading.{reading, file-byte}
 use Rattle.operations.proofs.Compute.{compute}
 
-abbrev l : Layout
+abbrev pub l : Layout
 l = record { factor = 1; fatsize = 1; fat1 = 1; fat2 = 2; root = 3; entries = 16; start = 4; total = 12; clusters = 8 }
 
 abbrev log : Area
 log = record { sector = 4; sectors = 2 }
 
-abbrev v : Volume
+abbrev pub v : Volume
 v = record { layout = l; log = log; pending = Pending.Nothing }
 
 -- Clusters 2 and 3 are the log.
@@ -45,13 +45,13 @@ marks j = pick (eqb j 4 || eqb j 6) 0xF6 (pick (eqb j 5 || eqb j 7) 0xFF 0)
 abbrev blank : Card
 blank s = pick (eqb s 1 || eqb s 2) marks (pick (leb 6 s) (λ j. 0xAA) zeros)
 
-abbrev one : Name
+abbrev pub one : Name
 one = record { stem = 0x2020202020202041; extension = 0x202020 }
 
-abbrev two : Name
+abbrev pub two : Name
 two = record { stem = 0x2020202020202042; extension = 0x202020 }
 
-abbrev span : ℕ → Bytes → Span
+abbrev pub span : ℕ → Bytes → Span
 span n b = record { size = n; byte = b }
 
 -- ---- the programs: create, append 600 bytes, append 100, truncate to 512, rename, delete, each after the ones before it
@@ -59,13 +59,13 @@ span n b = record { size = n; byte = b }
 abbrev creation : Program
 creation = create-stores v blank 0 one
 
-abbrev created : Card
+abbrev pub created : Card
 created = after (stores creation) blank
 
 abbrev appending : Bytes → Program
 appending d = append-stores v created (file-at l created 0) (span 600 d)
 
-abbrev appended : Bytes → Card
+abbrev pub appended : Bytes → Card
 appended d = after (stores (appending d)) created
 
 abbrev lengthening : Bytes → Bytes → Program
@@ -92,7 +92,7 @@ replacing-none e = replace-stores v created (file-at l created 0) (span 0 e)
 
 -- ---- what is seen of them
 
-abbrev sectors : List Store → List ℕ
+abbrev pub sectors : List Store → List ℕ
 sectors ss = map (λ s. s .sector) ss
 
 -- A store of a list, by its place.

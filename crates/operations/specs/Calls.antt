@@ -8,13 +8,17 @@ use Rattle.model.specs.Bytes.{Span, pick}
 use Rattle.model.specs.Sector.{Card, Window}
 use Rattle.model.specs.Fat.{entry, free-clusters}
 use Rattle.model.specs.Chain.{keeps-chain, needed}
-use Rattle.model.specs.Root.{name-ok, name-in, find, free-slot, slot-at, is-directory, file-at}
-use Rattle.model.specs.Ground.{Answer, granted, _when_, _>>=_, _>>_}
+use Rattle.model.specs.Root.{name-ok, name-in, find, free-slot, file-at, lookup}
+use Rattle.model.specs.Ground.{Answer, refused, granted, _when_, _>>=_, _>>_}
 use Rattle.model.specs.Volume.{examine, clean}
 use Rattle.model.specs.declared.Name.{Name}
 use Rattle.model.specs.declared.File.{File}
 use Rattle.model.specs.declared.Volume.{Volume}
 use Rattle.model.specs.declared.Ground.the-variants as Ground
+use Rattle.model.specs.declared.Lookup.{Lookup}
+use Rattle.model.specs.declared.Lookup.the-variants as Lookup
+use Rattle.model.specs.declared.Access.{Access}
+use Rattle.model.specs.declared.Access.the-variants as Access
 use Rattle.operations.specs.Program.{Program, ending}
 use Rattle.operations.specs.Plan.{clusters-of, old-fat, added, new-clusters, create-stores, append-stores, truncate-stores, delete-stores}
 use Rattle.operations.specs.Plan.{rename-stores, fresh-clusters, replace-stores, recover-stores}
@@ -26,12 +30,19 @@ name-of s = name-in (s .byte)
 unfoldable pub slot-of : Volume → Card → Span → ℕ
 slot-of v c n = find (v .layout) c (name-of n)
 
--- "9. ABSENT: no slot has the name." "10. DIRECTORY: that slot is a directory."
-unfoldable pub file-in : Volume → Card → ℕ → Answer File
-file-in v c s = do
-  Ground.Absent when not (ltb s (v .layout .entries))
-  Ground.Directory when is-directory (slot-at (v .layout) c s)
-  granted (file-at (v .layout) c s)
+-- "9. ABSENT: no slot has the name." "10. DIRECTORY: that slot is a directory." "16 LOCKED, that slot has attribute bit 0x01 (append,
+-- truncate, delete, rename by its old name, replace), asked right after DIRECTORY."
+unfoldable pub admit : Access → Lookup → Answer File
+admit a Lookup.Absent = refused Ground.Absent
+admit a Lookup.Directory = refused Ground.Directory
+admit Access.Read (Lookup.File f locked) = granted f
+admit Access.Write (Lookup.File f locked) = do
+  Ground.Locked when locked
+  granted f
+
+-- The file that a name means.
+unfoldable pub file-named : Access → Volume → Card → Span → Answer File
+file-named a v c n = admit a (lookup (v .layout) c (name-of n))
 
 -- "13. CHAIN: the file breaks the chain rule"
 unfoldable pub whole : Volume → Card → File → Answer File
@@ -53,11 +64,11 @@ new-slot v c n = do
   Ground.Rootfull when root-full v c
   granted (free-slot (v .layout) c)
 
--- The file that a name means, if it keeps the chain rule.
-unfoldable pub file-of : Volume → Card → Span → Answer File
-file-of v c n = do
+-- The same with NAME asked before it, and CHAIN after it.
+unfoldable pub file-of : Access → Volume → Card → Span → Answer File
+file-of a v c n = do
   Ground.Name when not (name-ok n)
-  file-in v c (slot-of v c n) >>= whole v c
+  file-named a v c n >>= whole v c
 
 -- ---- each call on a clean card: what is asked after grounds 1 to 7
 
@@ -78,9 +89,7 @@ append-to v c f d = do
   granted (unless-none (d .size) (append-stores v c f d))
 
 unfoldable pub append-on : Volume → Card → Span → Span → Answer Program
-append-on v c n d = do
-  f ← file-of v c n
-  append-to v c f d
+append-on v c n d = file-of Access.Write v c n >>= λ f. append-to v c f d
 
 -- "One call should replace a file's bytes." "Answers: append's grounds", NOSPACE for all clusters of the new bytes. "A replace always
 -- writes a group."
@@ -90,9 +99,7 @@ replace-file v c f d = do
   granted (replace-stores v c f d)
 
 unfoldable pub replace-on : Volume → Card → Span → Span → Answer Program
-replace-on v c n d = do
-  f ← file-of v c n
-  replace-file v c f d
+replace-on v c n d = file-of Access.Write v c n >>= λ f. replace-file v c f d
 
 -- "14. LENGTH: truncate asks more than the present size."
 unfoldable pub truncate-as : Volume → Card → File → ℕ → Answer Program
@@ -101,14 +108,10 @@ truncate-as v c f size = do
   granted (unless-none (f .size - size) (truncate-stores v c f size))
 
 unfoldable pub truncate-on : Volume → Card → Span → ℕ → Answer Program
-truncate-on v c n size = do
-  f ← file-of v c n
-  truncate-as v c f size
+truncate-on v c n size = file-of Access.Write v c n >>= λ f. truncate-as v c f size
 
 unfoldable pub delete-on : Volume → Card → Span → Answer Program
-delete-on v c n = do
-  f ← file-of v c n
-  granted (delete-stores v c f)
+delete-on v c n = file-of Access.Write v c n >>= λ f. granted (delete-stores v c f)
 
 -- "a rename to itself too" is EXISTS. No CHAIN is asked.
 unfoldable pub rename-as : Volume → Card → File → Span → Answer Program
@@ -119,7 +122,7 @@ rename-as v c f m = do
 unfoldable pub rename-on : Volume → Card → Span → Span → Answer Program
 rename-on v c n m = do
   Ground.Name when not (name-ok n && name-ok m)
-  f ← file-in v c (slot-of v c n)
+  f ← file-named Access.Write v c n
   rename-as v c f m
 
 -- ---- the calls

@@ -13,6 +13,7 @@ use Rattle.model.specs.Volume.{clean}
 use Rattle.model.specs.declared.Layout.{Layout}
 use Rattle.model.specs.declared.File.{File}
 use Rattle.model.specs.declared.Volume.{Volume}
+use Rattle.model.specs.declared.Access.the-variants as Access
 use Rattle.model.specs.declared.Outcome.{Outcome}
 use Rattle.model.specs.declared.Outcome.the-variants.{Refused, Done}
 use Rattle.operations.specs.Plan.{clusters-of}
@@ -36,9 +37,7 @@ reading l c f offset room =
 
 -- On a clean card, and on any window.
 unfoldable pub read-on : Volume → Card → Span → ℕ → ℕ → Answer Filled
-read-on v c n offset room = do
-  f ← file-of v c n
-  granted (reading (v .layout) c f offset room)
+read-on v c n offset room = file-of Access.Read v c n >>= λ f. granted (reading (v .layout) c f offset room)
 
 unfoldable pub read : Window → Span → ℕ → ℕ → Answer Filled
 read w n offset room = do

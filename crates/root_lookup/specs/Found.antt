@@ -28,10 +28,10 @@ pub record Chained (v : Volume) (c : Card) (f : File) : Type 0 where
   pub seated : Seated v c f
   pub chain : keeps-chain (v .layout) (entry (fat1-of (v .layout) c)) (f .first) (f .size) ≡ true
 
--- A file that is given is the one in slot s.
-abbrev pub SeatedAt : Volume → Card → ℕ → Found → Type 0
-SeatedAt v c s (Missing g) = Unit {0}
-SeatedAt v c s (At f) = Seated v c f × (f .entry .slot ≡ s)
+-- So is each that is given; and each that is given with the chain rule asked keeps it.
+abbrev pub Sits : Volume → Card → Found → Type 0
+Sits v c (Missing g) = Unit {0}
+Sits v c (At f) = Seated v c f
 
 abbrev pub Opens : Volume → Card → Found → Type 0
 Opens v c (Missing g) = Unit {0}

@@ -1,16 +1,19 @@
-// Files by name: grounds 8 to 13.
+// Files by name: grounds 8 to 13, and 16.
+use model::Access;
 use model::File;
 use model::Ground;
+use model::Lookup;
 use model::Volume;
 ghost use mathlib.Core.Path.{_≡_};
 ghost use mathlib.Core.Bool.{true};
 ghost use Prim.Native.Nat.{_≤_};
 ghost use Rattle.model.specs.Bytes.{view};
 ghost use Rattle.model.specs.Sector.{card-of};
-ghost use Rattle.model.specs.Root.{name-ok};
+ghost use Rattle.model.specs.Root.{name-ok, slot-holds, lookup};
+ghost use Rattle.model.specs.declared.Lookup.the-variants as Lookup;
 ghost use Rattle.model.specs.Promises.{Held};
-ghost use Rattle.operations.specs.Calls.{slot-of, file-in, whole, file-of, taken, new-slot};
-ghost use Rattle.root_lookup.specs.Found.{found-of, Seated, SeatedAt, Opens, vacancy-of, Below};
+ghost use Rattle.operations.specs.Calls.{name-of, slot-of, admit, file-named, whole, file-of, taken, new-slot};
+ghost use Rattle.root_lookup.specs.Found.{found-of, Seated, Sits, Opens, vacancy-of, Below};
 
 // A file, or the ground on which there is none.
 pub enum Found {
@@ -25,7 +28,7 @@ pub enum Vacancy {
 }
 
 // The slot that a name means; as many as there are slots where none has it.
-pub fn slot_of(w: &[u8], v: Volume, name: &[u8]) -> u32
+fn slot_of(w: &[u8], v: Volume, name: &[u8]) -> u32
     requires { ⌜ Held (v .layout) (now w) × (name-ok (view (now name)) ≡ true) ⌝ }
     ensures { λ r. ⌜ (r ≡ slot-of v (card-of (now (w .entry))) (view (now (name .entry)))) × (r ≤ v .layout .entries) ⌝ }
 {
@@ -33,19 +36,64 @@ pub fn slot_of(w: &[u8], v: Volume, name: &[u8]) -> u32
     root_read::find_slot(w, l, root_names::name_of(name))
 }
 
-// ABSENT and DIRECTORY: the file in a slot.
-pub fn file_in(w: &[u8], v: Volume, s: u32) -> Found
+// What is in the slot that a name means.
+fn look_in(w: &[u8], v: Volume, s: u32) -> Lookup
     requires { ⌜ Held (v .layout) (now w) × (s ≤ v .layout .entries) ⌝ }
-    ensures { λ r. ⌜ (found-of r ≡ file-in v (card-of (now (w .entry))) s) × SeatedAt v (card-of (now (w .entry))) s r ⌝ }
+    ensures { λ r. ⌜ r ≡ slot-holds (v .layout) (card-of (now (w .entry))) s ⌝ }
 {
     let l = v.layout;
     if l.entries <= s {
-        return Found::Missing(Ground::Absent);
+        return Lookup::Absent;
     }
     if root_read::is_directory(w, l, s) {
-        return Found::Missing(Ground::Directory);
+        return Lookup::Directory;
     }
-    Found::At(root_read::file_at(w, l, s))
+    let file = root_read::file_at(w, l, s);
+    let locked = file.entry.attributes % 2 == 1;
+    Lookup::File { file, locked }
+}
+
+// What a name means.
+fn look_up(w: &[u8], v: Volume, name: &[u8]) -> Lookup
+    requires { ⌜ Held (v .layout) (now w) × (name-ok (view (now name)) ≡ true) ⌝ }
+    ensures { λ r. ⌜ r ≡ lookup (v .layout) (card-of (now (w .entry))) (name-of (view (now (name .entry)))) ⌝ }
+{
+    look_in(w, v, slot_of(w, v, name))
+}
+
+// LOCKED, if the file is to be changed.
+fn ask_mark(a: Access, f: File, locked: bool) -> Found
+    ensures { λ r. ⌜ found-of r ≡ admit a (Lookup.File f locked) ⌝ }
+{
+    match a {
+        Access::Read => Found::At(f),
+        Access::Write => {
+            if locked {
+                return Found::Missing(Ground::Locked);
+            }
+            Found::At(f)
+        }
+    }
+}
+
+// ABSENT, DIRECTORY and LOCKED.
+fn admit(a: Access, o: Lookup) -> Found
+    ensures { λ r. ⌜ found-of r ≡ admit a o ⌝ }
+{
+    match o {
+        Lookup::Absent => Found::Missing(Ground::Absent),
+        Lookup::Directory => Found::Missing(Ground::Directory),
+        Lookup::File { file, locked } => ask_mark(a, file, locked),
+    }
+}
+
+// The file that a name means, with the grounds of `admit`.
+pub fn file_named(w: &[u8], v: Volume, a: Access, name: &[u8]) -> Found
+    requires { ⌜ Held (v .layout) (now w) × (name-ok (view (now name)) ≡ true) ⌝ }
+    ensures { λ r. ⌜
+        (found-of r ≡ file-named a v (card-of (now (w .entry))) (view (now (name .entry)))) × Sits v (card-of (now (w .entry))) r ⌝ }
+{
+    admit(a, look_up(w, v, name))
 }
 
 // CHAIN.
@@ -60,15 +108,16 @@ fn keep_whole(w: &[u8], v: Volume, f: File) -> Found
     Found::At(f)
 }
 
-// NAME, ABSENT, DIRECTORY and CHAIN: the file that a name means.
-pub fn file_of(w: &[u8], v: Volume, name: &[u8]) -> Found
+// The same with NAME asked before it, and CHAIN after it.
+pub fn file_of(w: &[u8], v: Volume, a: Access, name: &[u8]) -> Found
     requires { ⌜ Held (v .layout) (now w) ⌝ }
-    ensures { λ r. ⌜ (found-of r ≡ file-of v (card-of (now (w .entry))) (view (now (name .entry)))) × Opens v (card-of (now (w .entry))) r ⌝ }
+    ensures { λ r. ⌜
+        (found-of r ≡ file-of a v (card-of (now (w .entry))) (view (now (name .entry)))) × Opens v (card-of (now (w .entry))) r ⌝ }
 {
     if !root_names::is_name(name) {
         return Found::Missing(Ground::Name);
     }
-    let o = file_in(w, v, slot_of(w, v, name));
+    let o = file_named(w, v, a, name);
     match o {
         Found::Missing(g) => Found::Missing(g),
         Found::At(f) => keep_whole(w, v, f),

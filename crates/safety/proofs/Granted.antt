@@ -13,7 +13,7 @@ use Rattle.model.specs.Bytes.{Span}
 use Rattle.model.specs.Sector.{Card, Window}
 use Rattle.model.specs.Fat.{Fat, release, free-clusters}
 use Rattle.model.specs.Chain.{needed}
-use Rattle.model.specs.Root.{slot-at, name-ok, free-slot, file-size, file-at, is-file, is-directory}
+use Rattle.model.specs.Root.{slot-at, name-ok, free-slot, file-size, file-at, is-file, is-directory, is-locked}
 use Rattle.model.specs.Ground.{Answer, granted, _>>=_}
 use Rattle.model.specs.Volume.{clean}
 use Rattle.model.specs.declared.File.{File}
@@ -25,7 +25,7 @@ use Rattle.operations.specs.Plan.{operate, create-stores, rename-stores, delete
 use Rattle.operations.specs.Plan.{replace-stores, replace-along, clusters-of, new-clusters, added, fresh-clusters}
 use Rattle.operations.specs.Calls.{creates, renames, deletes, truncates, appends, replaces, plan, create, rename, delete, truncate, append, replace}
 use Rattle.operations.specs.Calls.{create-on, rename-on, delete-on, truncate-on, append-on, replace-on, rename-as, truncate-as, append-to, replace-file}
-use Rattle.operations.specs.Calls.{unless-none, taken, root-full, new-slot, file-in, file-of, slot-of, name-of}
+use Rattle.operations.specs.Calls.{unless-none, taken, root-full, new-slot, file-named, file-of, slot-of, name-of}
 use Rattle.model.proofs.Needed.{needed-none}
 use Rattle.operations.proofs.Added.{added-sum}
 use Rattle.safety.specs.Sound.{proper}
@@ -35,11 +35,12 @@ use Rattle.model.proofs.Names.{Live, found-live, found-listed}
 use Rattle.model.proofs.Volumes.{window, layout-of, first-fat, volume-of}
 use Rattle.safety.proofs.Start.{Start, shape-of}
 use Rattle.safety.proofs.Operations.{KeepsChain}
-use Rattle.safety.proofs.Readings.{Meant, there, found-in, found-file}
+use Rattle.safety.proofs.Readings.{Meant, admitted-in, unmarked-in, found-in}
 use Rattle.safety.proofs.Supplied.{creates-as, renames-as, deletes-as, truncates-as, cut-fat, updates-as, longer-fat, replaces-as}
 use Rattle.safety.proofs.Supplied.{exchanged-fat, ks}
 use Rattle.safety.proofs.Extents.{Extent, ds, extent-of, no-base, file-base}
 use Rattle.model.specs.declared.Pending.the-variants as Pending
+use Rattle.model.specs.declared.Access.the-variants as Access
 use Rattle.model.specs.declared.Ground.the-variants as Ground
 
 module _ {size : ℕ} {c : Card} (st : Start size c) (is : clean (window size c) ≡ granted (volume-of c Pending.Nothing)) where
@@ -108,6 +109,7 @@ module _ {size : ℕ} {c : Card} (st : Start size c) (is : clean (window size c)
     pub new-ok : name-ok m ≡ true
     pub live : Live l c (at n)
     pub plain : is-directory (slot-at l c (at n)) ≡ false
+    pub unmarked : is-locked (slot-at l c (at n)) ≡ false
     pub unused : l .entries ≤ at m
     pub room : free-slot l c < l .entries
     pub same : operate v c [] fat (renames-as st (at n) live m) ≡ p
@@ -116,8 +118,8 @@ module _ {size : ℕ} {c : Card} (st : Start size c) (is : clean (window size c)
   unfolding plan rename rename-on rename-as rename-stores file-at
   rename-granted n m p h =
       let h1 = asked Ground.Name (not (name-ok n && name-ok m)) _ p (opened _ (granted p) h) in
-      let b = bound (file-in v c (at n)) _ p (h1 .1) in
-      let a = there w v is (at n) (b .0) (b .1) in
+      let b = bound (file-named Access.Write v c n) _ p (h1 .1) in
+      let a = admitted-in w v is Access.Write n (b .0) (b .1) in
       let g = bound (new-slot v c m) _ p (b .2) in
       let t = placed m (g .0) (g .1) in
       let e : granted (rename-stores v c (b .0) (g .0) (name-of m)) ≡ granted p = g .2 in
@@ -126,11 +128,12 @@ module _ {size : ℕ} {c : Card} (st : Start size c) (is : clean (window size c)
       record {
         ok = and-left (name-ok n) (name-ok m) names;
         new-ok = and-right (name-ok n) (name-ok m) names;
-        live = live-at n (a .0);
-        plain = a .1;
+        live = live-at n (a .in-root);
+        plain = a .plain;
+        unmarked = unmarked-in w v is n (b .0) (b .1);
         unused = t .0;
         room = t .1;
-        same = ap (λ f. rename-stores v c f (free-slot l c) (name-of m)) (a .2) ∙ ap (λ k. rename-stores v c (b .0) k (name-of m)) (t .2) ∙ s;
+        same = ap (λ f. rename-stores v c f (free-slot l c) (name-of m)) (a .is) ∙ ap (λ k. rename-stores v c (b .0) k (name-of m)) (t .2) ∙ s;
       }
 
   -- ---- calls on a file that keeps the chain rule
@@ -140,11 +143,20 @@ module _ {size : ℕ} {c : Card} (st : Start size c) (is : clean (window size c)
     pub live : Live l c (at n)
     pub keeps : KeepsChain c (at n)
     pub file : is-file (slot-at l c (at n)) ≡ true
+    pub unmarked : is-locked (slot-at l c (at n)) ≡ false
 
-  named-in : (n : Span) (f : File) → file-of v c n ≡ granted f → NamedFile n
+  named-in : (n : Span) (f : File) → file-of Access.Write v c n ≡ granted f → NamedFile n
   unfolding proper
-  named-in n f h = let a = found-in w v is n f h in record
-      { found = a; live = live-at n (a .in-root); keeps = a .keeps; file = file-at-name n (a .in-root) (a .plain) }
+  named-in n f h = let b = found-in w v is Access.Write n f h in let a = b .meant in record {
+    found = a;
+    live = live-at n (a .in-root);
+    keeps = a .keeps;
+    file = file-at-name n (a .in-root) (a .plain);
+    unmarked = unmarked-in w v is n f (b .named);
+  }
+
+  found-file : (n : Span) (f : File) → file-of Access.Write v c n ≡ granted f → file-at l c (at n) ≡ f
+  found-file n f h = found-in w v is Access.Write n f h .mine
 
   pub record Deleted (n : Span) (p : Program) : Type 0 where
     pub it : NamedFile n
@@ -153,10 +165,10 @@ module _ {size : ℕ} {c : Card} (st : Start size c) (is : clean (window size c)
   pub delete-granted : (n : Span) (p : Program) → plan (deletes n) w ≡ granted p → Deleted n p
   unfolding plan delete delete-on delete-stores file-at clusters-of
   delete-granted n p h =
-      let b = bound (file-of v c n) _ p (opened _ (granted p) h) in
+      let b = bound (file-of Access.Write v c n) _ p (opened _ (granted p) h) in
       let e : granted (delete-stores v c (b .0)) ≡ granted p = b .2 in
       let s : delete-stores v c (b .0) ≡ p = cc in
-      record { it = named-in n (b .0) (b .1); same = ap (delete-stores v c) (found-file w v is n (b .0) (b .1)) ∙ s }
+      record { it = named-in n (b .0) (b .1); same = ap (delete-stores v c) (found-file n (b .0) (b .1)) ∙ s }
 
   -- A call that stores nothing where a number is 0, else q.
   abbrev pub Unless : ℕ → Program → Program → Type 0
@@ -175,12 +187,12 @@ module _ {size : ℕ} {c : Card} (st : Start size c) (is : clean (window size c)
   pub truncate-granted : (n : Span) (m : ℕ) (p : Program) → plan (truncates n m) w ≡ granted p → Truncated n m p
   unfolding plan truncate truncate-on truncate-as truncate-stores truncate-along file-at clusters-of
   truncate-granted n m p h =
-      let b = bound (file-of v c n) _ p (opened _ (granted p) h) in
+      let b = bound (file-of Access.Write v c n) _ p (opened _ (granted p) h) in
       let f : File = b .0 in
       let h2 = asked Ground.Length (ltb (f .size) m) _ p (b .2) in
       let e : granted (unless-none (f .size - m) (truncate-stores v c f m)) ≡ granted p = h2 .1 in
       let s : unless-none (f .size - m) (truncate-stores v c f m) ≡ p = cc in
-      let mine : file-at l c (at n) ≡ f = found-file w v is n f (b .1) in
+      let mine : file-at l c (at n) ≡ f = found-file n f (b .1) in
       let sized : file-size (slot-at l c (at n)) ≡ f .size = ap (λ f. f .size) mine in
       let le : m ≤ f .size = ltb-false (f .size) m (h2 .0) in
       record {
@@ -203,12 +215,12 @@ module _ {size : ℕ} {c : Card} (st : Start size c) (is : clean (window size c)
   pub append-granted : (n d : Span) (p : Program) → plan (appends n d) w ≡ granted p → Appended n d p
   unfolding plan append append-on append-to append-stores append-along file-at clusters-of new-clusters
   append-granted n d p h =
-      let b = bound (file-of v c n) _ p (opened _ (granted p) h) in
+      let b = bound (file-of Access.Write v c n) _ p (opened _ (granted p) h) in
       let f : File = b .0 in
       let h2 = asked Ground.Nospace (ltb (length (free-clusters l fat)) (added l f (d .size))) _ p (b .2) in
       let e : granted (unless-none (d .size) (append-stores v c f d)) ≡ granted p = h2 .1 in
       let s : unless-none (d .size) (append-stores v c f d) ≡ p = cc in
-      let mine : file-at l c (at n) ≡ f = found-file w v is n f (b .1) in
+      let mine : file-at l c (at n) ≡ f = found-file n f (b .1) in
       let space : added l f (d .size) ≤ length (free-clusters l fat) = ltb-false (length (free-clusters l fat)) (added l f (d .size)) (h2 .0) in
       let it : NamedFile n = named-in n f (b .1) in
       let m : ℕ = added l (file-at l c (at n)) (d .size) in
@@ -232,7 +244,7 @@ module _ {size : ℕ} {c : Card} (st : Start size c) (is : clean (window size c)
   pub replace-granted : (n d : Span) (p : Program) → plan (replaces n d) w ≡ granted p → Replaced n d p
   unfolding plan replace replace-on replace-file replace-stores replace-along file-at clusters-of fresh-clusters
   replace-granted n d p h =
-      let b = bound (file-of v c n) _ p (opened _ (granted p) h) in
+      let b = bound (file-of Access.Write v c n) _ p (opened _ (granted p) h) in
       let f : File = b .0 in
       let m : ℕ = needed l (d .size) in
       let h2 = asked Ground.Nospace (ltb (length (free-clusters l fat)) m) _ p (b .2) in
@@ -242,5 +254,5 @@ module _ {size : ℕ} {c : Card} (st : Start size c) (is : clean (window size c)
         it = named-in n f (b .1);
         extent = extent-of st (no-base st) d m (ltb-false (length (free-clusters l fat)) m (h2 .0))
             (simp (needed-none l (shape-of st .factor-low), zero-add));
-        same = ap (λ g. replace-stores v c g d) (found-file w v is n f (b .1)) ∙ s;
+        same = ap (λ g. replace-stores v c g d) (found-file n f (b .1)) ∙ s;
       }

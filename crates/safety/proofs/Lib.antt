@@ -31,5 +31,6 @@ pub mod Replaced
 pub mod Saved
 pub mod Others
 pub mod Sounds
+pub mod Locks
 pub mod Same
 pub mod Restored

@@ -3,25 +3,27 @@ use Prim.Native.Nat.{ℕ, _+_, _-_, _<_, _≤_, min}
 use native.Mathlib.Omega.{arith}
 use mathlib.Core.Path.{_≡_, refl, sym, ap, _∙_}
 use mathlib.Core.Bool.{true, false, not}
-use lib.Dec.{ltb}
-use borrow.Author.Tests.{lt-ltb, le-ltb, ltb-true, not-false}
+use borrow.Author.Tests.{not-false}
 use Rattle.model.specs.Bytes.{Bytes, Span, overlay}
 use Rattle.model.specs.Sector.{Card, Window}
-use Rattle.model.specs.Root.{slot-at, name-ok, is-directory, file-at, file-size}
+use Rattle.model.specs.Root.{slot-at, name-ok, is-directory, is-locked, file-at, file-size, slot-holds}
 use Rattle.model.specs.Ground.{Answer, refused, granted, _>>=_}
 use Rattle.model.specs.Volume.{clean}
 use Rattle.model.specs.declared.File.{File}
 use Rattle.model.specs.declared.Layout.{Layout}
 use Rattle.model.specs.declared.Outcome.the-variants.{Refused, Done}
 use Rattle.model.specs.declared.Volume.{Volume}
+use Rattle.model.specs.declared.Access.{Access}
+use Rattle.model.specs.declared.Access.the-variants as Access
 use Rattle.model.specs.declared.Ground.the-variants as Ground
-use Rattle.operations.specs.Calls.{file-in, file-of, whole, slot-of, named-file}
+use Rattle.operations.specs.Calls.{admit, file-named, file-of, whole, slot-of, named-file}
 use Rattle.operations.specs.Reading.{read, read-on, reading, file-byte, filled-outcome, buffer-after}
 use Rattle.safety.specs.Sound.{proper}
 use Rattle.safety.specs.Saved.{Holds, Gone, ReadHolds}
 use Rattle.model.proofs.Laying.{overlay-same}
 use Rattle.model.proofs.Overlays.{overlay-in}
-use Rattle.model.proofs.Grounds.{then, ends, passed, stopped, asked, bound}
+use Rattle.model.proofs.Grounds.{then, ends, passed, asked, bound}
+use Rattle.operations.proofs.Admitted.{Admitted, admitted, unmarked, named-is, admit-read, admit-none}
 
 -- A name means slot s, and the file in it keeps the chain rule.
 pub record Meant (v : Volume) (x : Card) (n : Span) (s : ℕ) : Type 0 where
@@ -38,22 +40,20 @@ module _ (w : Window) (v : Volume) (is : clean w ≡ granted v) where
   abbrev l : Layout
   l = v .layout
 
-  pub opened : (n : Span) (offset room : ℕ) → read w n offset room ≡ (file-of v x n >>= λ f. granted (reading l x f offset room))
+  pub opened : (n : Span) (offset room : ℕ) → read w n offset room ≡ (file-of Access.Read v x n >>= λ f. granted (reading l x f offset room))
   unfolding read read-on
   opened n offset room = then (clean w) _ v is
 
-  granted-file : (n : Span) (s : ℕ) → Meant v x n s → file-of v x n ≡ granted (file-at l x s)
-  unfolding file-of file-in whole proper file-at
+  granted-file : (n : Span) (s : ℕ) → Meant v x n s → file-of Access.Read v x n ≡ granted (file-at l x s)
+  unfolding file-of whole proper file-at
   granted-file n s h =
       passed Ground.Name (not (name-ok n)) _ (ap not (h .ok))
-      ∙ ap (λ s. file-in v x s >>= whole v x) (h .at)
-      ∙ then (file-in v x s) (whole v x) (file-at l x s)
-      (passed Ground.Absent (not (ltb s (l .entries))) _ (ap not (lt-ltb s (l .entries) (h .in-root)))
-      ∙ passed Ground.Directory (is-directory (slot-at l x s)) _ (h .plain))
+      ∙ then (file-named Access.Read v x n) (whole v x) (file-at l x s)
+      (named-is Access.Read v x n ∙ ap (λ s. admit Access.Read (slot-holds l x s)) (h .at) ∙ admit-read l x s (h .in-root) (h .plain))
       ∙ passed Ground.Chain _ _ (ap not (h .keeps))
 
   read-granted : (n : Span) (s : ℕ) → Meant v x n s → (offset room : ℕ) → read w n offset room ≡ granted (reading l x (file-at l x s) offset room)
-  read-granted n s h offset room = opened n offset room ∙ then (file-of v x n) _ (file-at l x s) (granted-file n s h)
+  read-granted n s h offset room = opened n offset room ∙ then (file-of Access.Read v x n) _ (file-at l x s) (granted-file n s h)
 
   pub holds-of : (n : Span) (s : ℕ) → Meant v x n s → (size : ℕ) (content : Bytes) → file-size (slot-at l x s) ≡ size
       → ((i : ℕ) → i < size → file-byte l x (file-at l x s) i ≡ content i) → Holds w n size content
@@ -69,36 +69,42 @@ module _ (w : Window) (v : Volume) (is : clean w ≡ granted v) where
 
   -- A name that no slot bears.
   pub gone-of : (n : Span) → name-ok n ≡ true → l .entries ≤ slot-of v x n → Gone w n
-  unfolding file-of file-in
+  unfolding file-of
   gone-of n ok above offset room =
       opened n offset room
-      ∙ ends (file-of v x n) _ Ground.Absent
+      ∙ ends (file-of Access.Read v x n) _ Ground.Absent
       (passed Ground.Name (not (name-ok n)) _ (ap not ok)
-      ∙ ends (file-in v x (slot-of v x n)) (whole v x) Ground.Absent
-      (stopped Ground.Absent (not (ltb (slot-of v x n) (l .entries))) _ (ap not (le-ltb (slot-of v x n) (l .entries) above))))
+      ∙ ends (file-named Access.Read v x n) (whole v x) Ground.Absent
+      (named-is Access.Read v x n ∙ admit-none l x (slot-of v x n) Access.Read above))
 
-  -- ---- what a granted read tells of the card
+  -- ---- what a file that is found tells of the card, whatever it is wanted for
 
-  pub there : (s : ℕ) (f : File) → file-in v x s ≡ granted f → (s < l .entries) × (is-directory (slot-at l x s) ≡ false) × (file-at l x s ≡ f)
-  unfolding file-in
-  there s f h =
-      let h1 = asked Ground.Absent (not (ltb s (l .entries))) _ f h in
-      let h2 = asked Ground.Directory (is-directory (slot-at l x s)) _ f (h1 .1) in
-      let e : granted (file-at l x s) ≡ granted f = h2 .1 in
-      (ltb-true s (l .entries) (not-false (ltb s (l .entries)) (h1 .0)), h2 .0, (cc))
+  pub admitted-in : (a : Access) (n : Span) (f : File) → file-named a v x n ≡ granted f → Admitted l x (slot-of v x n) f
+  admitted-in a n f h = admitted l x (slot-of v x n) a f (sym (named-is a v x n) ∙ h)
 
-  pub found-in : (n : Span) (f : File) → file-of v x n ≡ granted f → Meant v x n (slot-of v x n)
+  pub unmarked-in : (n : Span) (f : File) → file-named Access.Write v x n ≡ granted f → is-locked (slot-at l x (slot-of v x n)) ≡ false
+  unmarked-in n f h = unmarked l x (slot-of v x n) f (sym (named-is Access.Write v x n) ∙ h)
+
+  pub record Found (a : Access) (n : Span) (f : File) : Type 0 where
+    pub named : file-named a v x n ≡ granted f
+    pub meant : Meant v x n (slot-of v x n)
+    pub mine : file-at l x (slot-of v x n) ≡ f
+
+  pub found-in : (a : Access) (n : Span) (f : File) → file-of a v x n ≡ granted f → Found a n f
   unfolding file-of whole proper file-at
-  found-in n f h =
-      let s : ℕ = slot-of v x n in
+  found-in a n f h =
       let h1 = asked Ground.Name (not (name-ok n)) _ f h in
-      let b = bound (file-in v x s) (whole v x) f (h1 .1) in
-      let a = there s (b .0) (b .1) in
-      let h2 = asked Ground.Chain _ _ f (ap (whole v x) (a .2) ∙ b .2) in
-      record { ok = not-false (name-ok n) (h1 .0); at = refl; in-root = a .0; plain = a .1; keeps = not-false _ (h2 .0) }
-
-  pub found-file : (n : Span) (f : File) → file-of v x n ≡ granted f → file-at l x (slot-of v x n) ≡ f
-  found-file n f h = let e : granted (file-at l x (slot-of v x n)) ≡ granted f = sym (granted-file n (slot-of v x n) (found-in n f h)) ∙ h in cc
+      let b = bound (file-named a v x n) (whole v x) f (h1 .1) in
+      let s = admitted-in a n (b .0) (b .1) in
+      let h2 = asked Ground.Chain _ _ f (ap (whole v x) (s .is) ∙ b .2) in
+      let h3 = asked Ground.Chain _ _ f (b .2) in
+      let e : granted (b .0) ≡ granted f = h3 .1 in
+      let same : b .0 ≡ f = cc in
+      record {
+        named = b .1 ∙ ap granted same;
+        meant = record { ok = not-false (name-ok n) (h1 .0); at = refl; in-root = s .in-root; plain = s .plain; keeps = not-false _ (h2 .0) };
+        mine = s .is ∙ same;
+      }
 
   -- Of a name that holds bytes.
   pub record Read (n : Span) (size : ℕ) (content : Bytes) : Type 0 where
@@ -130,18 +136,18 @@ module _ (w : Window) (v : Volume) (is : clean w ≡ granted v) where
 
   pub holds-read : (n : Span) (size : ℕ) (content : Bytes) → Holds w n size content → Read n size content
   unfolding filled-outcome _>>=_
-  holds-read n size content h = go (file-of v x n) refl
+  holds-read n size content h = go (file-of Access.Read v x n) refl
     where
-      go : (a : Answer File) → file-of v x n ≡ a → Read n size content
+      go : (a : Answer File) → file-of Access.Read v x n ≡ a → Read n size content
       go (refused g) e =
-          let r : Refused g ≡ Done (min 0 (size - 0)) = sym (ap filled-outcome (opened n 0 0 ∙ ends (file-of v x n) _ g e)) ∙ h .count 0 0 in
+          let r : Refused g ≡ Done (min 0 (size - 0)) = sym (ap filled-outcome (opened n 0 0 ∙ ends (file-of Access.Read v x n) _ g e)) ∙ h .count 0 0 in
           let z : _≡_ {A = ℕ} 0 1 = cc in
           absurd (omega arith)
-      go (granted f) e = found-read n size content h (found-in n f e)
+      go (granted f) e = found-read n size content h (found-in Access.Read n f e .meant)
 
 -- A granted read.
 pub granted-holds : ReadHolds
 unfolding named-file file-at
 granted-holds w v is n offset room r h =
-    let b = bound (file-of v (w .card) n) _ r (sym (opened w v is n offset room) ∙ h) in
-    holds-of w v is n (slot-of v (w .card) n) (found-in w v is n (b .0) (b .1)) _ _ refl (λ i less. refl)
+    let b = bound (file-of Access.Read v (w .card) n) _ r (sym (opened w v is n offset room) ∙ h) in
+    holds-of w v is n (slot-of v (w .card) n) (found-in w v is Access.Read n (b .0) (b .1) .meant) _ _ refl (λ i less. refl)

@@ -5,14 +5,13 @@ use native.Mathlib.Omega.{arith}
 use mathlib.Core.Path.{_≡_, refl, sym, ap, _∙_, subst}
 use mathlib.Core.Logic.{⊎-elim}
 use mathlib.Core.List.{[], List·Memᴰ}
-use mathlib.Core.Bool.{Bool, true, false, not}
-use lib.Dec.{ltb, eqb}
-use borrow.Author.Tests.{le-ltb}
+use mathlib.Core.Bool.{Bool, true, false}
+use lib.Dec.{eqb}
 use Rattle.model.specs.Bytes.{Bytes, Span, pick}
 use Rattle.model.specs.Sector.{Card}
 use Rattle.model.specs.Fat.{entry, fat1-of, in-range, is-end}
 use Rattle.model.specs.Chain.{ends-after, keeps-chain, needed}
-use Rattle.model.specs.Root.{slot-at, root-place, is-file, file-size, first-cluster, file-at, find, lowest-slot, bears}
+use Rattle.model.specs.Root.{slot-at, root-place, is-file, file-size, first-cluster, file-at, find, lowest-slot, bears, slot-holds}
 use Rattle.model.specs.Pending.{pending, is-broken}
 use Rattle.model.specs.Ground.{Answer, refused, granted}
 use Rattle.model.specs.Volume.{clean, examine}
@@ -24,7 +23,7 @@ use Rattle.model.specs.declared.Volume.{Volume}
 use Rattle.operations.specs.Program.{ending}
 use Rattle.operations.specs.Finish.{redo}
 use Rattle.operations.specs.Plan.{recover-stores}
-use Rattle.operations.specs.Calls.{plan, recover, slot-of, file-in, file-of, whole, name-of}
+use Rattle.operations.specs.Calls.{plan, recover, slot-of, admit, file-named, file-of, whole, name-of}
 use Rattle.operations.specs.Reading.{read, reading, file-byte, filled-outcome, buffer-after}
 use Rattle.safety.specs.Sound.{Sound, chain-of, proper}
 use Rattle.safety.specs.Cuts.{recovery}
@@ -35,15 +34,18 @@ use Rattle.model.proofs.Tests.{clash, less?}
 use Rattle.model.proofs.Scan.{first-same}
 use Rattle.model.proofs.Fats.{agree-of, entry-same}
 use Rattle.model.proofs.Walks.{inside}
-use Rattle.model.proofs.Grounds.{bound, then, ends, stopped}
+use Rattle.model.proofs.Grounds.{bound, then, ends}
+use Rattle.model.proofs.Lookups.{holds-none}
+use Rattle.operations.proofs.Admitted.{named-is}
 use Rattle.model.proofs.Volumes.{window, layout-of, area-of, pending-of, first-fat, volume-of, Alike, layout-same, area-same, examined, clean-same}
 use Rattle.safety.proofs.Journal.{idle}
 use Rattle.safety.proofs.Start.{Start, Table, shape-of, fats-same, marks-same, slots-same, root-kept}
 use Rattle.safety.proofs.Files.{chain-kept}
 use Rattle.safety.proofs.Granted.{file-at-name}
-use Rattle.safety.proofs.Readings.{opened, found-in, found-file}
+use Rattle.safety.proofs.Readings.{opened, found-in}
+use Rattle.model.specs.declared.Access.{Access}
+use Rattle.model.specs.declared.Access.the-variants as Access
 use Rattle.model.specs.declared.Pending.the-variants as Pending
-use Rattle.model.specs.declared.Ground.the-variants as Ground
 
 -- ---- chains along entries that are the same within the card
 
@@ -157,29 +159,30 @@ module _ {size : ℕ} {c : Card} (st : Start size c) (y : Card) (boot : y 0 ≡ 
       file-by : ℕ → Bytes → File
       file-by s b = record { entry = Rattle.model.specs.Root.entry-at s b; first = first-cluster b; size = file-size b }
 
-  in-slot : (s : ℕ) → file-in v y s ≡ file-in v c s
-  unfolding file-in
-  in-slot s = ⊎-elim
-      (λ less. rw (file-same s less, slots s less))
-      (λ more. stopped Ground.Absent (not (ltb s (l .entries))) _ (ap not (le-ltb s (l .entries) more))
-      ∙ sym (stopped Ground.Absent (not (ltb s (l .entries))) _ (ap not (le-ltb s (l .entries) more)))) (less? s (l .entries))
+  in-slot : (s : ℕ) → slot-holds l y s ≡ slot-holds l c s
+  unfolding slot-holds
+  in-slot s = ⊎-elim (λ less. rw (file-same s less, slots s less)) (λ more. holds-none l y s more ∙ sym (holds-none l c s more)) (less? s (l .entries))
+
+  named-same : (a : Access) (n : Span) → file-named a v y n ≡ file-named a v c n
+  named-same a n = named-is a v y n ∙ ap (λ s. admit a (slot-holds l y s)) (slot-same n) ∙ ap (admit a) (in-slot (slot-of v c n)) ∙ sym (named-is a v c n)
 
   whole-same : whole v y ≡ whole v c
   unfolding whole
   whole-same = mathlib.Core.Path.fun-ext λ f. rw (keeps-same l (entry (fat1-of l y)) (entry (first-fat c)) entries-same (f .first) (f .size))
 
-  pub found-same : (n : Span) → file-of v y n ≡ file-of v c n
+  found-same : (a : Access) (n : Span) → file-of a v y n ≡ file-of a v c n
   unfolding file-of
-  found-same n = rw (slot-same n, in-slot (slot-of v c n), whole-same)
+  found-same a n = rw (named-same a n, whole-same)
 
   -- ---- reading
 
   module _ (sound : Sound l c) (files : SameFiles l y c) (is : clean (window size c) ≡ granted v) (now : clean (window size y) ≡ granted v) (n : Span) where
-    byte-same : (f : File) → file-of v c n ≡ granted f → (i : ℕ) → i < f .size → file-byte l y f i ≡ file-byte l c f i
+    byte-same : (f : File) → file-of Access.Read v c n ≡ granted f → (i : ℕ) → i < f .size → file-byte l y f i ≡ file-byte l c f i
     byte-same f e i less =
         let s : ℕ = slot-of v c n in
-        let a = found-in (window size c) v is n f e in
-        let mine : file-at l c s ≡ f = found-file (window size c) v is n f e in
+        let b = found-in (window size c) v is Access.Read n f e in
+        let a = b .meant in
+        let mine : file-at l c s ≡ f = b .mine in
         let file : is-file (slot-at l c s) ≡ true = file-at-name st is n (a .in-root) (a .plain) in
         (λ t. file-byte l y ((sym mine ∙ sym (file-same s (a .in-root))) t) i)
         ∙ files s (a .in-root) file i (subst (λ m. i < m) (sym (size-at s f mine)) less)
@@ -189,23 +192,23 @@ module _ {size : ℕ} {c : Card} (st : Start size c) (y : Card) (boot : y 0 ≡ 
         size-at s f e = sized l c s ∙ ap (λ (f : File). f .size) e
 
     pub reads-kept : ReadsAs (window size y) (window size c) n
-    reads-kept = go (file-of v c n) refl
+    reads-kept = go (file-of Access.Read v c n) refl
       where
-        go : (a : Answer File) → file-of v c n ≡ a → ReadsAs (window size y) (window size c) n
+        go : (a : Answer File) → file-of Access.Read v c n ≡ a → ReadsAs (window size y) (window size c) n
         go (refused g) e =
             let there : (offset room : ℕ) → read (window size y) n offset room ≡ refused g =
-            λ offset room. opened (window size y) v now n offset room ∙ ends (file-of v y n) _ g (found-same n ∙ e) in
+            λ offset room. opened (window size y) v now n offset room ∙ ends (file-of Access.Read v y n) _ g (found-same Access.Read n ∙ e) in
             let here : (offset room : ℕ) → read (window size c) n offset room ≡ refused g =
-            λ offset room. opened (window size c) v is n offset room ∙ ends (file-of v c n) _ g e in
+            λ offset room. opened (window size c) v is n offset room ∙ ends (file-of Access.Read v c n) _ g e in
             record {
               answers = λ offset room. ap filled-outcome (there offset room ∙ sym (here offset room));
               buffer = λ offset room b i. λ t. buffer-after ((there offset room ∙ sym (here offset room)) t) b i;
             }
         go (granted f) e =
             let there : (offset room : ℕ) → read (window size y) n offset room ≡ granted (reading l y f offset room) =
-            λ offset room. opened (window size y) v now n offset room ∙ then (file-of v y n) _ f (found-same n ∙ e) in
+            λ offset room. opened (window size y) v now n offset room ∙ then (file-of Access.Read v y n) _ f (found-same Access.Read n ∙ e) in
             let here : (offset room : ℕ) → read (window size c) n offset room ≡ granted (reading l c f offset room) =
-            λ offset room. opened (window size c) v is n offset room ∙ then (file-of v c n) _ f e in
+            λ offset room. opened (window size c) v is n offset room ∙ then (file-of Access.Read v c n) _ f e in
             record {
               answers = λ offset room. ap filled-outcome (there offset room) ∙ counts l y c f offset room ∙ sym (ap filled-outcome (here offset room));
               buffer = λ offset room b i.

@@ -5,7 +5,7 @@ use mathlib.Core.Bool.{true}
 use lib.Dec.{ltb}
 use Rattle.model.specs.Bytes.{Bytes, Span, pick, overlay}
 use Rattle.model.specs.Sector.{Card, Window}
-use Rattle.model.specs.Root.{slot-at, bears, is-file, file-size, file-at}
+use Rattle.model.specs.Root.{slot-at, bears, is-file, is-locked, file-size, file-at}
 use Rattle.model.specs.Ground.{refused, granted}
 use Rattle.model.specs.Volume.{clean}
 use Rattle.model.specs.declared.Layout.{Layout}
@@ -101,6 +101,12 @@ pub record KeepsOthers (k : Call) (w : Window) (v : Volume) : Type 0 where
 
 abbrev pub AllKeep : Type 0
 AllKeep = (k : Call) (w : Window) (v : Volume) → Genuine w → clean w ≡ granted v → Sound (v .layout) (w .card) → KeepsOthers k w v
+
+-- "Respect the read-only mark": such a call leaves each root file that has the mark as it was, whatever it names.
+abbrev pub LockedStays : Type 0
+LockedStays = (k : Call) (w : Window) (v : Volume) → Genuine w → clean w ≡ granted v → Sound (v .layout) (w .card)
+    → (s : ℕ) → s < v .layout .entries → is-file (slot-at (v .layout) (w .card) s) ≡ true → is-locked (slot-at (v .layout) (w .card) s) ≡ true
+    → SameFile (v .layout) (w .card) (finished k w) s
 
 -- A window of bytes stays one, under any limit, if what is written is bytes. The card being clean and sound again as well, all this
 -- holds of call after call.

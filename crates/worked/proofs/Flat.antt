@@ -36,3 +36,10 @@ flat-same n = fun-ext λ c. fun-ext λ s. look-same c n s (ltb s n) refl
 pub trace-flat : (n : ℕ) (xs : List Call) (w : Window) → trace xs w ≡ trace-on (flat n) xs w
 unfolding trace
 trace-flat n xs w = ap (λ on. trace-on on xs w) (sym (flat-same n))
+
+-- So with a window's card.
+abbrev pub flattened : ℕ → Window → Window
+flattened n w = record { size = w .size; card = flat n (w .card) }
+
+pub flattened-same : (n : ℕ) (w : Window) → flattened n w ≡ w
+flattened-same n w = ap (λ (on : Card → Card). record { size = w .size; card = on (w .card) }) (flat-same n)

@@ -4,3 +4,4 @@ pub mod Rows
 pub mod Instance
 pub mod SavedK
 pub mod ReplacingRows
+pub mod LockedRows

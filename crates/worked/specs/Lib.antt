@@ -1,3 +1,4 @@
 pub mod CardK
 pub mod Worked
 pub mod Replacing
+pub mod Locked
