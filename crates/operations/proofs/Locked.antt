@@ -1,7 +1,7 @@
 -- A file marked read-only, on the card of `Small`: what each call answers. Rows that refuse wrong definitions.
 use Prim.Native.Nat.{ℕ}
 use mathlib.Core.Path.{_≡_, refl}
-use mathlib.Core.List.{[], _∷_, map}
+use mathlib.Core.List.{List, [], _∷_, map}
 use lib.Dec.{eqb}
 use lib.ListN.{replicate}
 use Rattle.model.specs.Bytes.{Bytes, Span, pick, patch}
@@ -13,9 +13,9 @@ use Rattle.model.specs.declared.Ground.the-variants as Ground
 use Rattle.operations.specs.Program.{Program, stores}
 use Rattle.operations.specs.Plan.{create-stores}
 use Rattle.operations.specs.Calls.{create-on, append-on, replace-on, truncate-on, delete-on, rename-on}
-use Rattle.operations.specs.Outcome.{outcome, made, largest}
+use Rattle.operations.specs.Outcome.{outcome, largest}
 use Rattle.operations.specs.Reading.{read-on, filled-outcome}
-use Rattle.operations.proofs.Small.{v, two, span, appended, sectors}
+use Rattle.operations.proofs.Small.{v, two, span, appended}
 use Rattle.operations.proofs.Compute.{compute}
 
 -- The names A, B and C, as a caller gives them.
@@ -38,31 +38,31 @@ with x d = put (both d) (store 3 (patch 1 x 11 (both d 3)))
 abbrev answer : Answer Program → Outcome
 answer p = outcome largest p
 
--- Each of the five calls is refused, with bytes and without; before EXISTS, ROOTFULL and LENGTH would be.
-locked-row : (d e : Bytes) → map answer (
-    append-on v (with 0x21 d) a (span 100 e) ∷ append-on v (with 0x21 d) a (span 0 e)
-    ∷ truncate-on v (with 0x21 d) a 512 ∷ truncate-on v (with 0x21 d) a 600 ∷ truncate-on v (with 0x21 d) a 601 ∷ delete-on v (with 0x21 d) a
-    ∷ rename-on v (with 0x21 d) a (letter 67) ∷ rename-on v (with 0x21 d) a b ∷ rename-on v (with 0x21 d) a a
-    ∷ replace-on v (with 0x21 d) a (span 700 e) ∷ replace-on v (with 0x21 d) a (span 0 e) ∷ [])
-    ≡ replicate 11 (Refused Ground.Locked)
+-- Each of the five calls is refused, with bytes and without; before EXISTS, ROOTFULL and LENGTH would be. (The card is an argument, so that
+-- it is computed once.)
+abbrev changes : Bytes → Card → List (Answer Program)
+changes e c =
+    append-on v c a (span 100 e) ∷ append-on v c a (span 0 e) ∷ truncate-on v c a 512 ∷ truncate-on v c a 600 ∷ truncate-on v c a 601 ∷ delete-on v c a
+    ∷ rename-on v c a (letter 67) ∷ rename-on v c a b ∷ rename-on v c a a ∷ replace-on v c a (span 700 e) ∷ replace-on v c a (span 0 e) ∷ []
+
+locked-row : (d e : Bytes) → map answer (changes e (with 0x21 d)) ≡ replicate 11 (Refused Ground.Locked)
 unfolding compute
 locked-row d e = refl
 
--- Of a directory the mark is not asked; a name that no slot has is ABSENT.
-before-row : (d e : Bytes) → map answer (append-on v (with 0x11 d) a (span 100 e) ∷ delete-on v (with 0x11 d) a ∷ delete-on v (with 0x21 d) (letter 67) ∷ [])
-    ≡ Refused Ground.Directory ∷ Refused Ground.Directory ∷ Refused Ground.Absent ∷ []
+-- Of a directory the mark is not asked.
+directory-row : (d : Bytes) → answer (delete-on v (with 0x11 d) a) ≡ Refused Ground.Directory
 unfolding compute
-before-row d e = refl
+directory-row d = refl
 
 -- Read does not ask it, nor does create; another file is changed, and renamed onto the locked one's name it is EXISTS.
-open-row : (d e : Bytes) → (filled-outcome (read-on v (with 0x21 d) a 0 700) ≡ Done 600)
-    × (sectors (made largest (create-on v (with 0x21 d) (letter 67))) ≡ 5 ∷ 3 ∷ 5 ∷ [])
-    × (answer (append-on v (with 0x21 d) b (span 0 e)) ≡ Done 0) × (answer (rename-on v (with 0x21 d) b a) ≡ Refused Ground.Exists)
-unfolding compute
-open-row d e = (refl, refl, refl, refl)
+abbrev goes-on : Bytes → Card → List Outcome
+goes-on e c = filled-outcome (read-on v c a 0 700) ∷ map answer (create-on v c (letter 67) ∷ append-on v c b (span 0 e) ∷ rename-on v c b a ∷ [])
 
--- Without the mark, whatever the other bits are, nothing is refused: a truncate to the present size is done.
-unlocked-row : (d : Bytes) → map (λ x. answer (truncate-on v (with x d) a 600)) (0x20 ∷ 0x00 ∷ 0x26 ∷ 0xE6 ∷ 0x01 ∷ 0x27 ∷ 0xE7 ∷ [])
-    ≡ Done 0 ∷ Done 0 ∷ Done 0 ∷ Done 0 ∷ Refused Ground.Locked ∷ Refused Ground.Locked ∷ Refused Ground.Locked ∷ []
+open-row : (d e : Bytes) → goes-on e (with 0x21 d) ≡ Done 600 ∷ Done 3 ∷ Done 0 ∷ Refused Ground.Exists ∷ []
+unfolding compute
+open-row d e = refl
+
+-- Without the mark nothing is refused, whatever the bits beside it are: a truncate to the present size is done.
+unlocked-row : (d : Bytes) → answer (truncate-on v (with 0x26 d) a 600) ≡ Done 0
 unfolding compute
 unlocked-row d = refl

@@ -29,7 +29,7 @@ use Rattle.operations.specs.Outcome.{made, outcome}
 use Rattle.operations.specs.Reading.{reading, file-byte}
 use Rattle.operations.proofs.Compute.{compute}
 
-abbrev pub l : Layout
+abbrev l : Layout
 l = record { factor = 1; fatsize = 1; fat1 = 1; fat2 = 2; root = 3; entries = 16; start = 4; total = 12; clusters = 8 }
 
 abbrev log : Area
@@ -45,7 +45,7 @@ marks j = pick (eqb j 4 || eqb j 6) 0xF6 (pick (eqb j 5 || eqb j 7) 0xFF 0)
 abbrev blank : Card
 blank s = pick (eqb s 1 || eqb s 2) marks (pick (leb 6 s) (λ j. 0xAA) zeros)
 
-abbrev pub one : Name
+abbrev one : Name
 one = record { stem = 0x2020202020202041; extension = 0x202020 }
 
 abbrev pub two : Name
@@ -59,7 +59,7 @@ span n b = record { size = n; byte = b }
 abbrev creation : Program
 creation = create-stores v blank 0 one
 
-abbrev pub created : Card
+abbrev created : Card
 created = after (stores creation) blank
 
 abbrev appending : Bytes → Program
@@ -92,7 +92,7 @@ replacing-none e = replace-stores v created (file-at l created 0) (span 0 e)
 
 -- ---- what is seen of them
 
-abbrev pub sectors : List Store → List ℕ
+abbrev sectors : List Store → List ℕ
 sectors ss = map (λ s. s .sector) ss
 
 -- A store of a list, by its place.
