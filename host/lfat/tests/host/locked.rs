@@ -5,6 +5,7 @@ use crate::refusals::{folder_with, refused};
 use crate::support::cli::{Folder, Run};
 use crate::support::{card_with_route, mark_read_only, points, set_fats, ALL, PANEL, ROUTE};
 use lfat::blank::Blank;
+use lfat::failure::Failure;
 use lfat_card::Refusal;
 use std::process::Command;
 
@@ -81,6 +82,20 @@ fn every_command_that_changes_it() {
         );
         assert_eq!(run.bytes(), b"", "{line}");
         assert!(folder.read("card") == card(), "{line} changes nothing");
+    }
+}
+
+/// Where the file is not known, the advice is the same without its name.
+#[test]
+fn advice_without_a_name() {
+    let advice = Failure::from(Refusal::Locked).to_string();
+    for words in [
+        "LOCKED: ",
+        "Nothing was written.",
+        "'attrib -r'",
+        "mattrib -r",
+    ] {
+        assert!(advice.contains(words), "{advice}");
     }
 }
 
