@@ -280,12 +280,15 @@ fn a_name_that_is_taken() {
         .failed(1, "SUB is a directory: save under another name.");
     folder.lfat("put -f card SUB path").failed(1, "DIRECTORY: ");
     folder.lfat("mv card SUB NEW").failed(1, "DIRECTORY: ");
-    // Where the mark is not set, all is said as before.
+    // Where no file has the mark, all is said as before.
     made[33 * 512 + 11] = 0x20;
     folder.write("card", &made);
-    folder
-        .lfat("mv card ROUTE.CUT ROUTE.CUT")
-        .failed(1, "'lfat put --replace' saves over a file");
+    for line in ["mv card ROUTE.CUT ROUTE.CUT", "mv card ROUTE.CUT SUB"] {
+        let run = folder
+            .lfat(line)
+            .failed(1, "'lfat put --replace' saves over a file");
+        assert!(!run.errors().contains("read-only"), "{}", run.errors());
+    }
 }
 
 /// A file that no name reaches: it is told by its slot, and no command by a wrong name is proposed.
