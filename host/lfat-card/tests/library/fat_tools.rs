@@ -227,7 +227,7 @@ fn saved_over_by_turns() {
     }
 }
 
-/// The bits that mattrib sets: read-only, hidden, system; +a has mtools set the archive bit, which files have already.
+/// What mattrib sets here: read-only, hidden, system. The archive bit, 0x20, is set already.
 const BITS: [(&str, u8); 3] = [("+r", 0x01), ("+h", 0x02), ("+s", 0x04)];
 
 /// The attribute byte of a file, as the library lists it.
@@ -249,7 +249,7 @@ fn mattrib(image: &mut Image, change: &str, name: &[u8; 11]) {
     image.load();
 }
 
-/// The calls that change a file, on a file and a name that is not there. Gives their answers.
+/// Changes a file of 9,000 bytes in every way, gives it another name and removes it. Gives the answers.
 fn changes(image: &mut Image, name: &[u8; 11], new: &[u8; 11]) -> [Answer; 7] {
     let card = &mut image.card;
     [
@@ -277,7 +277,7 @@ fn marked_by_mtools() {
                 mattrib(&mut image, change, name);
             }
         }
-        assert_eq!(attributes(&image, name), 0x20 | bits);
+        assert_attributes(&image, name, 0x20 | bits);
         let files = Files::from([(*name, data), (*NAMES[1], b"other".to_vec())]);
         if bits & 0x01 != 0 {
             let before = image.card.clone();
@@ -291,7 +291,7 @@ fn marked_by_mtools() {
             assert!(image.card == before, "nothing is stored");
             assert_holds(&image, &files);
             mattrib(&mut image, "-r", name);
-            assert_eq!(attributes(&image, name), 0x20 | bits & !0x01);
+            assert_attributes(&image, name, 0x20 | bits & !0x01);
         }
         assert_holds(&image, &files);
         kept_by_changes(&mut image, name, 0x20 | bits & !0x01);
@@ -308,45 +308,29 @@ fn marked_by_mtools() {
     }
 }
 
-/// Append, replace, truncate and rename keep the attributes, in the library's list and in what mattrib prints.
+/// The library's list and mattrib have the same attributes for a file.
+fn assert_attributes(image: &Image, name: &[u8; 11], bits: u8) {
+    assert_eq!(attributes(image, name), bits);
+    image.save();
+    let path = format!("::/{}", dotted(name));
+    let text = String::from_utf8(image.tool("mattrib", &[&path])).expect("text");
+    let (letters, _) = text.split_once("::").expect("letters, and the path");
+    for (letter, bit) in [('A', 0x20), ('R', 0x01), ('H', 0x02), ('S', 0x04)] {
+        assert_eq!(letters.contains(letter), bits & bit != 0, "{text}");
+    }
+}
+
+/// Append, replace, truncate and rename keep the attributes.
 fn kept_by_changes(image: &mut Image, name: &[u8; 11], bits: u8) {
     let other = NAMES[3];
-    let printed = |image: &Image, name: &[u8; 11]| {
-        image.save();
-        let path = format!("::/{}", dotted(name));
-        let text = String::from_utf8(image.tool("mattrib", &[&path])).expect("text");
-        text.replace(&dotted(name), "NAME")
-    };
-    let before = printed(image, name);
-    let letters: String = before
-        .split("::")
-        .next()
-        .expect("letters")
-        .split(' ')
-        .collect();
-    assert_eq!(letters.contains('R'), bits & 0x01 != 0, "{before}");
-    assert_eq!(letters.contains('H'), bits & 0x02 != 0, "{before}");
-    assert_eq!(letters.contains('S'), bits & 0x04 != 0, "{before}");
     let done = |answer| assert!(matches!(answer, Answer::Done(1..)), "{answer:?}");
     done(calls::append(&mut image.card, name, &[7; 600], ALL));
-    assert_eq!(
-        (attributes(image, name), printed(image, name)),
-        (bits, before.clone())
-    );
+    assert_attributes(image, name, bits);
     done(calls::replace(&mut image.card, name, &[8; 3_000], ALL));
-    assert_eq!(
-        (attributes(image, name), printed(image, name)),
-        (bits, before.clone())
-    );
+    assert_attributes(image, name, bits);
     done(calls::truncate(&mut image.card, name, 10, ALL));
-    assert_eq!(
-        (attributes(image, name), printed(image, name)),
-        (bits, before.clone())
-    );
+    assert_attributes(image, name, bits);
     done(calls::rename(&mut image.card, name, other, ALL));
-    assert_eq!(
-        (attributes(image, other), printed(image, other)),
-        (bits, before)
-    );
+    assert_attributes(image, other, bits);
     done(calls::rename(&mut image.card, other, name, ALL));
 }
