@@ -64,6 +64,25 @@ fn the_five_calls() {
     }
 }
 
+/// A card that is not clean, a name that is none, and a directory's are refused as such.
+#[test]
+fn grounds_before_it() {
+    let mut twin = Twin::new(card_with(3, 0x21));
+    let bad_name = Call::Rename(ROUTE.to_vec(), b"lower case ".to_vec());
+    expect(&mut twin, &bad_name, Ground::Name);
+    let mut folder = Twin::new(card_with(3, 0x31));
+    let mut unclean = Twin::new(card_with(3, 0x21));
+    unclean.edit(|card| card.set_fat1(4_000, 0xFFF7));
+    let mut pending = Twin::new(card_with(3, 0x20));
+    pending.call(&Call::Append(ROUTE.to_vec(), vec![7]), 2);
+    pending.edit(|card| card.mark_read_only(3, true));
+    for call in asking() {
+        expect(&mut folder, &call, Ground::Directory);
+        expect(&mut unclean, &call, Ground::Unclean);
+        expect(&mut pending, &call, Ground::Unclean);
+    }
+}
+
 /// Each ground that comes after is answered once the mark is gone.
 #[test]
 fn grounds_after_it() {
