@@ -5,7 +5,7 @@
  *
  * The card is recovered first. A file of that name is saved over in one call: a cut leaves its old bytes or the new ones, whole.
  * Under a new name the file is made first: a cut leaves no such file, an empty one, or the whole one. The bytes are read back and
- * compared. Exit status: 0, or 1 with a line on standard error.
+ * compared. A file marked read-only is refused and stays as it was. Exit status: 0, or 1 with a line on standard error.
  */
 #include "lfat_disk.h"
 

@@ -7,7 +7,7 @@
 #include <stdio.h>
 #include <string.h>
 
-enum { SECTORS = 4150, FAT1 = 1, FAT2 = 17, PATH_BYTES = 1300 };
+enum { SECTORS = 4150, FAT1 = 1, FAT2 = 17, PATH_BYTES = 1300, ATTRIBUTES = 33 * LFAT_SECTOR_BYTES + 11 /* of slot 0 */ };
 
 static const uint8_t route[] = "ROUTE   CUT", panel[] = "PANEL   CUT";
 static uint8_t card[SECTORS * LFAT_SECTOR_BYTES], saved[sizeof card];
@@ -104,6 +104,14 @@ int main(void)
     due("    replace by nothing", replace(0, LFAT_NO_LIMIT), LFAT_DONE, 5);
     due("    replace by nothing again", replace(0, LFAT_NO_LIMIT), LFAT_DONE, 3);
     memcpy(card, saved, sizeof card);
+
+    /* Marked read-only by another machine: it is read, and not changed until the mark is taken away. */
+    card[ATTRIBUTES] |= 0x01;
+    due("    replace, marked read-only", replace(600, LFAT_NO_LIMIT), LFAT_LOCKED, 0);
+    due("    append nothing, marked read-only", append(0, LFAT_NO_LIMIT), LFAT_LOCKED, 0);
+    due("    read", read_route(), LFAT_DONE, PATH_BYTES);
+    card[ATTRIBUTES] &= 0xFE;
+    wrong |= memcmp(card, saved, sizeof card) != 0;
 
     due("M7  append 100", append(100, LFAT_NO_LIMIT), LFAT_DONE, 4);
     due("    truncate to 1401", lfat_truncate(card, sizeof card, route, 11, 1401, LFAT_NO_LIMIT), LFAT_LENGTH, 0);

@@ -94,8 +94,9 @@ extern "C" {
 #define LFAT_ENTRY_BYTES 32
 
 /*
- * The codes. 1 to 15 are the grounds of a refusal, in checking order: the lowest that holds is answered.
- * A refused call has stored nothing and altered no byte; its count is 0.
+ * The codes. 1 to 16 are the grounds of a refusal. They are asked in the order of their numbers, but for LFAT_LOCKED, which is
+ * asked right after LFAT_DIRECTORY; the first that holds is answered. A refused call has stored nothing and altered no byte;
+ * its count is 0.
  */
 enum lfat_code {
     LFAT_DONE = 0,       /* all stores were made; for read and list: success */
@@ -114,6 +115,7 @@ enum lfat_code {
     LFAT_CHAIN = 13,     /* the file's clusters do not fit its size */
     LFAT_LENGTH = 14,    /* truncate was asked for more than the present size */
     LFAT_NOSPACE = 15,   /* the card has too few free clusters */
+    LFAT_LOCKED = 16,    /* the file is marked read-only (append, replace, truncate, delete, rename by its old name) */
     LFAT_STOPPED = 255   /* the limit ended the call before its last store: recover before anything else */
 };
 
@@ -122,7 +124,7 @@ static inline const char *lfat_code_name(uint32_t code)
 {
     static const char *const names[] = {
         "DONE", "SHORT", "BOOT", "WINDOW", "LOGAREA", "ROOT", "RECORD", "UNCLEAN",
-        "NAME", "ABSENT", "DIRECTORY", "EXISTS", "ROOTFULL", "CHAIN", "LENGTH", "NOSPACE"};
+        "NAME", "ABSENT", "DIRECTORY", "EXISTS", "ROOTFULL", "CHAIN", "LENGTH", "NOSPACE", "LOCKED"};
     if (code < sizeof names / sizeof names[0])
         return names[code];
     return code == LFAT_STOPPED ? "STOPPED" : "unknown";
@@ -131,6 +133,8 @@ static inline const char *lfat_code_name(uint32_t code)
 /*
  * Calls that store. All but lfat_recover ask for a clean card. The count is the number of stores made.
  * A cut in mid-call leaves a card that lfat_recover brings to the state before the call or after it.
+ * A file that is marked read-only, as other systems do, is not changed: append, replace, truncate, delete and rename refuse it
+ * (LFAT_LOCKED), also where they would store nothing. No call sets the mark or takes it away.
  */
 
 /* Finishes what a power cut left behind, or takes it back. Call it at power-up, until it answers LFAT_DONE. */
@@ -157,11 +161,14 @@ uint64_t lfat_truncate(uint8_t *card, size_t card_len, const uint8_t *name, size
 /* Removes a file and frees its clusters. */
 uint64_t lfat_delete(uint8_t *card, size_t card_len, const uint8_t *name, size_t name_len, uint32_t limit);
 
-/* Gives a file another name. */
+/* Gives a file another name. A name that is taken is refused (LFAT_EXISTS), also that of a file marked read-only. */
 uint64_t lfat_rename(uint8_t *card, size_t card_len, const uint8_t *old_name, size_t old_len,
                      const uint8_t *new_name, size_t new_len, uint32_t limit);
 
-/* Calls that read. They ask for a clean card and touch no byte of the buffer but those that they fill. */
+/*
+ * Calls that read. They ask for a clean card and touch no byte of the buffer but those that they fill. Files marked read-only
+ * are read as all others.
+ */
 
 /* Copies a file's bytes from an offset on, as many as there are and fit. The count is the bytes copied, 0 past the end. */
 uint64_t lfat_read(const uint8_t *card, size_t card_len, const uint8_t *name, size_t name_len,
@@ -169,8 +176,8 @@ uint64_t lfat_read(const uint8_t *card, size_t card_len, const uint8_t *name, si
 
 /*
  * Copies the root directory's entries, files and directories, 32 bytes each as on the card, as many as fit whole.
- * The count is how many there are. In an entry: name at 0 (11 bytes), attributes at 11 (bit 0x10: directory),
- * size at 28 (4 bytes, little-endian).
+ * The count is how many there are. In an entry: name at 0 (11 bytes), attributes at 11 (bit 0x01: read-only, bit 0x10:
+ * directory), size at 28 (4 bytes, little-endian).
  */
 uint64_t lfat_list(const uint8_t *card, size_t card_len, uint8_t *buffer, size_t buffer_len);
 

@@ -58,7 +58,7 @@ enum lfat_disk_code {
     LFAT_DISK_PARTITION = 259, /* there is no such partition, or none that holds a FAT16 card */
     LFAT_DISK_DISAGREE = 260,  /* the list of stores does not agree with the library's card: report this */
     LFAT_DISK_ENDED = 261,     /* an earlier call answered LFAT_DISK_CUT: close, open again, recover */
-    LFAT_DISK_READ_ONLY = 262, /* the card was opened to be read */
+    LFAT_DISK_READ_ONLY = 262, /* the card was opened to be read; a file marked read-only is LFAT_LOCKED */
     LFAT_DISK_ARGUMENT = 263,  /* a pointer is NULL that must not be, or a flag is not known */
     LFAT_DISK_INTERNAL = 264   /* a fault of this library: report it; the handle answers LFAT_DISK_ENDED from now on */
 };
@@ -82,7 +82,8 @@ void lfat_disk_close(lfat_disk *disk);
 
 /*
  * Calls that store. They answer as the calls of lfat.h do, and the count is the number of stores made. All but
- * lfat_disk_recover ask for a clean card. When they answer LFAT_DONE, all is on the disk.
+ * lfat_disk_recover ask for a clean card. When they answer LFAT_DONE, all is on the disk. Append, replace, truncate, delete and
+ * rename refuse a file that is marked read-only (LFAT_LOCKED).
  */
 
 /* Finishes what a power cut left behind, or takes it back. Call it after lfat_disk_open. */

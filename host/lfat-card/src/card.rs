@@ -4,6 +4,9 @@ use crate::{count, Answer, CardView, Entry, File, Name, Operation, Refusal, NO_L
 
 /// A card over the bytes of its window. Methods that change it give the number of stores made.
 ///
+/// A file that is marked read-only ([`Entry::is_read_only`]) is read as any other; append, replace, truncate, delete and rename
+/// refuse it with [`Refusal::Locked`]. No method sets the mark or takes it away.
+///
 /// ```
 /// use lfat_card::{Card, Name, Refusal};
 ///

@@ -5,6 +5,7 @@ use crate::{name, Name, Refusal};
 /// The bytes of an entry.
 pub const ENTRY_BYTES: usize = 32;
 
+const READ_ONLY: u8 = 0x01;
 const DIRECTORY: u8 = 0x10;
 
 /// One file or directory, with its bytes as on the card.
@@ -35,6 +36,11 @@ impl Entry {
     /// Whether it is a directory.
     pub fn is_directory(&self) -> bool {
         self.attributes() & DIRECTORY != 0
+    }
+
+    /// Whether it is marked read-only; a file that is can be read, and is neither changed, renamed nor removed.
+    pub fn is_read_only(&self) -> bool {
+        self.attributes() & READ_ONLY != 0
     }
 
     /// The number of its first cluster, 0 if it has none.

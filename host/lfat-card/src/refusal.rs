@@ -4,7 +4,8 @@ use std::error::Error;
 use std::fmt;
 use std::io::{self, ErrorKind};
 
-/// The grounds on which a call refuses, in checking order. There may be more of them later.
+/// The grounds on which a call refuses, in checking order. There may be more of them later. Numbers stay as they were first
+/// given, so that of LOCKED is the highest.
 #[derive(Clone, Copy, Debug, PartialEq, Eq)]
 #[non_exhaustive]
 pub enum Refusal {
@@ -28,6 +29,8 @@ pub enum Refusal {
     Absent,
     /// The name is that of a directory.
     Directory,
+    /// The file is marked read-only, so it is not changed.
+    Locked,
     /// The name is taken.
     Exists,
     /// The root directory has no free slot.
@@ -43,7 +46,7 @@ pub enum Refusal {
 }
 
 /// The refusals by number, from 1 on.
-const BY_NUMBER: [Refusal; 15] = [
+const BY_NUMBER: [Refusal; 16] = [
     Refusal::Short,
     Refusal::Boot,
     Refusal::Window,
@@ -59,6 +62,7 @@ const BY_NUMBER: [Refusal; 15] = [
     Refusal::Chain,
     Refusal::Length,
     Refusal::Nospace,
+    Refusal::Locked,
 ];
 
 impl Refusal {
@@ -116,6 +120,7 @@ impl Refusal {
             ),
             Refusal::Absent => (9, "ABSENT", "no file has the name"),
             Refusal::Directory => (10, "DIRECTORY", "the name is that of a directory"),
+            Refusal::Locked => (16, "LOCKED", "the file is marked read-only"),
             Refusal::Exists => (11, "EXISTS", "the name is taken"),
             Refusal::Rootfull => (12, "ROOTFULL", "the root directory has no free slot"),
             Refusal::Chain => (13, "CHAIN", "the file's clusters do not fit its size"),
@@ -141,6 +146,7 @@ impl From<Refusal> for io::Error {
             Refusal::Name | Refusal::Length => ErrorKind::InvalidInput,
             Refusal::Absent => ErrorKind::NotFound,
             Refusal::Directory => ErrorKind::IsADirectory,
+            Refusal::Locked => ErrorKind::PermissionDenied,
             Refusal::Exists => ErrorKind::AlreadyExists,
             Refusal::Rootfull | Refusal::Nospace => ErrorKind::StorageFull,
             _ => ErrorKind::InvalidData,

@@ -6,6 +6,7 @@ use lfat_card::{printed, Name};
 /// The bytes of an entry.
 pub const ENTRY: usize = 32;
 
+const READ_ONLY: u8 = 0x01;
 const DIRECTORY: u8 = 0x10;
 
 /// One file or directory.
@@ -41,6 +42,11 @@ impl Entry {
     /// Whether it is a directory.
     pub fn is_directory(&self) -> bool {
         self.attributes() & DIRECTORY != 0
+    }
+
+    /// Whether it is marked read-only.
+    pub fn is_read_only(&self) -> bool {
+        self.attributes() & READ_ONLY != 0
     }
 
     /// The bytes of the file.

@@ -51,7 +51,7 @@ pub static COMMANDS: [Command; 12] = [
         name: "ls",
         words: &["IMAGE"],
         more: "[--json]",
-        about: "list the root directory: sizes and names",
+        about: "list the root directory: sizes, names and read-only marks",
         details: help::LS,
         options: JSON,
         run: reading::ls,

@@ -70,6 +70,10 @@ fn advice(refusal: Refusal) -> &'static str {
         }
         Refusal::Absent => "'lfat ls' shows the names that there are.",
         Refusal::Directory => "Only files in the root directory are covered; any FAT program opens the directory.",
+        Refusal::Locked => {
+            "Nothing was written. Clear the mark first: on Windows in the file's properties or with 'attrib -r', elsewhere with \
+             mattrib -r of mtools."
+        }
         Refusal::Exists => "'lfat put --replace' saves over a file, 'lfat append' adds to it, 'lfat rm' removes it.",
         Refusal::Rootfull => "Remove a file first: 'lfat rm'.",
         Refusal::Length => "'lfat ls' shows the sizes; truncate only shortens.",

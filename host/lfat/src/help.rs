@@ -12,7 +12,8 @@ Formatting real cards is not its purpose. A file that is there is not overwritte
 
 pub const LS: &str = "\
 A file whose name no rule allows, or has twice, is shown with its slot, as slot:3: get, rm and mv take that for its name.
-  --json      one JSON object: entries, each with slot, name, size, directory, attributes
+A file marked read-only is shown as (read-only) after its name: get reads it, commands that would change it refuse it.
+  --json      one JSON object: entries, each with slot, name, size, directory, attributes, read_only
 ";
 
 pub const GET: &str = "\
@@ -90,6 +91,7 @@ pub fn overview() -> String {
     }
     text + "\n'lfat COMMAND --help' says more; 'lfat --version' the version. -- ends the options.\n\
          IMAGE is an image, a block device such as /dev/sdX, or IMAGE:N for a partition. Names are as ROUTE.CUT, in capitals.\n\
+         Files marked read-only, which ls shows, can be read; they are not changed, renamed or removed.\n\
          Exit status: 0 done; 1 refused, stopped or a mismatch; 2 wrong usage; 3 a file or the card could not be used;\n\
          4 list and library disagree, nothing written; 5 the disk failed in mid-save: recover the card.\n"
 }

@@ -1,6 +1,6 @@
 //! The command line on cards, over the disk layer and the proved library.
 //!
-//! - `commands`, `help`, `args`, `failure`: the command line itself;
+//! - `commands`, `help`, `args`, `failure`, `remedy`: the command line itself;
 //! - `target`, `source`, `output`, `progress`, `json`: the card it is given, files of this machine, what is printed;
 //! - `reading`, `writing`, `blank`, `listing`: what the commands do;
 //! - `rack`: the test rack.
@@ -16,6 +16,7 @@ pub mod output;
 mod progress;
 pub mod rack;
 mod reading;
+mod remedy;
 mod source;
 mod target;
 mod writing;

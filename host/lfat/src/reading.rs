@@ -4,6 +4,7 @@ use crate::args::Args;
 use crate::failure::Failure;
 use crate::output::{print, Output};
 use crate::progress::Progress;
+use crate::remedy::Remedy;
 use crate::target::{Target, Which};
 use crate::{json, listing};
 use lfat_card::{calls, Answer, Refusal};
@@ -35,6 +36,10 @@ pub fn ls(mut args: Args) -> Result<(), Failure> {
     }
     let mut text = String::new();
     for (index, entry) in entries.iter().enumerate() {
+        let mark = match entry.is_read_only() {
+            true => "  (read-only)",
+            false => "",
+        };
         let size = match entry.is_directory() {
             true => "directory".to_string(),
             false => entry.size().to_string(),
@@ -45,7 +50,7 @@ pub fn ls(mut args: Args) -> Result<(), Failure> {
             true => String::new(),
             false => format!("  (slot:{})", entry.slot),
         };
-        text += &format!("{size:>10}  {}{slot}\n", entry.name());
+        text += &format!("{size:>10}  {}{slot}{mark}\n", entry.name());
     }
     print(text.as_bytes())
 }
@@ -57,6 +62,7 @@ fn entry_json(entry: &Entry) -> String {
         ("size", &entry.size()),
         ("directory", &entry.is_directory()),
         ("attributes", &entry.attributes()),
+        ("read_only", &entry.is_read_only()),
     ])
 }
 
@@ -77,7 +83,10 @@ pub fn get(mut args: Args) -> Result<(), Failure> {
             Which::Name(name) => card.read(name.bytes(), offset as u64, piece),
             Which::Slot(slot) => card.read_slot(slot, offset as u64, piece),
         };
-        read.map_err(|error| target.failure(error))
+        read.map_err(|error| {
+            let (target, card) = (&target, &card);
+            Remedy { target, card }.explain(target.failure(error), which, None)
+        })
     };
     // A file that is refused leaves nothing behind.
     let mut count = read(0, &mut piece)?;

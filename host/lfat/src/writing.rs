@@ -6,12 +6,13 @@ use crate::failure::Failure;
 use crate::listing;
 use crate::output::print;
 use crate::progress::Progress;
+use crate::remedy::Remedy;
 use crate::source::Source;
 use crate::target::{name, Target, Which};
 use lfat_card::{Name, Refusal};
 use lfat_disk::layout::bytes;
 use lfat_disk::volume::Volume;
-use lfat_disk::{Access, DiskCard, Entry, Operation};
+use lfat_disk::{Access, DiskCard, Error, Operation};
 use std::path::Path;
 
 /// A card that is open to be changed.
@@ -40,6 +41,32 @@ impl Opened {
     fn save(&mut self, calls: &[Operation]) -> Result<u32, Failure> {
         let made = self.card.save(calls, self.limit);
         made.map_err(|error| self.target.failure(error))
+    }
+
+    fn remedy(&self) -> Remedy<'_> {
+        Remedy {
+            target: &self.target,
+            card: &self.card,
+        }
+    }
+
+    /// Makes a call on a file.
+    fn change(&mut self, name: Name, call: Operation) -> Result<(), Failure> {
+        let made = self.card.save(&[call], self.limit);
+        self.ended(made, Which::Name(name), None)
+    }
+
+    /// How a call on a file has ended. `new` is a name that it was to have.
+    fn ended(
+        &self,
+        made: Result<u32, Error>,
+        which: Which,
+        new: Option<Name>,
+    ) -> Result<(), Failure> {
+        made.map(drop).map_err(|error| {
+            let failure = self.target.failure(error);
+            self.remedy().explain(failure, which, new)
+        })
     }
 }
 
@@ -71,27 +98,19 @@ pub fn put(args: Args) -> Result<(), Failure> {
         _ => &new,
     };
     opened.save(calls).map(drop).map_err(|failure| {
-        let (Failure::Refused(refusal, advice), Ok(Some(entry))) = (&failure, &there) else {
+        let (Failure::Refused(refusal, _), Ok(Some(entry))) = (&failure, &there) else {
             return failure;
         };
         let advice = match refusal {
-            Refusal::Exists => taken(entry, given),
+            Refusal::Exists => opened.remedy().taken(entry, given),
             Refusal::Nospace if entry.size() > 0 => no_room_beside(given),
-            _ => advice.clone(),
+            _ => {
+                let which = Which::Name(given);
+                return opened.remedy().explain(failure, which, None);
+            }
         };
         Failure::Refused(*refusal, advice)
     })
-}
-
-/// What to do where the name of a put is taken.
-fn taken(entry: &Entry, name: Name) -> String {
-    if entry.is_directory() {
-        format!("{name} is a directory: save under another name.")
-    } else if entry.size() == 0 {
-        format!("{name} is there and empty, as a put that was cut leaves it: fill it with 'lfat put --replace'.")
-    } else {
-        format!("Save over {name} with 'lfat put --replace', or add to it with 'lfat append'.")
-    }
 }
 
 /// What to do where new bytes do not fit beside the old ones.
@@ -102,34 +121,32 @@ fn no_room_beside(name: Name) -> String {
 }
 
 pub fn append(args: Args) -> Result<(), Failure> {
-    let (mut opened, name, source) = with_file(args)?;
-    let (name, data) = (name.bytes(), source.bytes());
-    opened.save(&[Operation::Append { name, data }]).map(drop)
+    let (mut opened, given, source) = with_file(args)?;
+    let (name, data) = (given.bytes(), source.bytes());
+    opened.change(given, Operation::Append { name, data })
 }
 
 pub fn truncate(mut args: Args) -> Result<(), Failure> {
     let target = image(&mut args)?;
-    let name = name(&args.word("NAME")?)?;
+    let given = name(&args.word("NAME")?)?;
     let size = number(&args.text("SIZE")?, "SIZE")?;
-    let name = name.bytes();
-    let calls = [Operation::Truncate { name, size }];
-    Opened::new(target, &args)?.save(&calls).map(drop)
+    let name = given.bytes();
+    Opened::new(target, &args)?.change(given, Operation::Truncate { name, size })
 }
 
 pub fn rm(mut args: Args) -> Result<(), Failure> {
     let target = image(&mut args)?;
     let which = Which::parse(&args.word("NAME")?)?;
     let mut opened = Opened::new(target, &args)?;
-    match which {
+    let made = match which {
         Which::Name(name) => {
             let name = name.bytes();
-            opened.save(&[Operation::Delete { name }]).map(drop)
+            let call = Operation::Delete { name };
+            opened.card.save(&[call], opened.limit)
         }
-        Which::Slot(slot) => {
-            let made = opened.card.delete_slot(slot, opened.limit);
-            made.map(drop).map_err(|error| opened.target.failure(error))
-        }
-    }
+        Which::Slot(slot) => opened.card.delete_slot(slot, opened.limit),
+    };
+    opened.ended(made, which, None)
 }
 
 pub fn mv(mut args: Args) -> Result<(), Failure> {
@@ -137,16 +154,15 @@ pub fn mv(mut args: Args) -> Result<(), Failure> {
     let old = Which::parse(&args.word("OLD")?)?;
     let new = name(&args.word("NEW")?)?;
     let mut opened = Opened::new(target, &args)?;
-    match old {
+    let made = match old {
         Which::Name(old) => {
             let (old, new) = (old.bytes(), new.bytes());
-            opened.save(&[Operation::Rename { old, new }]).map(drop)
+            let call = Operation::Rename { old, new };
+            opened.card.save(&[call], opened.limit)
         }
-        Which::Slot(slot) => {
-            let made = opened.card.rename_slot(slot, new.bytes(), opened.limit);
-            made.map(drop).map_err(|error| opened.target.failure(error))
-        }
-    }
+        Which::Slot(slot) => opened.card.rename_slot(slot, new.bytes(), opened.limit),
+    };
+    opened.ended(made, old, Some(new))
 }
 
 pub fn recover(mut args: Args) -> Result<(), Failure> {

@@ -2,7 +2,8 @@
 
 use std::fmt;
 
-/// Why a call refused, in checking order.
+/// Why a call refused, by number. The numbers give the checking order, but for
+/// LOCKED, which is asked right after DIRECTORY.
 #[derive(Clone, Copy, Debug, PartialEq, Eq, PartialOrd, Ord, Hash)]
 pub enum Ground {
     Short = 1,
@@ -20,11 +21,12 @@ pub enum Ground {
     Chain,
     Length,
     Nospace,
+    Locked,
 }
 
 impl Ground {
-    /// All grounds, in checking order.
-    pub const ALL: [Ground; 15] = [
+    /// All grounds, by number.
+    pub const ALL: [Ground; 16] = [
         Ground::Short,
         Ground::Boot,
         Ground::Window,
@@ -40,9 +42,10 @@ impl Ground {
         Ground::Chain,
         Ground::Length,
         Ground::Nospace,
+        Ground::Locked,
     ];
 
-    /// The ground's number in the requirements, 1 to 15.
+    /// The ground's number in the requirements, 1 to 16.
     pub fn number(self) -> u32 {
         self as u32
     }
@@ -65,6 +68,7 @@ impl Ground {
             Ground::Chain => "CHAIN",
             Ground::Length => "LENGTH",
             Ground::Nospace => "NOSPACE",
+            Ground::Locked => "LOCKED",
         }
     }
 }

@@ -7,7 +7,7 @@
 //!
 //! Where to look:
 //! - `check`: grounds 1 to 7, which judge the card;
-//! - `lookup`: grounds 8 to 10 and 13, which judge a name and its file;
+//! - `lookup`: grounds 8 to 10, 13 and 16, which judge a name and its file;
 //! - `operation`: the six writing operations;
 //! - `data`: the sectors that get new bytes, in append and replace;
 //! - `transaction`, `program`: the order of stores, as a list and in segments;

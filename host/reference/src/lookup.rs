@@ -1,4 +1,4 @@
-//! Finding a file by its name: grounds 8 to 10 and 13.
+//! Finding a file by its name: grounds 8 to 10, 13 and 16.
 
 use crate::answer::Ground;
 use crate::chain;
@@ -7,6 +7,59 @@ use crate::journal::Record;
 use crate::name::{self, Name};
 use crate::root;
 use crate::volume::Volume;
+
+/// What a name means on a card.
+#[derive(Clone, Debug)]
+pub enum Found {
+    Absent,
+    Directory,
+    /// A file with its slot, and whether it is marked read-only.
+    File {
+        file: File,
+        is_locked: bool,
+    },
+}
+
+impl Found {
+    /// The lowest slot that bears the name decides.
+    pub fn by_name(volume: &Volume, name: &Name) -> Found {
+        let Some(index) = root::find(volume.root(), name) else {
+            return Found::Absent;
+        };
+        let slot = root::slot(volume.root(), index);
+        if slot.is_directory() {
+            return Found::Directory;
+        }
+        Found::File {
+            file: File::in_slot(volume, index),
+            is_locked: slot.is_locked(),
+        }
+    }
+
+    /// A file or a directory has the name.
+    pub fn is_taken(&self) -> bool {
+        !matches!(self, Found::Absent)
+    }
+
+    /// Grounds 9 and 10, ABSENT, DIRECTORY: a file to be read.
+    pub fn readable(self) -> Result<File, Ground> {
+        match self {
+            Found::Absent => Err(Ground::Absent),
+            Found::Directory => Err(Ground::Directory),
+            Found::File { file, .. } => Ok(file),
+        }
+    }
+
+    /// Grounds 9, 10 and 16, ABSENT, DIRECTORY, LOCKED: a file to be changed.
+    pub fn writable(self) -> Result<File, Ground> {
+        match self {
+            Found::File {
+                is_locked: true, ..
+            } => Err(Ground::Locked),
+            found => found.readable(),
+        }
+    }
+}
 
 /// A file in the root directory.
 #[derive(Clone, Debug)]
@@ -19,15 +72,6 @@ pub struct File {
 }
 
 impl File {
-    /// Grounds 9 and 10: ABSENT, DIRECTORY.
-    pub fn find(volume: &Volume, name: &Name) -> Result<File, Ground> {
-        let index = root::find(volume.root(), name).ok_or(Ground::Absent)?;
-        if root::slot(volume.root(), index).is_directory() {
-            return Err(Ground::Directory);
-        }
-        Ok(File::in_slot(volume, index))
-    }
-
     pub fn in_slot(volume: &Volume, index: usize) -> File {
         let slot = root::slot(volume.root(), index);
         File {
@@ -67,10 +111,23 @@ pub struct Opened<'a> {
     pub chain: Vec<u16>,
 }
 
-/// Grounds 1 to 10 and 13.
-pub fn open<'a>(card: &'a [u8], name: &[u8]) -> Result<Opened<'a>, Ground> {
+/// A file to be read: grounds 1 to 10 and 13.
+pub fn open_to_read<'a>(card: &'a [u8], name: &[u8]) -> Result<Opened<'a>, Ground> {
+    open(card, name, Found::readable)
+}
+
+/// A file to be changed: grounds 1 to 10, 16 and 13.
+pub fn open_to_write<'a>(card: &'a [u8], name: &[u8]) -> Result<Opened<'a>, Ground> {
+    open(card, name, Found::writable)
+}
+
+fn open<'a>(
+    card: &'a [u8],
+    name: &[u8],
+    granted: fn(Found) -> Result<File, Ground>,
+) -> Result<Opened<'a>, Ground> {
     let card = check::clean(card)?;
-    let file = File::find(&card.volume, &name::parse(name)?)?;
+    let file = granted(Found::by_name(&card.volume, &name::parse(name)?))?;
     let chain = file.chain(&card.volume)?;
     Ok(Opened { card, file, chain })
 }

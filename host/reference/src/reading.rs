@@ -2,14 +2,14 @@
 
 use crate::answer::Answer;
 use crate::check;
-use crate::lookup::open;
+use crate::lookup::open_to_read;
 use crate::root::{slots, SLOT_BYTES};
 use crate::volume::Volume;
 
 /// Fills the buffer from the offset up to the end of the file and answers the
 /// count of bytes.
 pub fn read(card: &[u8], name: &[u8], offset: u64, buffer: &mut [u8]) -> Answer {
-    let opened = match open(card, name) {
+    let opened = match open_to_read(card, name) {
         Ok(opened) => opened,
         Err(ground) => return Answer::Refused(ground),
     };

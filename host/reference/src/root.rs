@@ -12,6 +12,7 @@ pub const UNUSED: u8 = 0;
 /// First byte of a deleted slot. The log marks committed records with it too.
 pub const DELETED: u8 = 0xE5;
 
+const READ_ONLY: u8 = 0x01;
 const LABEL: u8 = 0x08;
 const DIRECTORY: u8 = 0x10;
 
@@ -32,6 +33,11 @@ impl Slot<'_> {
 
     pub fn is_directory(self) -> bool {
         self.attributes() & DIRECTORY != 0
+    }
+
+    /// Marked read-only.
+    pub fn is_locked(self) -> bool {
+        self.attributes() & READ_ONLY != 0
     }
 
     pub fn is_file(self) -> bool {

@@ -115,6 +115,12 @@ impl Card {
         bytes[28..].copy_from_slice(&size.to_le_bytes());
     }
 
+    /// Sets or clears the read-only mark of a slot.
+    pub fn mark_read_only(&mut self, slot: usize, is_marked: bool) {
+        let attributes = &mut self.slot_mut(slot)[11];
+        *attributes = *attributes & !0x01 | u8::from(is_marked);
+    }
+
     /// Links the clusters in both FATs, with the given end value.
     pub fn put_chain(&mut self, chain: &[u16], end: u16) {
         for pair in chain.windows(2) {

@@ -33,7 +33,7 @@ fn furnish_root(card: &mut Card, random: &mut Random) {
     card.put_slot(0, b"WORKSHOP   ", 0x08, 0, 0);
     card.put_slot(1, b"AR.O.U.T.E\xFF", 0x0F, 0, u32::MAX);
     card.put_slot(2, ROUTE, 0x08 | 0x10, 3, 900);
-    card.put_slot(3, FOLDER, 0x10, 0, 0);
+    card.put_slot(3, FOLDER, random.pick(&[0x10, 0x11]), 0, 0);
     card.slot_mut(4)[0] = 0xE5;
     put_broken(card, 5, random);
     put_file(card, 6, random);
@@ -76,7 +76,7 @@ fn put_broken(card: &mut Card, slot: usize, random: &mut Random) {
         (card.spec.log_first, 1),
         (card.spec.log_first, 1 << 31),
     ]);
-    card.put_slot(slot, BROKEN, 0x20, first, size);
+    card.put_slot(slot, BROKEN, random.pick(&[0x20, 0x20, 0x21]), first, size);
 }
 
 /// Fills the root directory but for a few slots, deleted ones or those at the end.

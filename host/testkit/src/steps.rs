@@ -52,17 +52,28 @@ pub fn random_length(random: &mut Random, cluster_bytes: usize) -> usize {
     }
 }
 
+/// The files and directories among the first slots.
+fn present_slots(card: &Card) -> Vec<usize> {
+    let is_entry = |slot: &[u8]| ![0, 0xE5].contains(&slot[0]) && slot[11] & 0x08 == 0;
+    (0..16).filter(|&slot| is_entry(card.slot(slot))).collect()
+}
+
 /// The name of a file or directory among the first slots, or any name.
 fn present_name(random: &mut Random, card: &Card) -> Vec<u8> {
-    let present: Vec<&[u8]> = (0..16)
-        .map(|slot| card.slot(slot))
-        .filter(|slot| ![0, 0xE5].contains(&slot[0]) && slot[11] & 0x08 == 0)
-        .map(|slot| &slot[..11])
-        .collect();
+    let present = present_slots(card);
     if present.is_empty() || random.one_in(4) {
         return random_name(random);
     }
-    random.pick(&present).to_vec()
+    card.slot(random.pick(&present))[..11].to_vec()
+}
+
+/// Another machine marks a file or directory read-only, or takes the mark away, which it does twice as often.
+pub fn random_mark(random: &mut Random, card: &mut Card) {
+    let present = present_slots(card);
+    if !present.is_empty() {
+        let slot = random.pick(&present);
+        card.mark_read_only(slot, random.one_in(3));
+    }
 }
 
 /// A call of any kind; recovery is rare.

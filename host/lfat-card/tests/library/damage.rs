@@ -8,7 +8,7 @@ use testkit::call::Call;
 use testkit::cards::Card;
 use testkit::fixtures::furnished_card;
 use testkit::random::Random;
-use testkit::steps::random_call;
+use testkit::steps::{random_call, random_mark};
 use testkit::{cases, ALL};
 
 /// Changes a few bytes where it matters.
@@ -96,6 +96,7 @@ fn damaged_card(seed: u64) -> Seen {
         if !random.one_in(3) {
             twin.edit(|card| damage(card, &mut random));
         }
+        twin.edit(|card| random_mark(&mut random, card));
         twin.lent = random_window(&twin.card, &mut random);
         for call in calls(&mut random, &twin.card) {
             let limit = random.pick(&[0, 1, 2, 3, 5, ALL, ALL]);

@@ -226,3 +226,111 @@ fn saved_over_by_turns() {
         }
     }
 }
+
+/// What mattrib sets here: read-only, hidden, system. The archive bit, 0x20, is set already.
+const BITS: [(&str, u8); 3] = [("+r", 0x01), ("+h", 0x02), ("+s", 0x04)];
+
+/// The attribute byte of a file, as the library lists it.
+fn attributes(image: &Image, name: &[u8; 11]) -> u8 {
+    let mut entries = vec![0; 32 * 512];
+    let Answer::Done(count) = calls::list(&image.card, &mut entries) else {
+        panic!("a clean card");
+    };
+    let mut entries = entries[..32 * count as usize].chunks(32);
+    let entry = entries.find(|entry| entry.starts_with(name));
+    entry.expect("the file")[11]
+}
+
+/// Has mtools change the attributes of a file.
+fn mattrib(image: &mut Image, change: &str, name: &[u8; 11]) {
+    image.save();
+    let path = format!("::/{}", dotted(name));
+    image.tool("mattrib", &[change, &path]);
+    image.load();
+}
+
+/// Changes a file of 9,000 bytes in every way, gives it another name and removes it. Gives the answers.
+fn changes(image: &mut Image, name: &[u8; 11], new: &[u8; 11]) -> [Answer; 7] {
+    let card = &mut image.card;
+    [
+        calls::append(card, name, &[], ALL),
+        calls::append(card, name, &[7; 600], ALL),
+        calls::replace(card, name, &[8; 9_000], ALL),
+        calls::truncate(card, name, 9_000, ALL),
+        calls::truncate(card, name, 5_000, ALL),
+        calls::rename(card, name, new, ALL),
+        calls::delete(card, new, ALL),
+    ]
+}
+
+/// A file that mtools marks read-only is not changed, and mtools reads it; once mtools has cleared the mark, it is.
+#[test]
+fn marked_by_mtools() {
+    let (name, new) = (NAMES[0], NAMES[2]);
+    for bits in 0..8_u8 {
+        let mut image = Image::format("marked.img", 1, 2_200, 512);
+        let data = Random::new(64_000).bytes(9_000);
+        image.copy_in(&data, "::/ROUTE.CUT");
+        image.copy_in(b"other", "::/PANEL_1.CUT");
+        for (change, bit) in BITS {
+            if bits & bit != 0 {
+                mattrib(&mut image, change, name);
+            }
+        }
+        assert_attributes(&image, name, 0x20 | bits);
+        let files = Files::from([(*name, data), (*NAMES[1], b"other".to_vec())]);
+        if bits & 0x01 != 0 {
+            let before = image.card.clone();
+            let locked = Answer::Refused(Refusal::Locked);
+            let absent = Answer::Refused(Refusal::Absent);
+            let answers = changes(&mut image, name, new);
+            assert_eq!(answers[..6], [locked; 6]);
+            assert_eq!(answers[6], absent);
+            let onto = calls::rename(&mut image.card, NAMES[1], name, ALL);
+            assert_eq!(onto, Answer::Refused(Refusal::Exists));
+            assert!(image.card == before, "nothing is stored");
+            assert_holds(&image, &files);
+            mattrib(&mut image, "-r", name);
+            assert_attributes(&image, name, 0x20 | bits & !0x01);
+        }
+        assert_holds(&image, &files);
+        kept_by_changes(&mut image, name, 0x20 | bits & !0x01);
+        let answers = changes(&mut image, name, new);
+        assert!(
+            answers
+                .iter()
+                .all(|answer| matches!(answer, Answer::Done(_))),
+            "{answers:?}"
+        );
+        image.save();
+        let left = Files::from([(*NAMES[1], b"other".to_vec())]);
+        assert_holds(&image, &left);
+    }
+}
+
+/// The library's list and mattrib have the same attributes for a file.
+fn assert_attributes(image: &Image, name: &[u8; 11], bits: u8) {
+    assert_eq!(attributes(image, name), bits);
+    image.save();
+    let path = format!("::/{}", dotted(name));
+    let text = String::from_utf8(image.tool("mattrib", &[&path])).expect("text");
+    let (letters, _) = text.split_once("::").expect("letters, and the path");
+    for (letter, bit) in [('A', 0x20), ('R', 0x01), ('H', 0x02), ('S', 0x04)] {
+        assert_eq!(letters.contains(letter), bits & bit != 0, "{text}");
+    }
+}
+
+/// Append, replace, truncate and rename keep the attributes.
+fn kept_by_changes(image: &mut Image, name: &[u8; 11], bits: u8) {
+    let other = NAMES[3];
+    let done = |answer| assert!(matches!(answer, Answer::Done(1..)), "{answer:?}");
+    done(calls::append(&mut image.card, name, &[7; 600], ALL));
+    assert_attributes(image, name, bits);
+    done(calls::replace(&mut image.card, name, &[8; 3_000], ALL));
+    assert_attributes(image, name, bits);
+    done(calls::truncate(&mut image.card, name, 10, ALL));
+    assert_attributes(image, name, bits);
+    done(calls::rename(&mut image.card, name, other, ALL));
+    assert_attributes(image, other, bits);
+    done(calls::rename(&mut image.card, other, name, ALL));
+}

@@ -6,18 +6,21 @@ use reference::{Answer, Ground};
 use testkit::call::Call;
 use testkit::cards::Card;
 use testkit::fixtures::{BROKEN, FOLDER};
-use testkit::{ALL, OTHER, PANEL, ROUTE};
+use testkit::{Name, ALL, OTHER, PANEL, ROUTE};
 
 const BAD_NAME: &[u8] = b"lower case ";
+/// A file with the mark that breaks the chain rule, too: LOCKED is asked before CHAIN.
+const LOCKED: &Name = b"LOCKED     ";
 
 /// A full card with all faults of grounds 1 to 7.
 fn faulty() -> Twin {
     let mut card = Card::k();
     card.put_slot(0, ROUTE, 0x20, 20, 700);
     card.put_chain(&[20, 21], 0xFFFF);
-    card.put_slot(1, FOLDER, 0x10, 30, 0);
+    card.put_slot(1, FOLDER, 0x11, 30, 0);
     card.put_slot(2, BROKEN, 0x20, 0, 700);
     card.put_slot(3, OTHER, 0x20, 0, 0);
+    card.put_slot(4, LOCKED, 0x21, 0, 700);
     card.fill();
     card.bytes[511] = 0; // BOOT
     card.set_fat1(100, 0xFFF6); // LOGAREA, UNCLEAN
@@ -97,12 +100,17 @@ fn grounds_of_the_call() {
         mend(&mut twin, ground);
     }
     let rows = |make: fn(&[u8]) -> Call, last: Option<Ground>| {
+        let locked = match make(LOCKED) {
+            Call::Read(..) => Ground::Chain,
+            _ => Ground::Locked,
+        };
         let mut rows = vec![
             (make(BAD_NAME), Ground::Name),
             (make(PANEL), Ground::Absent),
             (make(FOLDER), Ground::Directory),
+            (make(LOCKED), locked),
+            (make(BROKEN), Ground::Chain),
         ];
-        rows.extend([(make(BROKEN), Ground::Chain)]);
         rows.extend(last.map(|ground| (make(ROUTE), ground)));
         rows
     };
@@ -140,20 +148,25 @@ fn grounds_of_create_and_rename() {
     for &ground in &Ground::ALL[..7] {
         mend(&mut twin, ground);
     }
-    twin.edit(|card| card.fill_root(4));
+    twin.edit(|card| card.fill_root(5));
     let create = |name: &[u8]| Call::Create(name.to_vec());
     let rename = |old: &[u8], new: &[u8]| Call::Rename(old.to_vec(), new.to_vec());
     for (call, ground) in [
         (create(BAD_NAME), Ground::Name),
         (create(ROUTE), Ground::Exists),
         (create(FOLDER), Ground::Exists),
+        (create(LOCKED), Ground::Exists),
         (create(PANEL), Ground::Rootfull),
         (rename(BAD_NAME, ROUTE), Ground::Name),
         (rename(PANEL, BAD_NAME), Ground::Name),
         (rename(PANEL, ROUTE), Ground::Absent),
         (rename(FOLDER, ROUTE), Ground::Directory),
+        (rename(LOCKED, ROUTE), Ground::Locked),
+        (rename(LOCKED, LOCKED), Ground::Locked),
+        (rename(LOCKED, PANEL), Ground::Locked),
         (rename(ROUTE, ROUTE), Ground::Exists),
         (rename(ROUTE, FOLDER), Ground::Exists),
+        (rename(ROUTE, LOCKED), Ground::Exists),
         (rename(ROUTE, PANEL), Ground::Rootfull),
     ] {
         expect(&mut twin, &call, ground);

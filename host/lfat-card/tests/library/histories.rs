@@ -8,7 +8,7 @@ use testkit::call::Call;
 use testkit::cards::Card;
 use testkit::fixtures::furnished_card;
 use testkit::random::Random;
-use testkit::steps::{random_call, random_name, random_offset};
+use testkit::steps::{random_call, random_mark, random_name, random_offset};
 use testkit::{cases, ALL, PANEL, ROUTE};
 
 /// Things that a history can come across besides its answers.
@@ -52,6 +52,9 @@ fn history(seed: u64, met: &mut Met) -> Seen {
         twin.edit(|card| card.bytes.extend(bytes));
     }
     for _ in 0..50 {
+        if random.one_in(5) {
+            twin.edit(|card| random_mark(&mut random, card));
+        }
         let call = random_call(&mut random, &twin.card);
         met.look(&twin.card);
         if call.operation().is_some() && random.one_in(12) && twin.stores(&call) < 80 {
@@ -61,6 +64,9 @@ fn history(seed: u64, met: &mut Met) -> Seen {
         }
         if random.one_in(10) {
             twin.call(&call, random.below(9) as u32);
+            if random.one_in(3) {
+                twin.edit(|card| random_mark(&mut random, card));
+            }
             let next = random_call(&mut random, &twin.card);
             twin.call(&next, ALL);
             read_and_recover(&mut twin, &mut random);
@@ -141,7 +147,7 @@ fn last_root_slot() {
     for first_byte in [0, 0xE5] {
         for new in [Call::Create(PANEL.to_vec()), rename()] {
             let mut card = Card::k();
-            card.put_slot(0, ROUTE, 0x21, 0, 0);
+            card.put_slot(0, ROUTE, 0x22, 0, 0);
             card.fill_root(1);
             card.slot_mut(511)[0] = first_byte;
             let mut twin = Twin::new(card);

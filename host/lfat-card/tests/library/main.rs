@@ -11,6 +11,7 @@ mod damage;
 mod fat_tools;
 mod grounds;
 mod histories;
+mod locked;
 mod names;
 mod parallel;
 mod power_cuts;

@@ -8,7 +8,7 @@ use testkit::call::Call;
 use testkit::fixtures::{furnished_card, largest_fragmented_card, share_cluster};
 use testkit::judge::{has_pending, judge, Judged};
 use testkit::random::Random;
-use testkit::steps::random_call;
+use testkit::steps::{random_call, random_mark};
 use testkit::{cases, ALL};
 
 fn run(call: &Call, card: &mut [u8], limit: u32) -> Answer {
@@ -105,6 +105,9 @@ fn history(seed: u64, tally: &mut Tally) {
         _ => card.slot_mut(5)[0] = 0xE5, // the broken file
     }
     for _ in 0..20 {
+        if random.one_in(5) {
+            random_mark(&mut random, &mut card);
+        }
         let call = random_call(&mut random, &card);
         if !has_cuts(&call) {
             run(&call, &mut card.bytes, ALL);

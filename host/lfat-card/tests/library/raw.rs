@@ -62,6 +62,18 @@ fn refusals_have_no_count() {
     assert_eq!(answers(&mut card_k(), b"ROUTE.CUT", 0), expected);
 }
 
+/// ROUTE.CUT marked read-only: five calls are refused, with the number 16 and no count; create finds the name taken.
+#[test]
+fn locked_file() {
+    for limit in [0, 3, ALL] {
+        let mut card = card_with(ROUTE);
+        card[33 * 512 + 11] |= 0x01;
+        let (exists, locked) = (ground(11), ground(16));
+        let expected = [exists, locked, locked, locked, locked, locked, 0, 0, 1];
+        assert_eq!(answers(&mut card, ROUTE, limit), expected);
+    }
+}
+
 #[test]
 fn counts_of_finished_and_stopped_calls() {
     let mut card = card_k();

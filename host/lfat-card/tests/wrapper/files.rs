@@ -105,7 +105,7 @@ fn seeking() {
 #[test]
 fn refusals_as_errors_of_input_and_output() {
     let refusals: Vec<Refusal> = (1..).map_while(Refusal::with_number).collect();
-    assert_eq!(refusals.len(), 15);
+    assert_eq!(refusals.len(), 16);
     for refusal in refusals {
         let error = Error::from(refusal);
         assert_eq!(error.to_string(), refusal.to_string());
@@ -113,6 +113,7 @@ fn refusals_as_errors_of_input_and_output() {
             "NAME" | "LENGTH" => ErrorKind::InvalidInput,
             "ABSENT" => ErrorKind::NotFound,
             "DIRECTORY" => ErrorKind::IsADirectory,
+            "LOCKED" => ErrorKind::PermissionDenied,
             "EXISTS" => ErrorKind::AlreadyExists,
             "ROOTFULL" | "NOSPACE" => ErrorKind::StorageFull,
             _ => ErrorKind::InvalidData,

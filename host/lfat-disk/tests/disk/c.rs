@@ -93,6 +93,18 @@ fn the_example() {
         .iter()
         .any(|entry| entry.1 == ROUTE && entry.3.len() == 2_600));
 
+    // A file marked read-only stays as it was.
+    let mut marked = card.bytes();
+    marked[33 * 512 + 32 + 11] |= 0x01;
+    let locked = Temporary::new(&marked);
+    let output = run(&save, &[path(&locked), "PANEL.CUT", path(&data)]);
+    assert_eq!(
+        String::from_utf8_lossy(&output.stderr),
+        "save: LOCKED: the file is marked read-only\n"
+    );
+    assert_eq!(output.status.code(), Some(1));
+    assert!(locked.bytes() == marked);
+
     // More than fits: the old file stays as it was, and under a new name no empty one is left.
     let large = Temporary::new(&points(2_000_000));
     let before = state(&card.bytes()).expect("clean");
@@ -184,6 +196,7 @@ static void due(int line, uint64_t answer, uint32_t code, uint32_t count)
 int main(int argc, char **argv)
 {
     const uint8_t *route = (const uint8_t *)"ROUTE   CUT", *keel = (const uint8_t *)"KEEL       ";
+    const uint8_t *panel = (const uint8_t *)"PANEL   CUT";
     uint8_t entries[3 * 32], bytes[2000];
     lfat_disk *disk, *other;
     memset(bytes, 'x', sizeof bytes);
@@ -233,6 +246,18 @@ int main(int argc, char **argv)
     DUE(lfat_disk_rename(disk, keel, 11, route, 11), LFAT_DONE, 3);
     DUE(lfat_disk_list(disk, entries, sizeof entries), LFAT_DONE, 2);
     DUE(lfat_disk_delete(disk, keel, 11), LFAT_ABSENT, 0);
+    /* PANEL.CUT is marked read-only. */
+    DUE(lfat_disk_append(disk, panel, 11, NULL, 0), LFAT_LOCKED, 0);
+    DUE(lfat_disk_replace(disk, panel, 11, bytes, 1), LFAT_LOCKED, 0);
+    DUE(lfat_disk_truncate(disk, panel, 11, 5001), LFAT_LOCKED, 0);
+    DUE(lfat_disk_delete(disk, panel, 11), LFAT_LOCKED, 0);
+    DUE(lfat_disk_rename(disk, panel, 11, route, 11), LFAT_LOCKED, 0);
+    if (strcmp(lfat_disk_message(), "LOCKED: the file is marked read-only") != 0)
+        wrong = 1;
+    DUE(lfat_disk_rename(disk, route, 11, panel, 11), LFAT_EXISTS, 0);
+    DUE(lfat_disk_read(disk, panel, 11, 4990, bytes, sizeof bytes), LFAT_DONE, 10);
+    DUE(lfat_disk_recover(disk), LFAT_DONE, 0);
+    DUE(lfat_disk_delete(disk, keel, 11), LFAT_ABSENT, 0);
     if (strstr(lfat_disk_message(), "ABSENT") == NULL || lfat_disk_errno() != 0)
         wrong = 1;
     lfat_disk_close(disk);
@@ -248,7 +273,9 @@ fn every_call_in_c_and_cpp() {
         std::fs::write(&source, EVERY_CALL).expect("a source");
         let program = build(compiler, standard, &source);
         let _ = std::fs::remove_file(&source);
-        let card = Temporary::new(&two_files());
+        let mut marked = two_files();
+        marked[33 * 512 + 32 + 11] |= 0x01;
+        let card = Temporary::new(&marked);
         let output = run(&program, &[path(&card)]);
         let text = String::from_utf8_lossy(&output.stdout).into_owned();
         assert_eq!(

@@ -6,8 +6,9 @@ use crate::support::cards::{
 use crate::support::cuts::{examine, run, Depth, Ships, Tried};
 use crate::support::lying::{Event, Lying};
 use crate::support::random::Random;
+use lfat_card::Refusal;
 use lfat_disk::lists::Planned;
-use lfat_disk::{Access, DiskCard, Operation};
+use lfat_disk::{Access, DiskCard, Error, Operation};
 
 const THOROUGH: Depth = Depth {
     all_below: 5,
@@ -54,7 +55,13 @@ fn random_histories() {
     let data: &'static [u8] = points(6_000).leak();
     let mut random = Random::new(0xBB67_AE85_84CA_A73B);
     let mut card = two_files();
+    let mut locked = 0;
     for _ in 0..60 {
+        // Another machine marks one of the first slots read-only, or takes the mark away.
+        if random.one_in(3) {
+            let at = 33 * 512 + random.below(3) * 32 + 11;
+            card[at] = card[at] & !0x01 | u8::from(random.one_in(3));
+        }
         let (name, other) = (
             random.pick(&[ROUTE, PANEL, NEW]),
             random.pick(&[ROUTE, NEW]),
@@ -74,8 +81,59 @@ fn random_histories() {
         };
         let verb = Verb::Calls(vec![operation]);
         found_nothing(examine(&Ships, &card, &verb, QUICK));
-        card = run(&Ships, &Lying::new(&card), &verb).0.kept.to_vec();
+        let (disk, answer) = run(&Ships, &Lying::new(&card), &verb);
+        locked += usize::from(matches!(answer, Err(Error::Refused(Refusal::Locked))));
+        card = disk.kept.to_vec();
     }
+    assert!(locked > 3, "{locked}");
+}
+
+/// A file marked read-only is read; no verb changes it, and no byte is written. Other files are changed beside it.
+#[test]
+fn locked_files() {
+    let mut start = two_files();
+    for slot in 0..2 {
+        start[33 * 512 + slot * 32 + 11] |= 0x01;
+    }
+    let mut refused = 0;
+    for verb in verbs() {
+        let is_new =
+            matches!(&verb, Verb::Calls(calls) if matches!(calls[0], Operation::Create { .. }));
+        let (disk, answer) = run(&Ships, &Lying::new(&start), &verb);
+        if is_new {
+            assert!(answer.is_ok(), "{verb:?}: {answer:?}");
+            continue;
+        }
+        let is_locked = matches!(answer, Err(Error::Refused(Refusal::Locked)));
+        assert!(is_locked, "{verb:?}: {answer:?}");
+        assert!(disk.kept == *start && disk.back.is_empty(), "{verb:?}");
+        let is_written = |event: &Event| matches!(event, Event::Write(..));
+        assert!(!disk.events.iter().any(is_written), "{verb:?}");
+        refused += 1;
+    }
+    assert_eq!(refused, verbs().len() - 2);
+
+    let mut disk = Lying::new(&start);
+    let mut card = DiskCard::on(&mut disk, Planned, Access::Write).expect("opened");
+    let entries = card.list().expect("clean");
+    assert!(entries[0].is_read_only() && entries[1].is_read_only());
+    // A slot that was refused has its own name again.
+    for slot in 0..2 {
+        let deleted = card.delete_slot(slot, u32::MAX);
+        assert!(matches!(deleted, Err(Error::Refused(Refusal::Locked))));
+        let renamed = card.rename_slot(slot, NEW, u32::MAX);
+        assert!(matches!(renamed, Err(Error::Refused(Refusal::Locked))));
+    }
+    assert_eq!(card.list().expect("clean"), entries);
+    let mut buffer = vec![0; 6_000];
+    assert_eq!(card.read(PANEL, 0, &mut buffer).expect("read"), 5_000);
+    assert!(buffer[..5_000] == points(5_000));
+    assert_eq!(card.read_slot(0, 0, &mut buffer).expect("read"), 1_300);
+    assert!(buffer[..1_300] == points(1_300));
+    card.create(NEW).expect("granted");
+    card.append(NEW, &points(900)).expect("granted");
+    card.delete(NEW).expect("granted");
+    assert_eq!(card.list().expect("clean"), entries);
 }
 
 /// A flush before and after each log record and commit mark, at the end, and before anything is read; no write else than the

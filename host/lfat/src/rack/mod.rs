@@ -15,10 +15,11 @@ use crate::args::{number, Args};
 use crate::failure::Failure;
 use crate::json;
 use crate::output::{print, write_file};
+use crate::remedy::Remedy;
 use crate::source::Source;
-use crate::target::{name, Target};
+use crate::target::{name, Target, Which};
 use lfat_card::Name;
-use lfat_disk::{Access, DiskCard, Operation};
+use lfat_disk::{Access, DiskCard, Error, Operation};
 use std::ffi::{OsStr, OsString};
 
 /// The operations, each with its second word after the name, if it has one.
@@ -131,12 +132,18 @@ pub fn rack(mut args: Args) -> Result<(), Failure> {
     let mut card = target.open(&args, Access::Read)?;
     let source = asked.source(&card, &target)?;
     let data = source.as_ref().map_or(&[][..], Source::bytes);
-    let new = new.as_ref().map_or(&[][..], |new| new.bytes());
-    let calls = asked.calls(name.bytes(), new, data, size);
+    let new_bytes = new.as_ref().map_or(&[][..], |new| new.bytes());
+    let calls = asked.calls(name.bytes(), new_bytes, data, size);
+    // A create makes a name, any other call is about a file.
+    let explain = |card: &DiskCard, error: Error| {
+        let failure = target.failure(error);
+        let target = &target;
+        Remedy { target, card }.explain(failure, Which::Name(name), new.or(Some(name)))
+    };
     if calls.len() > 1 {
         // All calls must be granted before the first is tried.
         for call in &calls {
-            card.rehearse(call).map_err(|error| target.failure(error))?;
+            card.rehearse(call).map_err(|error| explain(&card, error))?;
         }
         drop(card);
         card = target.open(&args, Access::Read)?;
@@ -144,7 +151,7 @@ pub fn rack(mut args: Args) -> Result<(), Failure> {
 
     let mut reports = Vec::new();
     for call in &calls {
-        let report = run(&mut card, call, &settings).map_err(|error| target.failure(error))?;
+        let report = run(&mut card, call, &settings).map_err(|error| explain(&card, error))?;
         if let Some(swap) = settings.swap {
             run::swapped(report.stores, swap)?;
         }

@@ -18,7 +18,7 @@ fn constants_source() -> String {
         source +=
             &format!("printf(\"%d %s\\n\", (int)LFAT_{code}, lfat_code_name(LFAT_{code}));\n");
     }
-    source += "printf(\"%s %s\\n\", lfat_code_name(16), lfat_code_name(0xFFFFFFFFu));\n\
+    source += "printf(\"%s %s\\n\", lfat_code_name(17), lfat_code_name(0xFFFFFFFFu));\n\
                printf(\"%lu %lu\\n\", (unsigned long)LFAT_CODE(UINT64_C(255) << 32 | 7), \
                (unsigned long)LFAT_COUNT(UINT64_C(255) << 32 | 7));\n\
                printf(\"%lx %d %d %d\\n\", (unsigned long)LFAT_NO_LIMIT, LFAT_SECTOR_BYTES, \

@@ -18,7 +18,14 @@ fn same_as_in_memory() {
         let past = random.bytes(700);
         folder.write("card", &[&window[..], &past].concat());
         let data = points(9_000);
+        let mut locked = 0;
         for step in 0..40 {
+            // Another machine marks one of the first files read-only, or takes the mark away.
+            if random.one_in(4) {
+                let at = 33 * 512 + random.below(3) * 32 + 11;
+                window[at] = window[at] & !0x01 | u8::from(random.one_in(2));
+                folder.write("card", &[&window[..], &past].concat());
+            }
             let name = ["A.CUT", "B.CUT", "C"][random.below(3)];
             let parsed = Name::parse(name).expect("a name");
             let length = random.below(data.len());
@@ -63,11 +70,13 @@ fn same_as_in_memory() {
                 Ok(_) => drop(run.done()),
                 Err(refusal) => drop(run.failed(1, refusal.name())),
             }
+            locked += usize::from(answer == Err(Refusal::Locked));
             assert!(
                 folder.read("card") == [&window[..], &past].concat(),
                 "{step}: {line}"
             );
         }
+        assert!(locked > 2, "{locked}");
     }
 }
 

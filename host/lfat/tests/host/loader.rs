@@ -2,7 +2,7 @@
 
 use crate::support::c::{build, top};
 use crate::support::cli::{Folder, Run};
-use crate::support::{card_with_route, points, set_fats, ALL, PANEL, ROUTE};
+use crate::support::{card_with_route, mark_read_only, points, set_fats, ALL, PANEL, ROUTE};
 use reference::{card_k, CardSpec};
 use std::process::Stdio;
 
@@ -50,6 +50,17 @@ fn good_cards() {
     assert_eq!(loader.run_on(&card, "ROUTE.CUT").done().bytes(), wanted);
     let empty = loader.run_on(&card, "PANEL.CUT").done();
     assert_eq!(empty.text(), format!("{head}path PANEL.CUT, 0 bytes\n"));
+}
+
+/// A path marked read-only is listed and read as any other.
+#[test]
+fn read_only_path() {
+    let loader = Loader::new("loader-read-only");
+    let mut card = card_with_route(1_300);
+    let wanted = loader.run_on(&card, "ROUTE.CUT").done().bytes().to_vec();
+    mark_read_only(&mut card, 0);
+    assert_eq!(loader.run_on(&card, "ROUTE.CUT").done().bytes(), wanted);
+    assert!(wanted.ends_with(&points(1_300)));
 }
 
 /// M5 and M6: before the log record's store the old size, from it on the new one.

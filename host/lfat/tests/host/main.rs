@@ -7,6 +7,7 @@ mod json;
 mod layouts;
 mod listing;
 mod loader;
+mod locked;
 mod memory;
 mod odd_names;
 mod outputs;

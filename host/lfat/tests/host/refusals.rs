@@ -13,7 +13,7 @@ pub fn folder_with(name: &str, card: &[u8]) -> Folder {
 }
 
 /// Runs commands that must be refused on one ground, on a card that stays as it is.
-fn refused(name: &str, card: &[u8], refusal: Refusal, lines: &[&str]) {
+pub fn refused(name: &str, card: &[u8], refusal: Refusal, lines: &[&str]) {
     let folder = folder_with(name, card);
     let words = format!("lfat: {}: {}. ", refusal.name(), refusal.meaning());
     for line in lines {

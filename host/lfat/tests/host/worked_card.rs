@@ -11,7 +11,7 @@ fn all_nine_calls() {
     build("gcc", "c99", &top().join("examples/worked.c"), &program).expect("gcc is there");
     let run = folder.run(&program, "", Stdio::null()).done();
     let text = run.text();
-    assert_eq!(text.lines().count(), 33);
+    assert_eq!(text.lines().count(), 36);
     for line in [
         "M3  create ROUTE.CUT: DONE 3",
         "M5  append 1300, cut after 4 stores: STOPPED 4",
@@ -21,6 +21,8 @@ fn all_nine_calls() {
         "    replace by 600, cut after 4 stores: STOPPED 4",
         "    replace by 600: DONE 7",
         "    replace by nothing again: DONE 3",
+        "    replace, marked read-only: LOCKED 0",
+        "    append nothing, marked read-only: LOCKED 0",
         "    truncate to 1401: LENGTH 0",
         "M10 rename, the ninth group: DONE 11",
         "    list, with room for two: DONE 3",

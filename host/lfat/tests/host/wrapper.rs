@@ -100,7 +100,7 @@ fn names_as_the_library_has_them() {
 
 #[test]
 fn refusals_are_errors() {
-    for number in 1..=15 {
+    for number in 1..=16 {
         let refusal = Refusal::with_number(number).expect("a ground");
         assert_eq!(refusal.number(), number);
         let error: Box<dyn std::error::Error> = Box::new(refusal);
@@ -108,7 +108,30 @@ fn refusals_are_errors() {
         assert!(text.starts_with(refusal.name()) && text.ends_with(refusal.meaning()));
     }
     assert_eq!(Refusal::with_number(0), None);
-    assert_eq!(Refusal::with_number(16), None);
+    assert_eq!(Refusal::with_number(17), None);
+}
+
+#[test]
+fn a_locked_file() {
+    let mut window = crate::support::card_with_route(1_300);
+    crate::support::mark_read_only(&mut window, 0);
+    let before = window.clone();
+    let mut card = Card::new(&mut window);
+    let (route, panel) = (name("ROUTE.CUT"), name("PANEL"));
+    let locked = Err(Refusal::Locked);
+    assert_eq!(card.append(route, b""), locked);
+    assert_eq!(card.append(route, b"G0"), locked);
+    assert_eq!(card.replace(route, b"G0"), locked);
+    assert_eq!(card.truncate(route, 1_301), locked);
+    assert_eq!(card.rename(route, panel), locked);
+    assert_eq!(card.delete(route), locked);
+    assert_eq!(card.create(route), Err(Refusal::Exists));
+    assert_eq!(card.recover(), Ok(0));
+    assert_eq!(card.read_whole(route), Ok(points(1_300)));
+    assert!(card.list().expect("clean")[0].is_read_only());
+    assert!(card.bytes() == before);
+    card.create(panel).expect("another file");
+    assert!(!card.list().expect("clean")[1].is_read_only());
 }
 
 #[test]

@@ -4,7 +4,7 @@ use crate::answer::Ground;
 use crate::data;
 use crate::fat_draft::FatDraft;
 use crate::journal::record::UPDATE;
-use crate::lookup::{open, File, Opened};
+use crate::lookup::{open_to_write, File, Opened};
 use crate::root_change::RootChange;
 use crate::transaction::{Planned, Transaction};
 use crate::volume::Volume;
@@ -18,7 +18,7 @@ pub fn plan<'a, 'd>(
         card,
         file,
         mut chain,
-    } = open(card, name)?;
+    } = open_to_write(card, name)?;
     let volume = &card.volume;
     let new = new_clusters(volume, &file, chain.len(), data.len())?;
     if data.is_empty() {

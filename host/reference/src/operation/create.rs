@@ -4,6 +4,7 @@ use crate::answer::Ground;
 use crate::check;
 use crate::fat_draft::FatDraft;
 use crate::journal::{record, Record};
+use crate::lookup::Found;
 use crate::name;
 use crate::root;
 use crate::root_change::{RootChange, ARCHIVE};
@@ -12,11 +13,10 @@ use crate::transaction::{Planned, Transaction};
 pub fn plan<'a>(card: &'a [u8], name: &[u8]) -> Result<Planned<'a, 'static>, Ground> {
     let card = check::clean(card)?;
     let name = name::parse(name)?;
-    let directory = card.volume.root();
-    if root::find(directory, &name).is_some() {
+    if Found::by_name(&card.volume, &name).is_taken() {
         return Err(Ground::Exists);
     }
-    let slot = root::lowest_available(directory).ok_or(Ground::Rootfull)?;
+    let slot = root::lowest_available(card.volume.root()).ok_or(Ground::Rootfull)?;
     let record = Record {
         name,
         attributes: ARCHIVE,

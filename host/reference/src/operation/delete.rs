@@ -3,12 +3,12 @@
 use crate::answer::Ground;
 use crate::fat_draft::FatDraft;
 use crate::journal::record::DELETE;
-use crate::lookup::{open, Opened};
+use crate::lookup::{open_to_write, Opened};
 use crate::root_change::RootChange;
 use crate::transaction::{Planned, Transaction};
 
 pub fn plan<'a>(card: &'a [u8], name: &[u8]) -> Result<Planned<'a, 'static>, Ground> {
-    let Opened { card, file, chain } = open(card, name)?;
+    let Opened { card, file, chain } = open_to_write(card, name)?;
     let mut fat = FatDraft::new(card.volume.fat1());
     fat.free_after(&chain, 0);
     let transaction = Transaction {

@@ -4,7 +4,7 @@ use crate::answer::Ground;
 use crate::check;
 use crate::fat_draft::FatDraft;
 use crate::journal::{record, Record};
-use crate::lookup::File;
+use crate::lookup::{File, Found};
 use crate::name::{self, Name};
 use crate::root;
 use crate::root_change::RootChange;
@@ -15,8 +15,8 @@ pub fn plan<'a>(card: &'a [u8], old: &[u8], new: &[u8]) -> Result<Planned<'a, 's
     let volume = &card.volume;
     let old_name = name::parse(old)?;
     let new_name = name::parse(new)?;
-    let file = File::find(volume, &old_name)?;
-    if root::find(volume.root(), &new_name).is_some() {
+    let file = Found::by_name(volume, &old_name).writable()?;
+    if Found::by_name(volume, &new_name).is_taken() {
         return Err(Ground::Exists);
     }
     let new_slot = root::lowest_available(volume.root()).ok_or(Ground::Rootfull)?;

@@ -4,7 +4,7 @@ use crate::answer::Ground;
 use crate::data;
 use crate::fat_draft::FatDraft;
 use crate::journal::record::REPLACE;
-use crate::lookup::{open, Opened};
+use crate::lookup::{open_to_write, Opened};
 use crate::root_change::RootChange;
 use crate::transaction::{Planned, Transaction};
 
@@ -13,7 +13,7 @@ pub fn plan<'a, 'd>(
     name: &[u8],
     data: &'d [u8],
 ) -> Result<Planned<'a, 'd>, Ground> {
-    let Opened { card, file, chain } = open(card, name)?;
+    let Opened { card, file, chain } = open_to_write(card, name)?;
     let volume = &card.volume;
     // Ground 15, NOSPACE: old clusters are not free yet.
     let clusters = (data.len() as u64).div_ceil(u64::from(volume.geometry.cluster_bytes()));

@@ -3,12 +3,12 @@
 use crate::answer::Ground;
 use crate::fat_draft::FatDraft;
 use crate::journal::record::TRUNCATE;
-use crate::lookup::{open, Opened};
+use crate::lookup::{open_to_write, Opened};
 use crate::root_change::RootChange;
 use crate::transaction::{Planned, Transaction};
 
 pub fn plan<'a>(card: &'a [u8], name: &[u8], size: u64) -> Result<Planned<'a, 'static>, Ground> {
-    let Opened { card, file, chain } = open(card, name)?;
+    let Opened { card, file, chain } = open_to_write(card, name)?;
     if size > u64::from(file.size) {
         return Err(Ground::Length);
     }

@@ -2,7 +2,7 @@
 
 use reference::{Answer, Ground};
 
-const WORDS: [&str; 15] = [
+const WORDS: [&str; 16] = [
     "SHORT",
     "BOOT",
     "WINDOW",
@@ -18,6 +18,7 @@ const WORDS: [&str; 15] = [
     "CHAIN",
     "LENGTH",
     "NOSPACE",
+    "LOCKED",
 ];
 
 #[test]
@@ -36,4 +37,5 @@ fn answers_encode_as_code_and_count() {
     assert_eq!(Answer::Stopped(7).encode(), 0xFF_0000_0007);
     assert_eq!(Answer::Refused(Ground::Short).encode(), 1 << 32);
     assert_eq!(Answer::Refused(Ground::Nospace).encode(), 15 << 32);
+    assert_eq!(Answer::Refused(Ground::Locked).encode(), 16 << 32);
 }

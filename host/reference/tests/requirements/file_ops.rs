@@ -13,7 +13,7 @@ const RENAME: Operation = Operation::Rename {
 /// Slot bytes that differ in every field, with the given name.
 fn odd_slot(name: &Name) -> Vec<u8> {
     let mut bytes = name.to_vec();
-    bytes.push(0x27);
+    bytes.push(0x26);
     bytes.extend(pattern(20, 0x40));
     bytes
 }
@@ -82,7 +82,7 @@ fn rename_within_a_sector() {
     assert_eq!(card.slot(1)[11..], old[11..], "the high word too");
 
     let mut record = ROUTE.to_vec();
-    record.extend([0x27, 0, 5, 0, 0, 0, 0, 0, 0, 0, 0, 0, 0, 0, 0]);
+    record.extend([0x26, 0, 5, 0, 0, 0, 0, 0, 0, 0, 0, 0, 0, 0, 0]);
     record.extend(&old[26..]);
     assert_eq!(group[..32], record);
     record[..11].copy_from_slice(PANEL);

@@ -10,6 +10,8 @@ use testkit::{Name, OTHER, PANEL, ROUTE};
 const FOLDER: &Name = b"FOLDER     ";
 const BROKEN: &Name = b"BROKEN     ";
 const BAD_NAME: &[u8] = b"lower case ";
+/// A file with the mark that breaks the chain rule, too: LOCKED is asked before CHAIN.
+const LOCKED: &Name = b"LOCKED     ";
 
 /// A card with its window length and all faults of grounds 1 to 7.
 struct Ladder {
@@ -22,9 +24,10 @@ impl Ladder {
         let mut card = Card::k();
         card.put_slot(0, ROUTE, 0x20, 20, 700);
         card.put_chain(&[20, 21], 0xFFFF);
-        card.put_slot(1, FOLDER, 0x10, 30, 0);
+        card.put_slot(1, FOLDER, 0x11, 30, 0);
         card.put_slot(2, BROKEN, 0x20, 0, 700);
         card.put_slot(3, OTHER, 0x20, 0, 0);
+        card.put_slot(4, LOCKED, 0x21, 0, 700);
         card.fill();
         card.bytes[511] = 0; // BOOT
         card.set_fat1(100, 0xFFF6); // LOGAREA, UNCLEAN
@@ -84,10 +87,11 @@ fn create_ladder() {
     let call = |name| Operation::Create { name };
     let mut ladder = Ladder::new();
     ladder.climb(&call(BAD_NAME), Ground::Unclean);
-    ladder.card.fill_root(4);
+    ladder.card.fill_root(5);
     ladder.expect_all(&[
         (call(BAD_NAME), Ground::Name),
         (call(ROUTE), Ground::Exists),
+        (call(LOCKED), Ground::Exists),
         (call(PANEL), Ground::Rootfull),
     ]);
     ladder.card.slot_mut(9)[0] = 0xE5;
@@ -102,6 +106,7 @@ fn saving_ladder<'a>(call: impl Fn(&'a [u8]) -> Operation<'a>, free: u16) {
         (call(BAD_NAME), Ground::Name),
         (call(PANEL), Ground::Absent),
         (call(FOLDER), Ground::Directory),
+        (call(LOCKED), Ground::Locked),
         (call(BROKEN), Ground::Chain),
         (call(ROUTE), Ground::Nospace),
     ]);
@@ -136,6 +141,7 @@ fn truncate_ladder() {
         (call(BAD_NAME), Ground::Name),
         (call(PANEL), Ground::Absent),
         (call(FOLDER), Ground::Directory),
+        (call(LOCKED), Ground::Locked),
         (call(BROKEN), Ground::Chain),
         (call(ROUTE), Ground::Length),
     ]);
@@ -155,6 +161,7 @@ fn delete_ladder() {
         (call(BAD_NAME), Ground::Name),
         (call(PANEL), Ground::Absent),
         (call(FOLDER), Ground::Directory),
+        (call(LOCKED), Ground::Locked),
         (call(BROKEN), Ground::Chain),
     ]);
     assert!(plan(&ladder.card.bytes, &call(ROUTE)).is_ok());
@@ -165,14 +172,18 @@ fn rename_ladder() {
     let call = |old, new| Operation::Rename { old, new };
     let mut ladder = Ladder::new();
     ladder.climb(&call(BAD_NAME, BAD_NAME), Ground::Unclean);
-    ladder.card.fill_root(4);
+    ladder.card.fill_root(5);
     ladder.expect_all(&[
         (call(BAD_NAME, ROUTE), Ground::Name),
         (call(PANEL, BAD_NAME), Ground::Name),
         (call(PANEL, ROUTE), Ground::Absent),
         (call(FOLDER, ROUTE), Ground::Directory),
+        (call(LOCKED, ROUTE), Ground::Locked),
+        (call(LOCKED, LOCKED), Ground::Locked),
+        (call(LOCKED, PANEL), Ground::Locked),
         (call(ROUTE, ROUTE), Ground::Exists),
         (call(ROUTE, FOLDER), Ground::Exists),
+        (call(ROUTE, LOCKED), Ground::Exists),
         (call(ROUTE, PANEL), Ground::Rootfull),
     ]);
     ladder.card.slot_mut(9)[0] = 0xE5;
@@ -208,6 +219,7 @@ fn read_ladder() {
     expect(&ladder, BAD_NAME, Ground::Name);
     expect(&ladder, PANEL, Ground::Absent);
     expect(&ladder, FOLDER, Ground::Directory);
+    expect(&ladder, LOCKED, Ground::Chain);
     expect(&ladder, BROKEN, Ground::Chain);
     let answer = read(&ladder.card.bytes, ROUTE, 0, &mut [0; 64]);
     assert_eq!(answer, Answer::Done(64));
@@ -224,7 +236,7 @@ fn list_ladder() {
         ladder.mend(ground);
     }
     let answer = list(&ladder.card.bytes, &mut []);
-    assert_eq!(answer, Answer::Done(4));
+    assert_eq!(answer, Answer::Done(5));
 }
 
 #[test]

@@ -3,15 +3,16 @@
 use crate::support::history::random_step;
 use crate::support::operation;
 use reference::*;
-use std::collections::BTreeMap;
+use std::collections::{BTreeMap, BTreeSet};
 use testkit::call::Call;
 use testkit::cards::{random_card, Card};
 use testkit::random::Random;
 use testkit::ALL;
 
-/// The files by name, and how much room there is.
+/// The files by name, those marked read-only, and how much room there is.
 struct Model {
     files: BTreeMap<Vec<u8>, Vec<u8>>,
+    locked: BTreeSet<Vec<u8>>,
     root_entries: usize,
     cluster_bytes: usize,
     room: usize,
@@ -21,6 +22,7 @@ impl Model {
     fn new(card: &Card) -> Self {
         Model {
             files: BTreeMap::new(),
+            locked: BTreeSet::new(),
             root_entries: usize::from(card.spec.root_entries),
             cluster_bytes: usize::from(card.spec.sectors_per_cluster) * 512,
             room: free_clusters(&card.bytes).len(),
@@ -40,7 +42,27 @@ impl Model {
         if name.len() != 11 {
             return Err(Ground::Name);
         }
-        self.files.get_mut(name).ok_or(Ground::Absent)
+        let file = self.files.get_mut(name).ok_or(Ground::Absent)?;
+        match self.locked.contains(name) {
+            true => Err(Ground::Locked),
+            false => Ok(file),
+        }
+    }
+
+    /// Another machine marks a file read-only, or takes the mark away, which it does twice as often.
+    fn mark(&mut self, card: &mut Card, random: &mut Random) {
+        let names: Vec<&Vec<u8>> = self.files.keys().collect();
+        if names.is_empty() {
+            return;
+        }
+        let name = random.pick(&names).clone();
+        let is_marked = random.one_in(3);
+        let slot = (0..self.root_entries).find(|&slot| card.slot(slot).starts_with(&name));
+        card.mark_read_only(slot.expect("the file's slot"), is_marked);
+        match is_marked {
+            true => self.locked.insert(name),
+            false => self.locked.remove(&name),
+        };
     }
 
     fn check_new(&self, name: &[u8]) -> Result<(), Ground> {
@@ -125,6 +147,9 @@ fn histories_agree_with_a_model() {
         let mut card = random_card(&mut random);
         let mut model = Model::new(&card);
         for _ in 0..120 {
+            if random.one_in(4) {
+                model.mark(&mut card, &mut random);
+            }
             let step = random_step(&mut random, model.cluster_bytes);
             let answer = run(&mut card.bytes, &operation(&step), ALL);
             match model.step(&step) {
@@ -144,6 +169,7 @@ fn histories_agree_with_a_model() {
         Ground::Exists,
         Ground::Length,
         Ground::Nospace,
+        Ground::Locked,
     ] {
         assert!(refusals.get(&ground) > Some(&10), "{ground}");
     }

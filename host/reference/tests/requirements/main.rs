@@ -12,6 +12,7 @@ mod histories;
 mod inspection;
 mod limits;
 mod listing;
+mod locked;
 mod log_area;
 mod names;
 mod power_cuts;

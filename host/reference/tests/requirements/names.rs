@@ -115,16 +115,16 @@ fn a_directory_bears_a_name() {
 }
 
 #[test]
-fn the_read_only_bit_is_not_looked_at() {
+fn hidden_and_system_files_are_files() {
     let mut card = Card::k();
-    card.put_slot(0, ROUTE, 0x01 | 0x02 | 0x04 | 0x20, 0, 0);
+    card.put_slot(0, ROUTE, 0x02 | 0x04 | 0x20, 0, 0);
     let append = Operation::Append {
         name: ROUTE,
         data: b"x",
     };
     run_done(&mut card.bytes, &append);
     assert_eq!(card.size(0), 1);
-    assert_eq!(card.slot(0)[11], 0x27);
-    assert_eq!(card.log_sector_mut(0)[11], 0x27, "the record has them too");
+    assert_eq!(card.slot(0)[11], 0x26);
+    assert_eq!(card.log_sector_mut(0)[11], 0x26, "the record has them too");
     run_done(&mut card.bytes, &Operation::Delete { name: ROUTE });
 }

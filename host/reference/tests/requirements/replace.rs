@@ -237,13 +237,13 @@ fn sectors_of_an_empty(sector: usize) -> Vec<usize> {
 fn other_fields_of_the_slot_stay() {
     let mut card = with_file(&[10], 0xFFF8, 100);
     card.slot_mut(0)[11..26].copy_from_slice(&pattern(15, 0x40));
-    card.slot_mut(0)[11] = 0x27;
+    card.slot_mut(0)[11] = 0x26;
     let mut slot = card.slot(0).to_vec();
     assert_ne!(slot[20..22], [0, 0]);
     run_done(&mut card.bytes, &replace(&pattern(600, 5)));
     slot[26..].copy_from_slice(&[11, 0, 0x58, 2, 0, 0]);
     assert_eq!(card.slot(0), slot);
-    assert_eq!(card.log_sector_mut(0)[11..14], [0x27, 0, 6]);
+    assert_eq!(card.log_sector_mut(0)[11..14], [0x26, 0, 6]);
     assert_eq!(card.log_sector_mut(0)[20..22], [0, 0], "not the slot's");
 }
 

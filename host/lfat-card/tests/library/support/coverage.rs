@@ -1,38 +1,51 @@
 //! Which answers came up, so that a test cannot lose its cases unseen.
 
-use reference::Answer;
+use reference::{Answer, Ground};
 use std::collections::BTreeSet;
 
 /// Calls with the codes that they answered: 0 DONE, 255 STOPPED, else the ground's number.
 pub type Seen = BTreeSet<(&'static str, u64)>;
 
-/// All that each call can answer.
-pub const POSSIBLE: [(&str, &[u64]); 9] = [
-    ("create", &[0, 1, 2, 3, 4, 5, 6, 7, 8, 11, 12, 255]),
-    ("append", &[0, 1, 2, 3, 4, 5, 6, 7, 8, 9, 10, 13, 15, 255]),
-    ("replace", &[0, 1, 2, 3, 4, 5, 6, 7, 8, 9, 10, 13, 15, 255]),
-    ("truncate", &[0, 1, 2, 3, 4, 5, 6, 7, 8, 9, 10, 13, 14, 255]),
-    ("delete", &[0, 1, 2, 3, 4, 5, 6, 7, 8, 9, 10, 13, 255]),
-    ("rename", &[0, 1, 2, 3, 4, 5, 6, 7, 8, 9, 10, 11, 12, 255]),
-    ("recover", &[0, 1, 2, 3, 4, 5, 6, 255]),
-    ("read", &[0, 1, 2, 3, 4, 5, 6, 7, 8, 9, 10, 13]),
-    ("list", &[0, 1, 2, 3, 4, 5, 6, 7]),
+/// The calls, each with the codes that it never answers. Every other code comes up in a test.
+const NEVER: [(&str, &[u64]); 9] = [
+    ("create", &[9, 10, 13, 14, 15, 16]),
+    ("append", &[11, 12, 14]),
+    ("replace", &[11, 12, 14]),
+    ("truncate", &[11, 12, 15]),
+    ("delete", &[11, 12, 14, 15]),
+    ("rename", &[13, 14, 15]),
+    ("recover", &[7, 8, 9, 10, 11, 12, 13, 14, 15, 16]),
+    ("read", &[11, 12, 14, 15, 16, 255]),
+    ("list", &[8, 9, 10, 11, 12, 13, 14, 15, 16, 255]),
 ];
 
 pub fn code(answer: Answer) -> u64 {
     answer.encode() >> 32
 }
 
-/// Every possible answer whose code is wanted was seen, and nothing else was.
+/// All codes that there are.
+fn codes() -> impl Iterator<Item = u64> {
+    let grounds = Ground::ALL.into_iter().map(Ground::number);
+    [0, 255].into_iter().chain(grounds.map(u64::from))
+}
+
+/// Of each call, every code that is wanted was either seen or stands in the list of those that it never answers, and no code was
+/// seen that stands there.
 pub fn assert_seen(seen: &Seen, wanted: impl Fn(u64) -> bool) {
-    let possible: Seen = POSSIBLE
+    let all: Seen = NEVER
+        .iter()
+        .flat_map(|(call, _)| codes().map(move |code| (*call, code)))
+        .collect();
+    let never: Seen = NEVER
         .iter()
         .flat_map(|(call, codes)| codes.iter().map(move |&code| (*call, code)))
         .collect();
-    let missing: Vec<_> = possible
-        .difference(seen)
-        .filter(|(_, code)| wanted(*code))
+    let missing: Vec<_> = all
+        .iter()
+        .filter(|pair| wanted(pair.1) && !seen.contains(pair) && !never.contains(pair))
         .collect();
     assert!(missing.is_empty(), "did not come up: {missing:?}");
-    assert!(seen.is_subset(&possible), "{seen:?}");
+    let wrong: Vec<_> = seen.intersection(&never).collect();
+    assert!(wrong.is_empty(), "never to be answered: {wrong:?}");
+    assert!(seen.is_subset(&all) && never.is_subset(&all), "{seen:?}");
 }

@@ -38,6 +38,11 @@ pub fn spec(sectors_per_cluster: u8) -> CardSpec {
     }
 }
 
+/// Marks a slot of card K read-only.
+pub fn mark_read_only(card: &mut [u8], slot: usize) {
+    card[33 * 512 + slot * 32 + 11] |= 0x01;
+}
+
 /// Sets an entry of both FATs of card K.
 pub fn set_fats(card: &mut [u8], cluster: usize, value: u16) {
     for fat in [1, 17] {
