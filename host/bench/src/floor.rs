@@ -2,7 +2,7 @@
 
 use crate::call::Call;
 use crate::cards::{Card, Layout, Shape, NAME, SHAPES};
-use crate::timing::{compare_copy, compare_runs, copy_between_buffers};
+use crate::timing::{compare_copy, compare_loop, compare_runs, copy_between_buffers};
 use std::hint::black_box;
 
 const BYTES: usize = 1 << 20;
@@ -41,7 +41,9 @@ fn copies() {
     println!(
         "Append and read of 1 MiB in one piece, against one memcpy of the same bytes to or from the same place of the card, by turns. In\n\
          microseconds: library / memcpy = ratio. The aim is at most 2 for append, 1.4 for read. In brackets the ratio to a memcpy of as many\n\
-         bytes between two buffers that stay in the cache: what the card's size costs is in it (D87).\n"
+         bytes between two buffers that stay in the cache: what the card's size costs is in it (D87). The last line is a loop in Rust over the\n\
+         same bytes, one by one, between places that might overlap: what the compiler makes of it is what it makes of the library's own\n\
+         loop. Below that ratio no read can come here.\n"
     );
     println!("| call | 4,085 × 1 | 4,085 × 64 | 65,524 × 1 | 65,524 × 64 |");
     println!("|---|---|---|---|---|");
@@ -54,6 +56,12 @@ fn copies() {
     for shape in SHAPES {
         let call = Call::Read(NAME.to_vec(), 0, BYTES);
         print_copy(Card::with_file(shape, Layout::OnePiece, BYTES), &call);
+    }
+    print!("\n| loop, 1 MiB |");
+    for shape in SHAPES {
+        let mut card = Card::with_file(shape, Layout::OnePiece, BYTES);
+        let place = card.first_data()..card.first_data() + BYTES;
+        print!(" {} |", compare_loop(&mut card.bytes[place]));
     }
     println!("\n");
 }

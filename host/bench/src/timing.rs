@@ -2,6 +2,7 @@
 
 use crate::call::Call;
 use reference::{plan, Answer, Store};
+use std::cell::Cell;
 use std::fmt;
 use std::hint::black_box;
 use std::ops::Range;
@@ -83,6 +84,32 @@ pub fn compare_copy(card: &mut [u8], call: &Call, place: Range<usize>) -> Times 
         put_back(card, &undo);
         (library, memcpy)
     })
+}
+
+/// Runs a loop that copies these bytes into a buffer by turns with one memcpy of them.
+pub fn compare_loop(bytes: &mut [u8]) -> Times {
+    let mut buffer = vec![0; bytes.len()];
+    by_turns(|| {
+        let start = Instant::now();
+        copy_by_loop(cells(black_box(&mut buffer)), cells(bytes));
+        let looped = start.elapsed();
+
+        let start = Instant::now();
+        black_box(&mut buffer).copy_from_slice(bytes);
+        (looped, start.elapsed())
+    })
+}
+
+fn cells(bytes: &mut [u8]) -> &[Cell<u8>] {
+    Cell::from_mut(bytes).as_slice_of_cells()
+}
+
+/// Cells may be shared, so the compiler cannot call memcpy here.
+#[inline(never)]
+fn copy_by_loop(to: &[Cell<u8>], from: &[Cell<u8>]) {
+    for (to, from) in to.iter().zip(from) {
+        to.set(from.get());
+    }
 }
 
 /// The median time, in microseconds, of one memcpy of so many bytes between two buffers that are used for nothing else.
