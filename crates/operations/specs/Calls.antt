@@ -50,6 +50,12 @@ whole v c f = do
   Ground.Chain when not (keeps-chain (v .layout) (entry (old-fat v c)) (f .first) (f .size))
   granted f
 
+-- The file that a name means, with NAME asked before and CHAIN after.
+unfoldable pub file-of : Access → Volume → Card → Span → Answer File
+file-of a v c n = do
+  Ground.Name when not (name-ok n)
+  file-named a v c n >>= whole v c
+
 -- "11. EXISTS: the new name is taken." "12. ROOTFULL: no slot begins 0 or 0xE5."
 unfoldable pub taken : Volume → Card → Span → Bool
 taken v c n = ltb (slot-of v c n) (v .layout .entries)
@@ -63,12 +69,6 @@ new-slot v c n = do
   Ground.Exists when taken v c n
   Ground.Rootfull when root-full v c
   granted (free-slot (v .layout) c)
-
--- The same with NAME asked before it, and CHAIN after it.
-unfoldable pub file-of : Access → Volume → Card → Span → Answer File
-file-of a v c n = do
-  Ground.Name when not (name-ok n)
-  file-named a v c n >>= whole v c
 
 -- ---- each call on a clean card: what is asked after grounds 1 to 7
 

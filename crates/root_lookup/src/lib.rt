@@ -87,7 +87,7 @@ fn admit(a: Access, o: Lookup) -> Found
     }
 }
 
-// The file that a name means, with the grounds of `admit`.
+// The file that a name means, for reading or for writing.
 pub fn file_named(w: &[u8], v: Volume, a: Access, name: &[u8]) -> Found
     requires { ⌜ Held (v .layout) (now w) × (name-ok (view (now name)) ≡ true) ⌝ }
     ensures { λ r. ⌜
@@ -108,7 +108,7 @@ fn keep_whole(w: &[u8], v: Volume, f: File) -> Found
     Found::At(f)
 }
 
-// The same with NAME asked before it, and CHAIN after it.
+// The file that a name means, with NAME asked before and CHAIN after.
 pub fn file_of(w: &[u8], v: Volume, a: Access, name: &[u8]) -> Found
     requires { ⌜ Held (v .layout) (now w) ⌝ }
     ensures { λ r. ⌜

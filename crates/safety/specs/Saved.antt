@@ -102,7 +102,7 @@ pub record KeepsOthers (k : Call) (w : Window) (v : Volume) : Type 0 where
 abbrev pub AllKeep : Type 0
 AllKeep = (k : Call) (w : Window) (v : Volume) → Genuine w → clean w ≡ granted v → Sound (v .layout) (w .card) → KeepsOthers k w v
 
--- "Respect the read-only mark": such a call leaves each root file that has the mark as it was, whatever it names.
+-- "Respect the read-only mark": each root file that has the mark is as it was, too, whatever the call names.
 abbrev pub LockedStays : Type 0
 LockedStays = (k : Call) (w : Window) (v : Volume) → Genuine w → clean w ≡ granted v → Sound (v .layout) (w .card)
     → (s : ℕ) → s < v .layout .entries → is-file (slot-at (v .layout) (w .card) s) ≡ true → is-locked (slot-at (v .layout) (w .card) s) ≡ true
