@@ -1,8 +1,8 @@
 -- A file marked read-only, on the card of `Small`: what each call answers. Rows that refuse wrong definitions.
-use Prim.Native.Nat.{ℕ}
+use Prim.Native.Nat.{ℕ, _%_}
 use mathlib.Core.Path.{_≡_, refl}
 use mathlib.Core.List.{List, [], _∷_, map}
-use lib.Dec.{eqb}
+use lib.Dec.{ltb, eqb}
 use lib.ListN.{replicate}
 use Rattle.model.specs.Bytes.{Bytes, Span, pick, patch}
 use Rattle.model.specs.Sector.{Card, store, put, after}
@@ -15,7 +15,7 @@ use Rattle.operations.specs.Plan.{create-stores}
 use Rattle.operations.specs.Calls.{create-on, append-on, replace-on, truncate-on, delete-on, rename-on}
 use Rattle.operations.specs.Outcome.{outcome, largest}
 use Rattle.operations.specs.Reading.{read-on, filled-outcome}
-use Rattle.operations.proofs.Small.{v, two, span, appended}
+use Rattle.operations.proofs.Small.{v, blank, two, span, appended}
 use Rattle.operations.proofs.Compute.{compute}
 
 -- The names A, B and C, as a caller gives them.
@@ -38,8 +38,8 @@ with x d = put (both d) (store 3 (patch 1 x 11 (both d 3)))
 abbrev answer : Answer Program → Outcome
 answer p = outcome largest p
 
--- Each of the five calls is refused, with bytes and without; before EXISTS, ROOTFULL and LENGTH would be. (The card is an argument, so that
--- it is computed once.)
+-- Each of the five calls is refused, with bytes and without; before EXISTS and LENGTH would be. (The card is an argument, so that it is
+-- computed once.)
 abbrev changes : Bytes → Card → List (Answer Program)
 changes e c =
     append-on v c a (span 100 e) ∷ append-on v c a (span 0 e) ∷ truncate-on v c a 512 ∷ truncate-on v c a 600 ∷ truncate-on v c a 601 ∷ delete-on v c a
@@ -48,6 +48,14 @@ changes e c =
 locked-row : (d e : Bytes) → map answer (changes e (with 0x21 d)) ≡ replicate 11 (Refused Ground.Locked)
 unfolding compute
 locked-row d e = refl
+
+-- And before ROOTFULL: A has no bytes, and the fifteen slots after its own are in use.
+abbrev full : ℕ → Card
+full x = put blank (store 3 (λ j. pick (eqb (j % 32) 0) (pick (ltb j 32) 65 90) (pick (ltb j 11) 32 (pick (eqb j 11) x 0))))
+
+full-row : map (λ x. answer (rename-on v (full x) a (letter 67))) (0x21 ∷ 0x20 ∷ []) ≡ Refused Ground.Locked ∷ Refused Ground.Rootfull ∷ []
+unfolding compute
+full-row = refl
 
 -- Of a directory the mark is not asked.
 directory-row : (d : Bytes) → answer (delete-on v (with 0x11 d) a) ≡ Refused Ground.Directory

@@ -1,6 +1,6 @@
 -- Rows on a card that is small enough to compute quickly: 8 clusters, one sector to a FAT, 16 root slots, a log of two sectors, and 0xAA
 -- in all other data sectors. No boot sector says so, and grounds 1 to 7 are not asked; what follows them is. The edits in must-fail are
--- refused here. The rows of the requirements' own card stand in the crate `worked`.
+-- refused here and in `Locked`. The rows of the requirements' own card stand in the crate `worked`.
 use Prim.Native.Nat.{ℕ}
 use mathlib.Core.Path.{_≡_, refl}
 use mathlib.Core.List.{List, [], _∷_, map}
@@ -42,7 +42,7 @@ v = record { layout = l; log = log; pending = Pending.Nothing }
 abbrev marks : Bytes
 marks j = pick (eqb j 4 || eqb j 6) 0xF6 (pick (eqb j 5 || eqb j 7) 0xFF 0)
 
-abbrev blank : Card
+abbrev pub blank : Card
 blank s = pick (eqb s 1 || eqb s 2) marks (pick (leb 6 s) (λ j. 0xAA) zeros)
 
 abbrev one : Name
