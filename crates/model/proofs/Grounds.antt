@@ -6,15 +6,10 @@ use mathlib.Core.Bool.{Bool, true, false}
 use Rattle.model.specs.Ground.{Answer, refused, granted, _when_, _>>=_, _>>_}
 use Rattle.model.specs.declared.Ground.{Ground}
 
-module _ {A : Type 0} (g : Ground) (b : Bool) (k : Answer A) where
-  -- A ground that does not hold, and one that does.
-  pub passed : b ≡ false → ((g when b) >> k) ≡ k
-  unfolding _when_ _>>_
-  passed e = rw e
-
-  pub stopped : b ≡ true → ((g when b) >> k) ≡ refused g
-  unfolding _when_ _>>_
-  stopped e = rw e
+-- A ground that does not hold.
+pub passed : {A : Type 0} (g : Ground) (b : Bool) (k : Answer A) → b ≡ false → ((g when b) >> k) ≡ k
+unfolding _when_ _>>_
+passed g b k e = rw e
 
 -- A granted answer has passed each of its grounds.
 pub asked : {A : Type 0} (g : Ground) (b : Bool) (k : Answer A) (a : A) → ((g when b) >> k) ≡ granted a → (b ≡ false) × (k ≡ granted a)
