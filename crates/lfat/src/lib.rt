@@ -2,7 +2,6 @@
 use model::Ground;
 use model::Outcome;
 ghost use mathlib.Core.Path.{_≡_};
-ghost use Prim.Native.Nat.{_<_};
 ghost use lib.ListN.{length};
 ghost use Rattle.model.specs.Bytes.{view};
 ghost use Rattle.model.specs.Sector.{window-of};
@@ -13,7 +12,7 @@ ghost use Rattle.operations.specs.Calls.{create, append, replace, truncate, del
 ghost use Rattle.operations.specs.Promises.{Called, Answered};
 
 fn ground_number(g: Ground) -> u32
-    ensures { λ r. ⌜ (r ≡ ground-number g) × (r < 17) ⌝ }
+    ensures { λ r. ⌜ r ≡ ground-number g ⌝ }
 {
     match g {
         Ground::Short => 1,

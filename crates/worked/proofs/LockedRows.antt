@@ -1,9 +1,9 @@
 -- The rows of a locked file on card K, by computation. That the card is clean is computed once; the rest asks what follows.
 use Prim.Native.Nat.{ℕ}
-use mathlib.Core.Path.{_≡_, refl, sym, ap, _∙_, fun-ext}
+use mathlib.Core.Path.{_≡_, refl, sym, ap, _∙_}
 use mathlib.Core.List.{List, [], _∷_, map}
 use lib.ListN.{replicate}
-use Rattle.model.specs.Bytes.{Bytes}
+use Rattle.model.specs.Bytes.{Bytes, Span}
 use Rattle.model.specs.Sector.{Window}
 use Rattle.model.specs.Ground.{Answer, granted}
 use Rattle.model.specs.Volume.{clean}
@@ -13,13 +13,13 @@ use Rattle.model.specs.declared.Volume.{Volume}
 use Rattle.model.specs.declared.Ground.the-variants as Ground
 use Rattle.model.proofs.Grounds.{then}
 use Rattle.operations.specs.Program.{Program}
-use Rattle.operations.specs.Calls.{Call, creates, appends, truncates, deletes, renames, replaces, recovers, plan}
+use Rattle.operations.specs.Calls.{plan}
 use Rattle.operations.specs.Calls.{create, append, truncate, delete, rename, replace, create-on, append-on, truncate-on, delete-on, rename-on, replace-on}
 use Rattle.operations.specs.Outcome.{outcome, made, largest}
 use Rattle.operations.specs.Reading.{Filled, read, read-on, list, directory-listing, shown, filled-outcome, buffer-after}
 use Rattle.worked.specs.CardK.{span, route, letter}
 use Rattle.worked.specs.Worked.{volume-k}
-use Rattle.worked.specs.Locked.{marked, office, refusals, answers, Locked}
+use Rattle.worked.specs.Locked.{marked, office, answers, Locked}
 use Rattle.worked.proofs.Compute.{compute}
 use Rattle.worked.proofs.Flat.{flattened, flattened-same}
 
@@ -32,33 +32,30 @@ desk-clean d = refl
 
 -- ---- the calls on a clean window
 
-module _ (w : Window) (v : Volume) where
-  abbrev plan-on : Call → Answer Program
-  plan-on (creates n) = create-on v (w .card) n
-  plan-on (appends n d) = append-on v (w .card) n d
-  plan-on (truncates n size) = truncate-on v (w .card) n size
-  plan-on (deletes n) = delete-on v (w .card) n
-  plan-on (renames n m) = rename-on v (w .card) n m
-  plan-on (replaces n d) = replace-on v (w .card) n d
-  plan-on recovers = plan recovers w
-
-  abbrev answers-on : List Call → List Outcome
-  answers-on ks = map (λ k. outcome largest (plan-on k)) ks
-
 module _ (w : Window) (v : Volume) (is : clean w ≡ granted v) where
-  plan-is : (k : Call) → plan k w ≡ plan-on w v k
-  unfolding plan create append truncate delete rename replace
-  plan-is (creates n) = then (clean w) _ v is
-  plan-is (appends n d) = then (clean w) _ v is
-  plan-is (truncates n size) = then (clean w) _ v is
-  plan-is (deletes n) = then (clean w) _ v is
-  plan-is (renames n m) = then (clean w) _ v is
-  plan-is (replaces n d) = then (clean w) _ v is
-  plan-is recovers = refl
+  create-is : (n : Span) → create w n ≡ create-on v (w .card) n
+  unfolding create
+  create-is n = then (clean w) _ v is
 
-  answers-are : (ks : List Call) → answers ks w ≡ answers-on w v ks
-  unfolding answers
-  answers-are ks = ap (λ (p : Call → Answer Program). map (λ k. outcome largest (p k)) ks) (fun-ext plan-is)
+  append-is : (n d : Span) → append w n d ≡ append-on v (w .card) n d
+  unfolding append
+  append-is n d = then (clean w) _ v is
+
+  truncate-is : (n : Span) (size : ℕ) → truncate w n size ≡ truncate-on v (w .card) n size
+  unfolding truncate
+  truncate-is n size = then (clean w) _ v is
+
+  delete-is : (n : Span) → delete w n ≡ delete-on v (w .card) n
+  unfolding delete
+  delete-is n = then (clean w) _ v is
+
+  rename-is : (n m : Span) → rename w n m ≡ rename-on v (w .card) n m
+  unfolding rename
+  rename-is n m = then (clean w) _ v is
+
+  replace-is : (n d : Span) → replace w n d ≡ replace-on v (w .card) n d
+  unfolding replace
+  replace-is n d = then (clean w) _ v is
 
   read-is : (offset room : ℕ) → read w route offset room ≡ read-on v (w .card) route offset room
   unfolding read
@@ -79,31 +76,40 @@ record FromDesk : Type 0 where
   appends-on : List ℕ
   exists : List Outcome
 
+abbrev ends-as : List (Answer Program) → List Outcome
+ends-as ps = map (λ p. outcome largest p) ps
+
 abbrev sectors : Answer Program → List ℕ
 sectors p = map (λ s. s .sector) (made largest p)
 
--- What is seen of the calls, of two reads and of the listing, as they are asked and as they are computed.
-abbrev seen : Bytes → (List Call → List Outcome) → (Call → Answer Program) → (ℕ → ℕ → Answer Filled) → Answer Filled → FromDesk
-seen e answered planned reading listing = record {
-  locked = answered (refusals e);
+-- What is seen of the calls: as they are asked of a window, and as they are computed on a clean one.
+abbrev seen : Bytes → (Span → Answer Program) → (Span → Span → Answer Program) → (Span → ℕ → Answer Program) → (Span → Answer Program)
+    → (Span → Span → Answer Program) → (Span → Span → Answer Program) → (ℕ → ℕ → Answer Filled) → Answer Filled → FromDesk
+seen e creating appending truncating deleting renaming replacing reading listing = record {
+  locked = ends-as (
+      appending route (span 100 e) ∷ appending route (span 0 e) ∷ truncating route 512 ∷ truncating route 1300 ∷ truncating route 1301 ∷ deleting route
+      ∷ renaming route (letter 67) ∷ renaming route (letter 66) ∷ renaming route route ∷ replacing route (span 600 e) ∷ replacing route (span 0 e) ∷ []);
   reads = filled-outcome (reading 0 2000);
   bytes = map (buffer-after (reading 1290 20) (λ i. 7)) (0 ∷ 9 ∷ 10 ∷ []);
   lists = filled-outcome listing;
-  creates-on = sectors (planned (creates (letter 67)));
-  appends-on = sectors (planned (appends (letter 66) (span 100 e)));
-  exists = answered (creates route ∷ renames (letter 66) route ∷ []);
+  creates-on = sectors (creating (letter 67));
+  appends-on = sectors (appending (letter 66) (span 100 e));
+  exists = ends-as (creating route ∷ renaming (letter 66) route ∷ []);
 }
 
 abbrev asked : Bytes → Window → FromDesk
-asked e w = seen e (λ ks. answers ks w) (λ k. plan k w) (read w route) (list w 64)
+asked e w = seen e (create w) (append w) (truncate w) (delete w) (rename w) (replace w) (read w route) (list w 64)
 
 abbrev computed : Bytes → Window → FromDesk
-computed e w = seen e (answers-on w volume-k) (plan-on w volume-k) (read-on volume-k (w .card) route)
-    (granted (directory-listing (volume-k .layout) (w .card) (shown (volume-k .layout) (w .card)) 64))
+computed e w =
+    let c = w .card in
+    seen e (create-on volume-k c) (append-on volume-k c) (truncate-on volume-k c) (delete-on volume-k c) (rename-on volume-k c) (replace-on volume-k c)
+    (read-on volume-k c route) (granted (directory-listing (volume-k .layout) c (shown (volume-k .layout) c) 64))
 
 same-rows : (e : Bytes) (w : Window) → clean w ≡ granted volume-k → asked e w ≡ computed e w
-same-rows e w is = λ t. seen e
-    (λ ks. answers-are w volume-k is ks t) (λ k. plan-is w volume-k is k t) (λ offset room. read-is w volume-k is offset room t) (list-is w volume-k is 64 t)
+same-rows e w is = λ t. seen e (λ n. create-is w volume-k is n t) (λ n d. append-is w volume-k is n d t) (λ n size. truncate-is w volume-k is n size t)
+    (λ n. delete-is w volume-k is n t) (λ n m. rename-is w volume-k is n m t) (λ n d. replace-is w volume-k is n d t)
+    (λ offset room. read-is w volume-k is offset room t) (list-is w volume-k is 64 t)
 
 abbrev rows : Bytes → FromDesk
 rows d = record {
@@ -121,6 +127,7 @@ unfolding compute marked
 computed-rows d e = refl
 
 pub locked : (d e : Bytes) → Locked d e
+unfolding answers plan
 locked d e =
     let all : asked e (office d) ≡ rows d = ap (asked e) (sym (flattened-same 80 (office d))) ∙ same-rows e (desk d) (desk-clean d) ∙ computed-rows d e in
     record {

@@ -9,7 +9,7 @@ use Rattle.lfat.proofs.ground_number.Reads as ground-number-reads
 use Rattle.sector.proofs.wider.Reads as wider-reads
 
 returns : tie.Need-returns
-returns c = rw (c .before .before .before .r .given .1) (omega (arith, c .wider .ensures, c .before .ground-number .ensures .0))
+returns c = rw (c .before .before .before .r .given .1) (omega (arith, c .wider .ensures, c .before .ground-number .ensures))
 
 returns-2 : tie.Need-returns-2
 returns-2 c = rw (c .before .before .r2 .given .1) (omega (arith, c .wider2 .ensures))

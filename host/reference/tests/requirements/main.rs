@@ -13,6 +13,7 @@ mod inspection;
 mod limits;
 mod listing;
 mod locked;
+mod locked_slots;
 mod log_area;
 mod names;
 mod power_cuts;

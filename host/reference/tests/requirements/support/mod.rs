@@ -1,6 +1,7 @@
 //! What these tests share among themselves; `testkit` has what others use too.
 
 pub mod history;
+pub mod locked;
 pub mod worked;
 
 use reference::{plan, run, Answer, Operation};
