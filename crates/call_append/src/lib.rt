@@ -88,7 +88,7 @@ fn append_to(w: &mut [u8], v: Volume, f: File, bytes: &[u8], limit: u32) -> Outc
 {
     let l = v.layout;
     let n = file_append::added_clusters(l, f, bytes.len());
-    if sector::index(fat_chain::count_free(w, l)) < n {
+    if sector::wider(fat_chain::count_free(w, l)) < n {
         return Outcome::Refused(Ground::Nospace);
     }
     if bytes.len() == 0 {

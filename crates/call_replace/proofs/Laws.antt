@@ -27,6 +27,7 @@ use Rattle.model.proofs.Needed.{needed-none}
 use Rattle.operations.specs.Program.{stores}
 use Rattle.operations.specs.Plan.{clusters-of, last-cluster, added, fresh-clusters, operate, replace-along, replace-stores}
 use Rattle.operations.specs.Calls.{replace-file, replace-on, replace}
+use Rattle.operations.proofs.Added.{added-empty}
 use Rattle.volume.specs.Opened.{Ready}
 use Rattle.volume.proofs.Ready.{ready-run, ready-log}
 use Rattle.file_read.specs.Files.{Proper}
@@ -50,9 +51,8 @@ module _ (l : Layout) (one : 1 ≤ l .factor) (f : File) where
   pub emptied-last : (t : Fat) → 0 ≡ last-cluster (clusters-of l t (emptied f))
   emptied-last t = sym (ap (λ (ks : List ℕ). last-cluster ks) (emptied-clusters t))
 
-  emptied-added : (n : ℕ) → added l (emptied f) n ≡ needed l n
-  unfolding added
-  emptied-added n = let z : 0 + n ≡ n = omega arith in rw (z, needed-none l one) (omega arith)
+  pub emptied-added : (n : ℕ) → added l (emptied f) n ≡ needed l n
+  emptied-added n = added-empty l one (emptied f) n refl
 
 clusters-chain : (l : Layout) (t : Fat) (f : File) → clusters-of l t f ≡ chain (entry t) (needed l (f .size)) (f .first)
 unfolding clusters-of
@@ -73,18 +73,17 @@ module _ (w : Window) (n d : Span) where
   unfolding replace _>>=_
   replace-clean v e = rw e
 
--- NOSPACE asks for the clusters of an append to the file without its bytes.
-module _ (c : Card) (v : Volume) (f : File) (d : Span) (one : 1 ≤ v .layout .factor) where
+module _ (c : Card) (v : Volume) (f : File) (d : Span) where
   abbrev free-count : ℕ
   free-count = length (free-clusters (v .layout) (fat1-of (v .layout) c))
 
-  pub replace-full : free-count < added (v .layout) (emptied f) (d .size) → replace-file v c f d ≡ refused Ground.Nospace
+  pub replace-full : free-count < needed (v .layout) (d .size) → replace-file v c f d ≡ refused Ground.Nospace
   unfolding replace-file _when_ _>>_
-  replace-full h = rw (lt-ltb free-count (needed (v .layout) (d .size)) (rw (emptied-added (v .layout) one f (d .size)) at h))
+  replace-full h = rw (lt-ltb free-count (needed (v .layout) (d .size)) h)
 
-  pub replace-granted : added (v .layout) (emptied f) (d .size) ≤ free-count → replace-file v c f d ≡ granted (replace-stores v c f d)
+  pub replace-granted : needed (v .layout) (d .size) ≤ free-count → replace-file v c f d ≡ granted (replace-stores v c f d)
   unfolding replace-file _when_ _>>_
-  replace-granted h = rw (le-ltb free-count (needed (v .layout) (d .size)) (rw (emptied-added (v .layout) one f (d .size)) at h))
+  replace-granted h = rw (le-ltb free-count (needed (v .layout) (d .size)) h)
 
 -- ---- data and FAT2 under one limit
 

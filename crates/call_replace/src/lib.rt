@@ -109,14 +109,8 @@ fn replace_file(w: &mut [u8], v: Volume, f: File, bytes: &[u8], limit: u32) -> O
     ensures { λ r. ⌜ Did limit (replace-file v (card-of (now (w .entry))) f (view (now (bytes .entry)))) (now (w .entry)) (now (w .exit)) r ⌝ }
 {
     let l = v.layout;
-    let entry = f.entry;
-    let g = File {
-        entry,
-        first: 0,
-        size: 0,
-    };
-    let n = file_append::added_clusters(l, g, bytes.len());
-    if sector::index(fat_chain::count_free(w, l)) < n {
+    let n = fat_chain::clusters_needed(l, bytes.len() as u64);
+    if sector::wider(fat_chain::count_free(w, l)) < n {
         return Outcome::Refused(Ground::Nospace);
     }
     let p = store_replace(w, v, f, n as u32, bytes, limit);

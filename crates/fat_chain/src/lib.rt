@@ -36,15 +36,23 @@ fn is_end(l: Layout, v: u32) -> bool
     }
 }
 
-// The clusters that a size needs.
+// The clusters that so many bytes need, whatever their number.
+pub fn clusters_needed(l: Layout, bytes: u64) -> u64
+    requires { ⌜ Fits l ⌝ }
+    ensures { λ r. ⌜ r ≡ needed l bytes ⌝ }
+{
+    if bytes == 0 {
+        return 0;
+    }
+    (bytes - 1) / (512 * sector::wider(l.factor)) + 1
+}
+
+// Those that a file's size needs.
 pub fn clusters_for(l: Layout, size: u32) -> u32
     requires { ⌜ Fits l ⌝ }
     ensures { λ r. ⌜ r ≡ needed l size ⌝ }
 {
-    if size == 0 {
-        return 0;
-    }
-    (size - 1) / (512 * l.factor) + 1
+    clusters_needed(l, sector::wider(size)) as u32
 }
 
 // How many clusters from k on lie one after another on the card, each linked to the next: at least 1, at most n.

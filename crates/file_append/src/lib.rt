@@ -23,7 +23,7 @@ pub struct Cursor {
 }
 
 // How many clusters an append of n bytes takes, however many bytes those are.
-pub fn added_clusters(l: Layout, f: File, n: usize) -> usize
+pub fn added_clusters(l: Layout, f: File, n: usize) -> u64
     requires { ⌜ Fits l ⌝ }
     ensures { λ r. ⌜ r ≡ added l f n ⌝ }
 {
@@ -32,7 +32,7 @@ pub fn added_clusters(l: Layout, f: File, n: usize) -> usize
     if n <= spare {
         return 0;
     }
-    (n - spare - 1) / bytes + 1
+    fat_chain::clusters_needed(l, (n - spare) as u64)
 }
 
 // The first of n new clusters, 0 if there is none.

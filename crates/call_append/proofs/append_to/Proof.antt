@@ -20,7 +20,7 @@ use Rattle.fat_chain.proofs.count_free.Reads as count-free-reads
 use Rattle.file_append.proofs.added_clusters.Reads as added-clusters-reads
 use Rattle.file_read.proofs.last_cluster.Reads as last-cluster-reads
 use Rattle.log_steps.proofs.ended.Reads as ended-reads
-use Rattle.sector.proofs.index.Reads as index-reads
+use Rattle.sector.proofs.wider.Reads as wider-reads
 
 returns : tie.Need-returns
 returns c =
