@@ -4,7 +4,7 @@ use model::Layout;
 ghost use mathlib.Core.Path.{_≡_};
 ghost use Prim.Native.Nat.{_+_, _-_, _≤_, _<_};
 ghost use lib.ListN.{length};
-ghost use Rattle.model.specs.Scan.{first-from};
+ghost use Rattle.model.specs.Scan.{first-from, nth-from};
 ghost use Rattle.model.specs.Sector.{card-of};
 ghost use Rattle.model.specs.Fat.{fat1-of, entry, in-range, is-end, free-clusters};
 ghost use Rattle.model.specs.Chain.{needed, ends-after, keeps-chain};
@@ -126,4 +126,13 @@ pub fn next_free(w: &[u8], l: Layout, k: u32) -> u32
     ensures { λ r. ⌜ (r ≡ first-from (holds 0 (fat1-of l (card-of (now (w .entry))))) k (l .clusters + 2 - k)) × (k ≤ r) × (r ≤ l .clusters + 2) ⌝ }
 {
     fat_read::find_entry(w, l.fat1, k, l.clusters + 2 - k, 0)
+}
+
+// The n-th free cluster, the lowest being number 1; past the last one where fewer are free. No sector of FAT1 is read after the one
+// that has it.
+pub fn nth_free(w: &[u8], l: Layout, n: u32) -> u32
+    requires { ⌜ Held l (now w) × (1 ≤ n) ⌝ }
+    ensures { λ r. ⌜ r ≡ nth-from (holds 0 (fat1-of l (card-of (now (w .entry))))) 2 (l .clusters) n ⌝ }
+{
+    fat_read::find_nth(w, l.fat1, 2, l.clusters, 0, n)
 }

@@ -4,11 +4,11 @@ use model::Class;
 use model::Layout;
 ghost use mathlib.Core.Path.{_≡_};
 ghost use mathlib.Core.Bool.{true, false};
-ghost use Prim.Native.Nat.{_+_, _*_, _≤_, _<_};
+ghost use Prim.Native.Nat.{_+_, _-_, _*_, _%_, _≤_, _<_, min};
 ghost use lib.Dec.{eqb};
 ghost use lib.ListN.{length};
 ghost use Rattle.model.specs.Bytes.{bytes-of};
-ghost use Rattle.model.specs.Scan.{first-from, count-from};
+ghost use Rattle.model.specs.Scan.{first-from, count-from, nth-from};
 ghost use Rattle.model.specs.Sector.{card-of};
 ghost use Rattle.model.specs.Fat.{fat-at, fat1-of, entry, class, fats-agree};
 ghost use Rattle.model.specs.Chain.{cluster-sector};
@@ -139,6 +139,58 @@ pub fn find_entry(w: &[u8], fat: u32, k: u32, n: u32, v: u32) -> u32
             return i;
         }
         i += 1;
+    }
+    end
+}
+
+// How many entries from k on, below the end, lie in one sector of the FAT.
+fn sector_left(k: u32, end: u32) -> u32
+    requires { ⌜ k < end ⌝ }
+    ensures { λ r. ⌜ r ≡ min (256 - k % 256) (end - k) ⌝ }
+{
+    let left = 256 - k % 256;
+    if end - k < left {
+        return end - k;
+    }
+    left
+}
+
+// The m-th entry from k on that holds v, or the end: entry by entry.
+fn pass_entries(w: &[u8], fat: u32, k: u32, n: u32, v: u32, m: u32) -> u32
+    requires { ⌜ (k + n < 4294967296) × (512 * fat + 2 * (k + n) ≤ length (now w)) × (1 ≤ m) ⌝ }
+    ensures { λ r. ⌜ r ≡ nth-from (holds v (fat-at (card-of (now (w .entry))) fat)) k n m ⌝ }
+{
+    let end = k + n;
+    let mut i = k;
+    let mut left = m;
+    while i < end {
+        if entry_at(w, fat, i) == v {
+            if left == 1 {
+                return i;
+            }
+            left -= 1;
+        }
+        i += 1;
+    }
+    end
+}
+
+// The same, sector by sector: one that holds too few is passed over by its count, and none is read after the one that decides.
+pub fn find_nth(w: &[u8], fat: u32, k: u32, n: u32, v: u32, m: u32) -> u32
+    requires { ⌜ (k + n < 4294967296) × (512 * fat + 2 * (k + n) ≤ length (now w)) × (1 ≤ m) ⌝ }
+    ensures { λ r. ⌜ r ≡ nth-from (holds v (fat-at (card-of (now (w .entry))) fat)) k n m ⌝ }
+{
+    let end = k + n;
+    let mut i = k;
+    let mut left = m;
+    while i < end {
+        let size = sector_left(i, end);
+        let found = count_entries(w, fat, i, size, v);
+        if left <= found {
+            return pass_entries(w, fat, i, size, v, left);
+        }
+        left -= found;
+        i += size;
     }
     end
 }

@@ -8,6 +8,7 @@ ghost use Rattle.model.specs.Sector.{window-of};
 ghost use Rattle.model.specs.Ground.{ground-number};
 ghost use Rattle.operations.specs.Outcome.{outcome-number};
 ghost use Rattle.operations.specs.Reading.{read, list};
+ghost use Rattle.operations.specs.Fitting.{fits, fit-outcome};
 ghost use Rattle.operations.specs.Calls.{create, append, replace, truncate, delete, rename, recover};
 ghost use Rattle.operations.specs.Promises.{Called, Answered};
 
@@ -41,6 +42,7 @@ fn number_of(r: Outcome) -> u64
     match r {
         Outcome::Refused(g) => sector::wider(ground_number(g)) * 4294967296,
         Outcome::Done(n) => sector::wider(n),
+        Outcome::No => 1090921693184,
         Outcome::Stopped(n) => 1095216660480 + sector::wider(n),
     }
 }
@@ -122,4 +124,12 @@ pub extern "C" fn lfat_read(card: &[u8], name: &[u8], offset: u64, buffer: &mut 
         (now (buffer .exit)) r ⌝ }
 {
     number_of(call_read::read(card, name, offset, buffer))
+}
+
+// Whether so many bytes would fit into an empty file, and up to which cluster.
+#[no_mangle]
+pub extern "C" fn lfat_fits(card: &[u8], bytes: u64) -> u64
+    ensures { λ r. ⌜ r ≡ outcome-number (fit-outcome (fits (window-of (now (card .entry))) bytes)) ⌝ }
+{
+    number_of(call_fits::fits(card, bytes))
 }

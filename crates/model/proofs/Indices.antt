@@ -88,28 +88,40 @@ module _ (p : ℕ → Bool) (n : ℕ) where
   pub indices-empty0 : ((j : ℕ) → j < n → p j ≡ false) → indices-from p 0 n ≡ []
   indices-empty0 h = indices-empty p 0 n (λ j lo hi. h j (omega arith))
 
--- ---- distinct numbers
+-- ---- numbers each of which stands in a relation to all after it; distinct ones, rising ones
+
+abbrev pub Pairwise : (ℕ → ℕ → Type 0) → List ℕ → Type 0
+Pairwise R [] = Unit {0}
+Pairwise R (k ∷ ks) = All (R k) ks × Pairwise R ks
 
 abbrev pub Distinct : List ℕ → Type 0
-Distinct [] = Unit {0}
-Distinct (k ∷ ks) = All (λ j. k ≡ j → ⊥) ks × Distinct ks
+Distinct ks = Pairwise (λ k j. k ≡ j → ⊥) ks
+
+abbrev pub Rising : List ℕ → Type 0
+Rising ks = Pairwise _<_ ks
+
+pub pairwise-take : (R : ℕ → ℕ → Type 0) (n : ℕ) (ks : List ℕ) → Pairwise R ks → Pairwise R (take n ks)
+pairwise-take R zero ks d = tt
+pairwise-take R (suc n) [] d = tt
+pairwise-take R (suc n) (k ∷ ks) d = (all-take (R k) n ks (d .0), pairwise-take R n ks (d .1))
 
 pub distinct-take : (n : ℕ) (ks : List ℕ) → Distinct ks → Distinct (take n ks)
-distinct-take zero ks d = tt
-distinct-take (suc n) [] d = tt
-distinct-take (suc n) (k ∷ ks) d = (all-take (λ j. k ≡ j → ⊥) n ks (d .0), distinct-take n ks (d .1))
+distinct-take n ks d = pairwise-take (λ k j. k ≡ j → ⊥) n ks d
 
 pub distinct-append : (ks js : List ℕ) → Distinct ks → Distinct js → All (λ k. All (λ j. k ≡ j → ⊥) js) ks → Distinct (ks ++ js)
 distinct-append [] js d e h = e
 distinct-append (k ∷ ks) js d e h = (all-append (λ j. k ≡ j → ⊥) ks js (d .0) (h .0), distinct-append ks js (d .1) e (h .1))
 
-pub distinct-indices : (p : ℕ → Bool) (i n : ℕ) → Distinct (indices-from p i n)
+pub pairwise-indices : (R : ℕ → ℕ → Type 0) → ((i j : ℕ) → i < j → R i j) → (p : ℕ → Bool) (i n : ℕ) → Pairwise R (indices-from p i n)
 unfolding indices-from walk
-distinct-indices p i zero = tt
-distinct-indices p i (suc n) =
-    let rest : Distinct (indices-from p (i + 1) n) = distinct-indices p (i + 1) n in
-    by-pick Distinct (p i) (i ∷ indices-from p (i + 1) n) (indices-from p (i + 1) n)
-    (λ _. (indices-all (λ j. i ≡ j → ⊥) p (i + 1) n (λ j lo hi e r. omega arith), rest)) (λ _. rest)
+pairwise-indices R up p i zero = tt
+pairwise-indices R up p i (suc n) =
+    let rest : Pairwise R (indices-from p (i + 1) n) = pairwise-indices R up p (i + 1) n in
+    by-pick (Pairwise R) (p i) (i ∷ indices-from p (i + 1) n) (indices-from p (i + 1) n)
+    (λ _. (indices-all (R i) p (i + 1) n (λ j lo hi e. up i j (omega arith)), rest)) (λ _. rest)
+
+pub distinct-indices : (p : ℕ → Bool) (i n : ℕ) → Distinct (indices-from p i n)
+distinct-indices p i n = pairwise-indices (λ k j. k ≡ j → ⊥) (λ k j less e. omega arith) p i n
 
 pub distinct-getD : (ks : List ℕ) → Distinct ks → (i j : ℕ) → i < length ks → j < length ks → getD ks i 0 ≡ getD ks j 0 → i ≡ j
 distinct-getD [] d i j a b e = absurd (omega arith)

@@ -5,6 +5,7 @@ pub mod Lists
 pub mod Match
 pub mod Indices
 pub mod Searches
+pub mod Nths
 pub mod Overlays
 pub mod Numbers
 pub mod Sectors

@@ -1,8 +1,9 @@
 -- Tests, and scans over the numbers from a start on. Every scan of the card is one of these.
-use Prim.Native.Nat.{ℕ, zero, suc, _+_}
+use Prim.Native.Nat.{ℕ, zero, suc, _+_, _-_}
 use mathlib.Core.List.{List, [], _∷_, map}
 use mathlib.Core.Bool.{Bool, true, false, _&&_, _||_}
 use lib.Dec.{leb, eqb}
+use lib.ListN.{getD}
 use Rattle.model.specs.Bytes.{pick}
 
 -- All of a list of tests hold.
@@ -44,6 +45,10 @@ indices p n = indices-from p 0 n
 -- The n numbers from i on.
 abbrev pub range : ℕ → ℕ → List ℕ
 range i n = indices-from (λ k. true) i n
+
+-- The m-th of them, the first being number 1, else i + n.
+unfoldable pub nth-from : (ℕ → Bool) → ℕ → ℕ → ℕ → ℕ
+nth-from p i n m = getD (indices-from p i n) (m - 1) (i + n)
 
 -- How many of the n numbers from i on p holds of.
 unfoldable pub count-from : (ℕ → Bool) → ℕ → ℕ → ℕ

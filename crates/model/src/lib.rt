@@ -176,11 +176,12 @@ pub enum Ground {
     Locked,
 }
 
-// How a call ends: refused; done, with its count (of stores, of bytes read, of entries); or stopped by the limit, with
-// the stores made.
+// How a call ends: refused; done, with its count (of stores, of bytes read, of entries) or the cluster that it gives; a no;
+// or stopped by the limit, with the stores made.
 pub enum Outcome {
     Refused(Ground),
     Done(u32),
+    No,
     Stopped(u32),
 }
 

@@ -17,7 +17,7 @@ use Rattle.model.specs.declared.Lookup.{Lookup}
 use Rattle.model.specs.declared.Lookup.the-variants as Lookup
 use Rattle.model.specs.declared.Ground.the-variants as Ground
 use Rattle.model.proofs.Tests.{told, less?}
-use Rattle.model.proofs.Grounds.{asked}
+use Rattle.model.proofs.Grounds.{asked, passed}
 use Rattle.model.proofs.Lookups.{holds-none, holds-directory, holds-file}
 use Rattle.operations.specs.Calls.{admit, file-named, slot-of}
 
@@ -35,6 +35,11 @@ module _ (l : Layout) (c : Card) (s : ℕ) where
   pub admit-read : s < l .entries → is-directory (slot-at l c s) ≡ false → admit Access.Read (slot-holds l c s) ≡ granted (file-at l c s)
   unfolding admit
   admit-read less plain = ap (admit Access.Read) (holds-file l c s less plain)
+
+  pub admit-write : s < l .entries → is-directory (slot-at l c s) ≡ false → is-locked (slot-at l c s) ≡ false
+      → admit Access.Write (slot-holds l c s) ≡ granted (file-at l c s)
+  unfolding admit
+  admit-write less plain bare = ap (admit Access.Write) (holds-file l c s less plain) ∙ passed Ground.Locked _ _ bare
 
   pub admitted : (a : Access) (f : File) → admit a (slot-holds l c s) ≡ granted f → Admitted l c s f
   unfolding admit

@@ -68,4 +68,6 @@ unfolding ones onesIn
     Rattle.operations.specs.Reading.read
     Rattle.operations.specs.Reading.shown Rattle.operations.specs.Reading.directory-listing Rattle.operations.specs.Reading.list
     Rattle.operations.specs.Reading.buffer-after Rattle.operations.specs.Reading.filled-outcome
+    Rattle.operations.specs.Fitting.fit Rattle.operations.specs.Fitting.fits-on Rattle.operations.specs.Fitting.fits
+    Rattle.operations.specs.Fitting.fit-outcome
 compute = tt

@@ -1,6 +1,7 @@
 pub mod Compute
 pub mod Small
 pub mod Locked
+pub mod FitRows
 pub mod Admitted
 pub mod Appends
 pub mod Clearing
@@ -9,4 +10,5 @@ pub mod Edits
 pub mod Seats
 pub mod Lasts
 pub mod Added
+pub mod Fits
 pub mod DataStores

@@ -4,4 +4,5 @@ pub mod Plan
 pub mod Calls
 pub mod Outcome
 pub mod Reading
+pub mod Fitting
 pub mod Promises

@@ -7,7 +7,7 @@ use Rattle.model.specs.Bytes.{pick}
 use Rattle.model.specs.Sector.{Window, Store, after}
 use Rattle.model.specs.Ground.{Answer, refused, granted, ground-number}
 use Rattle.model.specs.declared.Outcome.{Outcome}
-use Rattle.model.specs.declared.Outcome.the-variants.{Refused, Done, Stopped}
+use Rattle.model.specs.declared.Outcome.the-variants.{Refused, Done, No, Stopped}
 use Rattle.operations.specs.Program.{Program, stores}
 use Rattle.operations.specs.Calls.{Call, plan}
 
@@ -30,16 +30,18 @@ left limit k w = record { size = w .size; card = after (made limit (plan k w)) (
 abbrev pub largest : ℕ
 largest = 4294967295
 
--- An outcome as one number: code × 2 ^ 32 + count. The code is 0 for DONE, the ground's number for a refusal (its count is 0), 255
--- for STOPPED.
+-- An outcome as one number: code × 2 ^ 32 + count. The code is 0 for DONE, the ground's number for a refusal and 254 for NO (their count
+-- is 0), 255 for STOPPED.
 abbrev pub outcome-code : Outcome → ℕ
 outcome-code (Refused g) = ground-number g
 outcome-code (Done n) = 0
+outcome-code No = 254
 outcome-code (Stopped n) = 255
 
 abbrev pub outcome-count : Outcome → ℕ
 outcome-count (Refused g) = 0
 outcome-count (Done n) = n
+outcome-count No = 0
 outcome-count (Stopped n) = n
 
 abbrev pub outcome-number : Outcome → ℕ

@@ -6,7 +6,7 @@ use mathlib.Core.List.{List, [], _∷_, _++_}
 use Rattle.model.specs.Bytes.{Bytes, le}
 use Rattle.model.specs.Sector.{Card, Store, after, put}
 use Rattle.model.specs.Fat.{Fat, entry, fat1-of, fat2-of, write-fat}
-use Rattle.model.specs.Root.{slot-at, bears, is-file, is-directory, is-label, listed, vacant, same-name, file-size, first-cluster, Directory}
+use Rattle.model.specs.Root.{slot-at, bears, is-file, is-directory, is-locked, is-label, listed, vacant, same-name, file-size, first-cluster, Directory}
 use Rattle.model.specs.Log.{log-of}
 use Rattle.model.specs.Record.{commit}
 use Rattle.model.specs.Ground.{granted}
@@ -124,6 +124,10 @@ module _ (a b : Bytes) (h : SameHead a b) where
   pub same-directory : is-directory a ≡ is-directory b
   unfolding is-directory
   same-directory = ap is-directory (head-clip a b h)
+
+  pub same-locked : is-locked a ≡ is-locked b
+  unfolding is-locked
+  same-locked = ap is-locked (head-clip a b h)
 
   pub same-is-file : is-file a ≡ is-file b
   unfolding is-file listed vacant is-label is-directory

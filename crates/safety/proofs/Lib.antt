@@ -34,3 +34,4 @@ pub mod Sounds
 pub mod Locks
 pub mod Same
 pub mod Restored
+pub mod Fitting

@@ -24,6 +24,7 @@ use Rattle.operations.specs.Outcome.{left, largest}
 use Rattle.operations.specs.Reading.{file-byte}
 use Rattle.safety.specs.Sound.{chain-of, proper}
 use Rattle.safety.specs.Saved.{Holds, Gone, Alone}
+use Rattle.safety.specs.Fitting.{Empty}
 use Rattle.model.proofs.Tests.{clash, same?, told, and-right}
 use Rattle.model.proofs.All.{All}
 use Rattle.model.proofs.Cards.{after-nil}
@@ -32,11 +33,11 @@ use Rattle.model.proofs.Volumes.{window, layout-of, first-fat, volume-of}
 use Rattle.safety.proofs.Start.{Start}
 use Rattle.safety.proofs.Files.{file-clear}
 use Rattle.safety.proofs.Theorem.{along}
-use Rattle.safety.proofs.Ended.{Ended, ended, same-bears, same-directory}
+use Rattle.safety.proofs.Ended.{Ended, ended, same-bears, same-directory, same-locked}
 use Rattle.safety.proofs.Chained.{HasChain, head-is, size-is, empty-then, kept-then}
-use Rattle.safety.proofs.Readings.{Meant, Read, holds-of, holds-read, gone-of}
+use Rattle.safety.proofs.Readings.{Meant, Read, holds-of, holds-read, gone-of, granted-write}
 use Rattle.operations.proofs.Edits.{one-in, one-out, two-first, two-second, two-out}
-use Rattle.safety.proofs.Slots.{new-size, new-first, new-directory, new-bears, named-size, named-first, named-directory, named-bears, named-only}
+use Rattle.safety.proofs.Slots.{new-size, new-first, new-directory, new-locked, new-bears, named-size, named-first, named-directory, named-bears, named-only}
 use Rattle.safety.proofs.Slots.{deleted-bears, means, means-none, lower-not, bearer}
 use Rattle.safety.proofs.Supplied.{creates-as, renames-as, deletes-as, create-supplies, rename-supplies, delete-supplies, ks}
 use Rattle.safety.proofs.Calls.{left-is}
@@ -98,11 +99,27 @@ module _ {size : ℕ} {c : Card} (st : Start size c) (is : clean (window size c)
     create-then content = holds-of (window size t) v (end .cleans) n z create-found 0 content
         (size-is st end z (g .room) (new-entry (name-of n)) new-slot ∙ new-size (name-of n)) (λ i less. absurd (omega arith))
 
+    create-empty : Empty v t n
+    unfolding file-at
+    create-empty =
+        let b : Bytes = new-entry (name-of n) in
+        let head = head-is st end z (g .room) b new-slot in (
+          file-at l t z,
+          granted-write (window size t) v (end .cleans) n z create-found (same-locked (slot-at l t z) b head ∙ new-locked (name-of n)),
+          size-is st end z (g .room) b new-slot ∙ new-size (name-of n),
+        )
+
   pub create-holds : (n : Span) (p : Program) → plan (creates n) w ≡ granted p → (content : Bytes) → Holds (left largest (creates n) w) n 0 content
   create-holds n p h content =
       let g : Created st is n p = create-granted st is n p h in
       finish-with (λ x. Holds x n 0 content) (creates n) p _ h (g .same)
       (create-then n p g (ended st [] fat (creates-as st n) (create-supplies st n (g .ok) (g .room))) content)
+
+  pub create-leaves : (n : Span) (p : Program) → plan (creates n) w ≡ granted p → Empty v (left largest (creates n) w .card) n
+  create-leaves n p h =
+      let g : Created st is n p = create-granted st is n p h in
+      finish-with (λ x. Empty v (x .card) n) (creates n) p _ h (g .same)
+      (create-empty n p g (ended st [] fat (creates-as st n) (create-supplies st n (g .ok) (g .room))))
 
   -- ---- rename
 

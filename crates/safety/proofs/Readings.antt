@@ -23,7 +23,7 @@ use Rattle.safety.specs.Saved.{Holds, Gone, ReadHolds}
 use Rattle.model.proofs.Laying.{overlay-same}
 use Rattle.model.proofs.Overlays.{overlay-in}
 use Rattle.model.proofs.Grounds.{then, ends, passed, asked, bound}
-use Rattle.operations.proofs.Admitted.{Admitted, admitted, unmarked, named-is, admit-read, admit-none}
+use Rattle.operations.proofs.Admitted.{Admitted, admitted, unmarked, named-is, admit-read, admit-write, admit-none}
 
 -- A name means slot s, and the file in it keeps the chain rule.
 pub record Meant (v : Volume) (x : Card) (n : Span) (s : ℕ) : Type 0 where
@@ -44,16 +44,20 @@ module _ (w : Window) (v : Volume) (is : clean w ≡ granted v) where
   unfolding read read-on
   opened n offset room = then (clean w) _ v is
 
-  granted-file : (n : Span) (s : ℕ) → Meant v x n s → file-of Access.Read v x n ≡ granted (file-at l x s)
+  granted-file : (a : Access) (n : Span) (s : ℕ) → Meant v x n s → admit a (slot-holds l x s) ≡ granted (file-at l x s)
+      → file-of a v x n ≡ granted (file-at l x s)
   unfolding file-of whole proper file-at
-  granted-file n s h =
+  granted-file a n s h let-in =
       passed Ground.Name (not (name-ok n)) _ (ap not (h .ok))
-      ∙ then (file-named Access.Read v x n) (whole v x) (file-at l x s)
-      (named-is Access.Read v x n ∙ ap (λ s. admit Access.Read (slot-holds l x s)) (h .at) ∙ admit-read l x s (h .in-root) (h .plain))
+      ∙ then (file-named a v x n) (whole v x) (file-at l x s) (named-is a v x n ∙ ap (λ s. admit a (slot-holds l x s)) (h .at) ∙ let-in)
       ∙ passed Ground.Chain _ _ (ap not (h .keeps))
 
+  pub granted-write : (n : Span) (s : ℕ) → Meant v x n s → is-locked (slot-at l x s) ≡ false → file-of Access.Write v x n ≡ granted (file-at l x s)
+  granted-write n s h bare = granted-file Access.Write n s h (admit-write l x s (h .in-root) (h .plain) bare)
+
   read-granted : (n : Span) (s : ℕ) → Meant v x n s → (offset room : ℕ) → read w n offset room ≡ granted (reading l x (file-at l x s) offset room)
-  read-granted n s h offset room = opened n offset room ∙ then (file-of Access.Read v x n) _ (file-at l x s) (granted-file n s h)
+  read-granted n s h offset room = opened n offset room ∙ then (file-of Access.Read v x n) _ (file-at l x s)
+      (granted-file Access.Read n s h (admit-read l x s (h .in-root) (h .plain)))
 
   pub holds-of : (n : Span) (s : ℕ) → Meant v x n s → (size : ℕ) (content : Bytes) → file-size (slot-at l x s) ≡ size
       → ((i : ℕ) → i < size → file-byte l x (file-at l x s) i ≡ content i) → Holds w n size content

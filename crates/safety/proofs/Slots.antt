@@ -9,7 +9,8 @@ use borrow.Author.Tests.{eq-eqb, eqb-true}
 use Rattle.model.specs.Bytes.{Bytes, Span, pick, le, byte-of, overlay, patch}
 use Rattle.model.specs.Sector.{Card}
 use Rattle.model.specs.Root.{Directory}
-use Rattle.model.specs.Root.{slot-at, name-in, file-size, first-cluster, is-file, is-directory, is-label, listed, vacant, bears, same-name, find, lowest-slot}
+use Rattle.model.specs.Root.{slot-at, name-in, file-size, first-cluster, is-file, is-directory, is-locked, is-label, listed, vacant, bears, same-name}
+use Rattle.model.specs.Root.{find, lowest-slot}
 use Rattle.model.specs.declared.Change.{Change}
 use Rattle.model.specs.declared.Name.{Name}
 use Rattle.model.specs.declared.Volume.{Volume}
@@ -114,6 +115,10 @@ new-first n = refl
 pub new-directory : (n : Name) → is-directory (new-entry n) ≡ false
 unfolding new-entry overlay byte-of is-directory
 new-directory n = refl
+
+pub new-locked : (n : Name) → is-locked (new-entry n) ≡ false
+unfolding new-entry overlay byte-of is-locked
+new-locked n = refl
 
 pub new-bears : (n : Name) → NameFits n → starts (byte-of (n .stem) 0) ≡ true → bears n (new-entry n) ≡ true
 unfolding new-entry overlay byte-of is-label

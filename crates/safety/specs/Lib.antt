@@ -4,3 +4,4 @@ pub mod Demand3
 pub mod AfterCall
 pub mod Saved
 pub mod Restored
+pub mod Fitting

@@ -5,3 +5,4 @@ pub mod Instance
 pub mod SavedK
 pub mod ReplacingRows
 pub mod LockedRows
+pub mod FittingRows

@@ -2,3 +2,4 @@ pub mod CardK
 pub mod Worked
 pub mod Replacing
 pub mod Locked
+pub mod Fitting

@@ -15,10 +15,13 @@ returns-2 : tie.Need-returns-2
 returns-2 c = rw (c .before .before .r2 .given .1) (omega (arith, c .wider2 .ensures))
 
 returns-3 : tie.Need-returns-3
-returns-3 c = rw (c .before .before .r3 .given .1) (omega (arith, c .wider3 .ensures))
+returns-3 c = rw (c .enum-told .given .1)
+
+returns-4 : tie.Need-returns-4
+returns-4 c = rw (c .before .before .r3 .given .1) (omega (arith, c .wider3 .ensures))
 
 pub number-of-spec : {M : Type 1} → statement M
 number-of-spec =
     tie.close
     (tie.spec (λ c. search needs) (λ c κs. search needs) (λ c κs. search needs) (λ c. search needs) (λ c. search needs)
-    (λ c κs. search needs) (λ c. search needs) (λ c κs. search needs) (λ c. search needs) returns returns-2 returns-3)
+    (λ c κs. search needs) (λ c. search needs) (λ c. search needs) (λ c κs. search needs) (λ c. search needs) returns returns-2 returns-3 returns-4)
