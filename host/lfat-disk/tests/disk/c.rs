@@ -105,12 +105,12 @@ fn the_example() {
     assert_eq!(output.status.code(), Some(1));
     assert!(locked.bytes() == marked);
 
-    // More than fits: the old file stays as it was, and under a new name no empty one is left.
+    // More than fits: the old file stays as it was, and under a new name none is made.
     let large = Temporary::new(&points(2_000_000));
-    let before = state(&card.bytes()).expect("clean");
+    let before = card.bytes();
     for (name, what) in [
         ("PANEL.CUT", "save: NOSPACE: "),
-        ("KEEL", "append: NOSPACE: "),
+        ("KEEL", "fits: NO: the card has too few free clusters\n"),
     ] {
         let output = run(&save, &[path(&card), name, path(&large)]);
         let errors = String::from_utf8_lossy(&output.stderr).into_owned();
@@ -119,10 +119,8 @@ fn the_example() {
             "{errors}"
         );
         assert_eq!(output.status.code(), Some(1));
-        assert!(state(&card.bytes()).expect("clean") == before, "{name}");
+        assert!(card.bytes() == before, "{name}");
     }
-
-    let before = card.bytes();
     for (words, what) in [
         (vec![path(&card), "new.cut", path(&data)], "save: NAME: "),
         (
