@@ -6,6 +6,7 @@ use crate::support::random::Random;
 use crate::support::{card_with_route, points, set_fats, spec, ALL, PANEL};
 use reference::card_k;
 use std::ffi::OsStr;
+use std::fs::File;
 use std::os::unix::ffi::OsStrExt;
 use std::os::unix::fs::symlink;
 use std::process::Command;
@@ -61,6 +62,10 @@ fn yes_and_no() {
         assert_eq!(said_no(folder.lfat(&format!("fits card {word}"))), line);
     }
     assert!(folder.read("card") == card, "it is only asked");
+    // Another program that reads the card is not in the way.
+    let file = File::open(folder.path().join("card")).expect("the card");
+    file.lock_shared().expect("a lock");
+    folder.lfat("fits card 1").done();
 }
 
 #[test]
@@ -89,7 +94,7 @@ fn numbers_and_files() {
         folder.write(name, &points(1_300));
     }
     symlink("path", folder.path().join("link")).expect("a link");
-    let large = std::fs::File::create(folder.path().join("large")).expect("a file");
+    let large = File::create(folder.path().join("large")).expect("a file");
     large.set_len(1 << 40).expect("a file of holes");
     for (line, size) in [
         ("fits card 700", 700),

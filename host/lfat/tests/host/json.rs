@@ -34,7 +34,8 @@ fn every_command_that_has_it() {
     check(&folder, run.bytes(), "v['fat1'] == [1, 16] and v['root']['slots'] == 512 and v['log'] == {'sectors': [65, 72], 'used': 3}");
 
     let run = folder.lfat("fits card path --json").done();
-    let fields = "'fits': True, 'bytes': 1300, 'clusters': 3, 'cluster_bytes': 512, 'up_to_cluster': 15";
+    let fields =
+        "'fits': True, 'bytes': 1300, 'clusters': 3, 'cluster_bytes': 512, 'up_to_cluster': 15";
     let free = "'free_clusters': 4074, 'free_bytes': 2085888";
     check(&folder, run.bytes(), &format!("v == {{{fields}, {free}}}"));
     let run = folder.lfat("fits card 18446744073709551615 --json");
