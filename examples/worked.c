@@ -95,6 +95,7 @@ int main(void)
     due("    fits 1300, in clusters 10 to 12", fits(PATH_BYTES), LFAT_DONE, 12);
     due("    fits, all that there is", fits(4077 * LFAT_SECTOR_BYTES), LFAT_DONE, 4086);
     due("    fits, a byte more", fits(4077 * LFAT_SECTOR_BYTES + 1), LFAT_NO, 0);
+    due("    fits, 2^32 bytes", fits(UINT64_C(1) << 32), LFAT_NO, 0);
     due("    fits, the largest number", fits(UINT64_MAX), LFAT_NO, 0);
     wrong |= memcmp(card, saved, sizeof card) != 0;
     due("M3  create ROUTE.CUT", create(route), LFAT_DONE, 3);

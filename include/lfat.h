@@ -195,10 +195,10 @@ uint64_t lfat_read(const uint8_t *card, size_t card_len, const uint8_t *name, si
 uint64_t lfat_list(const uint8_t *card, size_t card_len, uint8_t *buffer, size_t buffer_len);
 
 /*
- * Tells whether so many bytes fit, any number of them, as often as a screen wants to know. LFAT_DONE is yes: neither an append
- * of them to an empty file nor a replace by them would be refused for want of room (LFAT_NOSPACE). The count is then the highest
- * cluster that they would take, 0 for no bytes: up to that one the card has just enough free. LFAT_NO is no, and the count is 0.
- * It asks about clusters only: for a new name the root directory may still be full (LFAT_ROOTFULL).
+ * Tells whether so many bytes fit, for a screen that asks before anything is saved. LFAT_DONE is yes: neither an append of them
+ * to an empty file nor a replace of any file by them would be refused for want of room (LFAT_NOSPACE). The count is then the
+ * highest cluster that they would take: up to that one the card has just enough free. It is 0 for no bytes. LFAT_NO is no, and
+ * the count is 0. It asks about clusters only: a create may still find the root directory full (LFAT_ROOTFULL).
  */
 uint64_t lfat_fits(const uint8_t *card, size_t card_len, uint64_t bytes);
 

@@ -10,7 +10,7 @@ fn every_number_has_an_answer() {
         match (code, answer) {
             (0, Answer::Done(7)) | (255, Answer::Stopped(7)) => assert_eq!(answer.encode(), number),
             (254, Answer::No) => assert_eq!(answer.encode(), code << 32),
-            (_, Answer::Refused(refusal)) => {
+            (1..=253 | 256.., Answer::Refused(refusal)) => {
                 assert_eq!(u64::from(refusal.number()), code);
                 assert_eq!(answer.encode(), code << 32);
                 let is_known = (1..17).contains(&code);

@@ -37,6 +37,7 @@ fn what_fits() {
         (513, Some(17)),
         (room, Some(4_086)),
         (room + 1, None),
+        (1 << 32, None),
         (u64::MAX, None),
     ] {
         assert_eq!(card.fits(bytes), Ok(fits), "{bytes}");

@@ -220,6 +220,7 @@ int main(int argc, char **argv)
     DUE(lfat_disk_fits(disk, 2080769), LFAT_NO, 0);
     if (strcmp(lfat_disk_message(), "NO: the card has too few free clusters") != 0 || lfat_disk_errno() != 0)
         wrong = 1;
+    DUE(lfat_disk_fits(disk, UINT64_C(1) << 32), LFAT_NO, 0);
     DUE(lfat_disk_fits(disk, UINT64_MAX), LFAT_NO, 0);
     DUE(lfat_disk_fits(NULL, 0), LFAT_DISK_ARGUMENT, 0);
     DUE(lfat_disk_create(disk, keel, 11), LFAT_DISK_READ_ONLY, 0);

@@ -46,6 +46,7 @@ fn rows() {
             (1_300, Some(25)),
             (2_080_768, Some(4_086)),
             (2_080_769, None),
+            (1 << 32, None),
             (u64::MAX, None),
         ] {
             assert_eq!(card.fits(bytes).expect("clean"), fits, "{bytes}");

@@ -10,6 +10,7 @@ use std::fs::File;
 use std::os::unix::ffi::OsStrExt;
 use std::os::unix::fs::symlink;
 use std::process::Command;
+use testkit::mtools::free_bytes;
 
 /// It says no: status 1, one line on standard output, and nothing went wrong.
 fn said_no(run: Run) -> String {
@@ -200,11 +201,7 @@ fn free_by_mdir(folder: &Folder) -> u64 {
         .current_dir(folder.path())
         .output()
         .expect("mtools is there");
-    let text = String::from_utf8_lossy(&output.stdout).into_owned();
-    let line = text.lines().find(|line| line.contains("bytes free"));
-    let digits = line.expect("a line on free bytes").chars();
-    let digits: String = digits.filter(char::is_ascii_digit).collect();
-    digits.parse().expect("a number")
+    free_bytes(&output.stdout)
 }
 
 /// mcopy fills a card and deletes a file in the middle: the room is what mdir says is free, and mcopy too goes by it.

@@ -151,6 +151,7 @@ fn check(compiler: &str, standard: &str) -> Option<()> {
         (0, "fits\n"),
         (2_085_888, "fits\n"),
         (2_085_889, "does not fit\n"),
+        (1 << 32, "does not fit\n"),
         (u64::MAX, "does not fit\n"),
     ] {
         let input = [format!("{bytes}\n").as_bytes(), &card_with_route(1_300)].concat();

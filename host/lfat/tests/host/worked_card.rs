@@ -11,7 +11,7 @@ fn all_ten_calls() {
     build("gcc", "c99", &top().join("examples/worked.c"), &program).expect("gcc is there");
     let run = folder.run(&program, "", Stdio::null()).done();
     let text = run.text();
-    assert_eq!(text.lines().count(), 46);
+    assert_eq!(text.lines().count(), 47);
     for line in [
         "    fits, no bytes: DONE 0",
         "    fits 1300, in clusters 10 to 12: DONE 12",
