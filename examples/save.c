@@ -78,15 +78,11 @@ static int is_saved(lfat_disk *disk, const uint8_t *name, const uint8_t *data, s
     }
 }
 
-/* Saves under a new name. A file whose bytes are refused, for want of room, is not left behind empty. */
+/* Saves under a new name. Whether the bytes fit is asked first, so that no empty file is made for want of room. */
 static int save_new(lfat_disk *disk, const uint8_t *name, const uint8_t *data, size_t length)
 {
-    if (!done("create", lfat_disk_create(disk, name, LFAT_NAME_BYTES)))
-        return 0;
-    if (done("append", lfat_disk_append(disk, name, LFAT_NAME_BYTES, data, length)))
-        return 1;
-    lfat_disk_delete(disk, name, LFAT_NAME_BYTES);
-    return 0;
+    return done("fits", lfat_disk_fits(disk, length)) && done("create", lfat_disk_create(disk, name, LFAT_NAME_BYTES)) &&
+           done("append", lfat_disk_append(disk, name, LFAT_NAME_BYTES, data, length));
 }
 
 static int save(lfat_disk *disk, const uint8_t *name, const uint8_t *data, size_t length)

@@ -1,5 +1,5 @@
 /*
- * Card K of the requirements, made from nothing, and its rows M3 to M10: all nine calls of the library from C.
+ * Card K of the requirements, made from nothing, and its rows M3 to M10: all ten calls of the library from C.
  * Prints a line for each call with its answer. Exit status: 0 if every answer is the one that is due, else 1.
  */
 #include "lfat.h"
@@ -64,6 +64,11 @@ static uint64_t read_route(void)
     return lfat_read(card, sizeof card, route, LFAT_NAME_BYTES, 0, back, sizeof back);
 }
 
+static uint64_t fits(uint64_t bytes)
+{
+    return lfat_fits(card, sizeof card, bytes);
+}
+
 /* Makes a call on the card as it was saved, under a limit, and recovers: the file is then as before or as after. */
 static void cut(const char *what, uint64_t (*call)(size_t, uint32_t), size_t length, uint32_t limit, uint32_t stores,
                 uint32_t size)
@@ -71,6 +76,7 @@ static void cut(const char *what, uint64_t (*call)(size_t, uint32_t), size_t len
     memcpy(card, saved, sizeof card);
     due(what, call(length, limit), LFAT_STOPPED, limit);
     due("    unclean until recovered", read_route(), LFAT_UNCLEAN, 0);
+    due("    unclean until recovered, fits", fits(0), LFAT_UNCLEAN, 0);
     due("    recover", recover(), LFAT_DONE, stores);
     due("    read", read_route(), LFAT_DONE, size);
 }
@@ -84,6 +90,14 @@ int main(void)
         points[i] = (uint8_t)(i * 7 + 1);
 
     make_card();
+    memcpy(saved, card, sizeof card);
+    due("    fits, no bytes", fits(0), LFAT_DONE, 0);
+    due("    fits 1300, in clusters 10 to 12", fits(PATH_BYTES), LFAT_DONE, 12);
+    due("    fits, all that there is", fits(4077 * LFAT_SECTOR_BYTES), LFAT_DONE, 4086);
+    due("    fits, a byte more", fits(4077 * LFAT_SECTOR_BYTES + 1), LFAT_NO, 0);
+    due("    fits, 2^32 bytes", fits(UINT64_C(1) << 32), LFAT_NO, 0);
+    due("    fits, the largest number", fits(UINT64_MAX), LFAT_NO, 0);
+    wrong |= memcmp(card, saved, sizeof card) != 0;
     due("M3  create ROUTE.CUT", create(route), LFAT_DONE, 3);
     memcpy(saved, card, sizeof card);
     cut("M5  append 1300, cut after 4 stores", append, PATH_BYTES, 4, 1, 0);
@@ -91,6 +105,7 @@ int main(void)
     memcpy(card, saved, sizeof card);
     due("M4  append 1300", append(PATH_BYTES, LFAT_NO_LIMIT), LFAT_DONE, 8);
     due("    read", read_route(), LFAT_DONE, PATH_BYTES);
+    due("    fits 1300, in clusters 13 to 15", fits(PATH_BYTES), LFAT_DONE, 15);
     wrong |= memcmp(back, points, PATH_BYTES) != 0;
 
     /* The file of M4 saved over, on a card of its own: M7 goes on from M4. */

@@ -27,6 +27,16 @@
  * Each call is one operation: after a cut and a recovery a file that was replaced has its old bytes or the new ones,
  * whole. A new file takes two calls: after a cut there is no such file, an empty one, or the whole one.
  *
+ * Example: ask whether data_len bytes fit before they are saved, as a screen does that lays out panels. Nothing is stored.
+ *
+ *     uint64_t answer = lfat_fits(card, card_len, data_len);
+ *     if (LFAT_CODE(answer) == LFAT_DONE)
+ *         puts("fits");
+ *     else if (LFAT_CODE(answer) == LFAT_NO)
+ *         puts("does not fit");
+ *     else
+ *         puts(lfat_code_name(LFAT_CODE(answer)));
+ *
  * What is asked of the caller:
  *  - each pointer is good for the length beside it (a part of length 0 may have any pointer);
  *  - what a call writes overlaps nothing else that it is lent: that is the card, or the buffer of lfat_read and
@@ -66,7 +76,7 @@
  *    its own stack must leave both alone;
  *  - it has no variables of its own, so calls on different cards may run in parallel, and calls that read on one card;
  *  - it needs at most so many bytes of stack, return address and red zone included:
- *    lfat_list 512, lfat_read 512, lfat_recover 3072, lfat_create 3072, lfat_rename 3072,
+ *    lfat_list 512, lfat_read 512, lfat_fits 512, lfat_recover 3072, lfat_create 3072, lfat_rename 3072,
  *    lfat_truncate 4096, lfat_delete 4096, lfat_append 4096, lfat_replace 4096.
  *
  * examples/loader.c is a whole program.
@@ -81,7 +91,7 @@
 extern "C" {
 #endif
 
-/* An answer is code * 2^32 + count. The count is the stores made, the bytes read or the entries there are. */
+/* An answer is code * 2^32 + count. The count is the stores made, the bytes read, the entries there are or lfat_fits' cluster. */
 #define LFAT_CODE(answer) ((uint32_t)((uint64_t)(answer) >> 32))
 #define LFAT_COUNT(answer) ((uint32_t)((uint64_t)(answer) & 0xFFFFFFFFu))
 
@@ -99,7 +109,7 @@ extern "C" {
  * its count is 0.
  */
 enum lfat_code {
-    LFAT_DONE = 0,       /* all stores were made; for read and list: success */
+    LFAT_DONE = 0,       /* all stores were made; for read and list: success; for lfat_fits: yes */
     LFAT_SHORT = 1,      /* the window has fewer than 512 bytes, less than a boot sector */
     LFAT_BOOT = 2,       /* the boot sector is not that of a FAT16 card that is covered */
     LFAT_WINDOW = 3,     /* the window has fewer bytes than the card's total sectors */
@@ -116,6 +126,7 @@ enum lfat_code {
     LFAT_LENGTH = 14,    /* truncate was asked for more than the present size */
     LFAT_NOSPACE = 15,   /* the card has too few free clusters */
     LFAT_LOCKED = 16,    /* the file is marked read-only (append, replace, truncate, delete, rename by its old name) */
+    LFAT_NO = 254,       /* lfat_fits: no, so many bytes do not fit */
     LFAT_STOPPED = 255   /* the limit ended the call before its last store: recover before anything else */
 };
 
@@ -127,6 +138,8 @@ static inline const char *lfat_code_name(uint32_t code)
         "NAME", "ABSENT", "DIRECTORY", "EXISTS", "ROOTFULL", "CHAIN", "LENGTH", "NOSPACE", "LOCKED"};
     if (code < sizeof names / sizeof names[0])
         return names[code];
+    if (code == LFAT_NO)
+        return "NO";
     return code == LFAT_STOPPED ? "STOPPED" : "unknown";
 }
 
@@ -180,6 +193,14 @@ uint64_t lfat_read(const uint8_t *card, size_t card_len, const uint8_t *name, si
  * directory), size at 28 (4 bytes, little-endian).
  */
 uint64_t lfat_list(const uint8_t *card, size_t card_len, uint8_t *buffer, size_t buffer_len);
+
+/*
+ * Tells whether so many bytes fit, for a screen that asks before anything is saved. LFAT_DONE is yes: neither an append of them
+ * to an empty file nor a replace of any file by them would be refused for want of room (LFAT_NOSPACE). The count is then the
+ * highest cluster that they would take: up to that one the card has just enough free. It is 0 for no bytes. LFAT_NO is no, and
+ * the count is 0. It asks about clusters only: a create may still find the root directory full (LFAT_ROOTFULL).
+ */
+uint64_t lfat_fits(const uint8_t *card, size_t card_len, uint64_t bytes);
 
 #ifdef __cplusplus
 }

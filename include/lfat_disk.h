@@ -122,6 +122,12 @@ uint64_t lfat_disk_read(lfat_disk *disk, const uint8_t *name, size_t name_len, u
 /* Copies the root directory's entries, 32 bytes each, as lfat_list does. The count is how many there are. */
 uint64_t lfat_disk_list(lfat_disk *disk, uint8_t *buffer, size_t buffer_len);
 
+/*
+ * Tells whether so many bytes fit, as lfat_fits does: LFAT_DONE is yes, with the highest cluster that they would take as the count,
+ * LFAT_NO is no. A new name also needs a free slot in the root directory (LFAT_ROOTFULL), which is not asked here.
+ */
+uint64_t lfat_disk_fits(lfat_disk *disk, uint64_t bytes);
+
 /* About the last call of this thread that did not answer LFAT_DONE. */
 
 /* The system's error number, as errno; 0 if there is none. */

@@ -115,6 +115,15 @@ impl Card {
         card
     }
 
+    /// A card on which only the last cluster is free.
+    pub fn with_last_cluster(shape: Shape) -> Card {
+        let mut card = Card::empty(shape);
+        for cluster in card.first_free()..shape.clusters as usize + 1 {
+            card.set(cluster, 0xFFF7);
+        }
+        card
+    }
+
     /// A card whose root directory is full of empty files.
     pub fn with_full_root(shape: Shape) -> Card {
         let mut card = Card::empty(shape);

@@ -1,4 +1,5 @@
-//! Calls against the least that the machine could do: comparing the FATs once, copying the bytes once.
+//! Calls against the least that the machine could do: comparing the FATs once, copying the bytes once. And fits against the clean
+//! check.
 
 use crate::call::Call;
 use crate::cards::{Card, Layout, Shape, NAME, SHAPES};
@@ -9,6 +10,7 @@ const BYTES: usize = 1 << 20;
 
 pub fn print() {
     clean_check();
+    fits();
     copies();
 }
 
@@ -32,6 +34,36 @@ fn clean_check() {
         };
         let times = compare_runs(list, memcmp);
         println!("| {clusters} | {} | {times} |", 512 * shape.fat_sectors());
+    }
+    println!();
+}
+
+fn fits() {
+    println!("## Will it fit\n");
+    println!(
+        "Fits asks every ground of the card, as list does, and then looks into FAT1 up to the cluster that decides. Its time against that of\n\
+         list on the same card with an empty root directory, the clean check, by turns; 65,524 × 64, in microseconds.\n"
+    );
+    println!("| question | library / clean check = ratio |");
+    println!("|---|---|");
+    let shape = Shape::new(65_524, 64);
+    let room = Card::largest_file(shape) as u64;
+    let (empty, last) = (Card::empty(shape), Card::with_last_cluster(shape));
+    for (question, card, bytes) in [
+        ("no bytes", &empty, 0),
+        ("yes at the first cluster", &empty, 1),
+        ("yes at the last cluster", &empty, room),
+        ("yes at the last cluster, one free", &last, 1),
+        ("no, a byte too much", &empty, room + 1),
+        ("no, one cluster free", &last, room),
+    ] {
+        let fits = || {
+            black_box(lfat_card::calls::fits(black_box(&card.bytes), bytes));
+        };
+        let list = || {
+            black_box(lfat_card::calls::list(black_box(&card.bytes), &mut []));
+        };
+        println!("| {question} | {} |", compare_runs(fits, list));
     }
     println!();
 }

@@ -14,7 +14,8 @@ pub fn print() {
         "A cell is library / plain = ratio of medians, in microseconds. Columns are clusters × sectors per cluster. *One piece*: the\n\
          file, or the room for it, lies in consecutive clusters; *scattered*: spread over the whole card, files in mixed order. A replace is\n\
          of a file of as many bytes, and room for both is there; for 1 MiB on 4,085 × 1 the old file has 1,973 sectors. The aim for it is at\n\
-         most 1.25.\n"
+         most 1.25. *Fits* is asked for one byte and for all that an empty card has room for; then on a card with one free cluster, its\n\
+         last; then for a byte too much.\n"
     );
     print_only("");
 }
@@ -53,6 +54,22 @@ fn rows() -> Vec<(String, Setup)> {
     row(
         "list, empty root".into(),
         Box::new(|shape| (Card::empty(shape), Call::List(0))),
+    );
+    row(
+        "fits, yes at the first cluster".into(),
+        Box::new(|shape| (Card::empty(shape), Call::Fits(1))),
+    );
+    row(
+        "fits, yes at the last cluster".into(),
+        Box::new(|shape| (Card::empty(shape), Call::Fits(room(shape)))),
+    );
+    row(
+        "fits, yes at the last cluster, one free".into(),
+        Box::new(|shape| (Card::with_last_cluster(shape), Call::Fits(1))),
+    );
+    row(
+        "fits, no".into(),
+        Box::new(|shape| (Card::empty(shape), Call::Fits(room(shape) + 1))),
     );
     row(
         "list, 512 entries".into(),
@@ -129,6 +146,11 @@ fn rows() -> Vec<(String, Setup)> {
         );
     }
     rows
+}
+
+/// The bytes that an empty card has room for.
+fn room(shape: Shape) -> u64 {
+    Card::largest_file(shape) as u64
 }
 
 /// A card on which an append was cut after the store of its group.

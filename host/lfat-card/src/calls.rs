@@ -1,12 +1,14 @@
-//! The library's nine calls on byte slices, and their answers as values.
+//! The library's ten calls on byte slices, and their answers as values.
 
 use crate::{raw, Refusal};
 
 /// How a call ended.
 #[derive(Clone, Copy, Debug, PartialEq, Eq)]
 pub enum Answer {
-    /// All stores were made, so many. For read: the bytes read. For list: the entries there are.
+    /// All stores were made, so many. For read: the bytes read. For list: the entries there are. For fits: yes, with the cluster.
     Done(u32),
+    /// For fits: no.
+    No,
     /// The limit cut the stores short, after so many.
     Stopped(u32),
     /// Nothing was stored, and no byte was altered.
@@ -14,11 +16,12 @@ pub enum Answer {
 }
 
 impl Answer {
-    /// An answer is code * 2^32 + count: code 0 is DONE, 255 STOPPED, the others are grounds.
+    /// An answer is code * 2^32 + count: code 0 is DONE, 254 NO, 255 STOPPED, the others are grounds.
     pub fn decode(answer: u64) -> Answer {
         let count = answer as u32;
         match (answer >> 32) as u32 {
             0 => Answer::Done(count),
+            254 => Answer::No,
             255 => Answer::Stopped(count),
             code => Answer::Refused(Refusal::with_number(code).unwrap_or(Refusal::Unknown(code))),
         }
@@ -28,6 +31,7 @@ impl Answer {
     pub fn encode(self) -> u64 {
         match self {
             Answer::Done(count) => u64::from(count),
+            Answer::No => 254 << 32,
             Answer::Stopped(count) => 255 << 32 | u64::from(count),
             Answer::Refused(refusal) => u64::from(refusal.number()) << 32,
         }
@@ -141,4 +145,9 @@ pub fn list(card: &[u8], buffer: &mut [u8]) -> Answer {
     Answer::decode(unsafe {
         raw::lfat_list(card.as_ptr(), card.len(), buffer.as_mut_ptr(), buffer.len())
     })
+}
+
+/// Whether so many bytes fit, by free clusters alone: done with the highest cluster that they would take, 0 for no bytes; or no.
+pub fn fits(card: &[u8], bytes: u64) -> Answer {
+    Answer::decode(unsafe { raw::lfat_fits(card.as_ptr(), card.len(), bytes) })
 }

@@ -108,6 +108,11 @@ impl<'a> Card<'a> {
         self.view().read_whole(name)
     }
 
+    /// As [`CardView::fits`].
+    pub fn fits(&self, bytes: u64) -> Result<Option<u32>, Refusal> {
+        self.view().fits(bytes)
+    }
+
     /// As [`CardView::open`].
     pub fn open(&self, name: Name) -> Result<File<'_>, Refusal> {
         self.view().open(name)

@@ -1,7 +1,7 @@
 //! FAT16 cards with a TI-LFAT journal: safe functions over the proved library.
 //!
 //! A card is a window of bytes, the whole card from its boot sector on. [`Card`] changes it, [`CardView`] only reads it, and a
-//! [`File`] is a file being read. [`calls`] has the library's nine calls as they are, with names of any bytes; [`raw`]
+//! [`File`] is a file being read. [`calls`] has the library's ten calls as they are, with names of any bytes; [`raw`]
 //! has them as C does.
 //!
 //! ```
@@ -58,6 +58,8 @@ pub use view::CardView;
 fn count(answer: Answer) -> Result<u32, Refusal> {
     match answer {
         Answer::Done(count) | Answer::Stopped(count) => Ok(count),
+        // Fits alone says no, and does not come here.
+        Answer::No => Err(Refusal::Unknown(254)),
         Answer::Refused(refusal) => Err(refusal),
     }
 }

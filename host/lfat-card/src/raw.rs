@@ -63,4 +63,5 @@ extern "C" {
         buffer_len: usize,
     ) -> u64;
     pub fn lfat_list(card: *const u8, card_len: usize, buffer: *mut u8, buffer_len: usize) -> u64;
+    pub fn lfat_fits(card: *const u8, card_len: usize, bytes: u64) -> u64;
 }

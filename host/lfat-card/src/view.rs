@@ -1,6 +1,6 @@
 //! A card in memory that is only read.
 
-use crate::{calls, count, Entry, File, Name, Refusal, ENTRY_BYTES};
+use crate::{calls, count, Answer, Entry, File, Name, Refusal, ENTRY_BYTES};
 
 /// A card over the bytes of its window, to be read only.
 ///
@@ -58,6 +58,28 @@ impl<'a> CardView<'a> {
     /// A file, to be read by `std::io::Read` and `Seek`.
     pub fn open(&self, name: Name) -> Result<File<'a>, Refusal> {
         Ok(File::new(*self, name, self.size(name)?))
+    }
+
+    /// Whether so many bytes fit: whether neither an append of them to an empty file nor a replace by them would be refused with
+    /// [`Refusal::Nospace`]. If they fit, gives the highest cluster that they would take, 0 for no bytes; `None` is no.
+    ///
+    /// Only free clusters are asked for: a new name may still be refused with [`Refusal::Rootfull`].
+    ///
+    /// ```
+    /// # use lfat_card::{CardView, Refusal};
+    /// # let image = reference::card_k();
+    /// // 4,077 clusters of 512 bytes are free, from 10 on.
+    /// let card = CardView::new(&image);
+    /// assert_eq!(card.fits(1_300)?, Some(12));
+    /// assert!(card.fits(4_077 * 512)?.is_some());
+    /// assert!(card.fits(4_077 * 512 + 1)?.is_none());
+    /// # Ok::<(), Refusal>(())
+    /// ```
+    pub fn fits(&self, bytes: u64) -> Result<Option<u32>, Refusal> {
+        match calls::fits(self.window, bytes) {
+            Answer::No => Ok(None),
+            answer => count(answer).map(Some),
+        }
     }
 
     /// The size of a file that can be read.

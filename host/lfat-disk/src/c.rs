@@ -14,6 +14,7 @@ use std::panic::{catch_unwind, AssertUnwindSafe};
 use std::path::Path;
 use std::ptr::null_mut;
 
+const NO: u32 = 254;
 const ARGUMENT: u32 = 263;
 const INTERNAL: u32 = 264;
 
@@ -61,14 +62,22 @@ fn argument(what: &str) -> u64 {
     failed(ARGUMENT, 0, &format!("{what} is not to be used so"))
 }
 
-/// Makes a call on the card of a handle.
+/// Makes a call that counts on the card of a handle.
 ///
 /// # Safety
-/// The handle is NULL or one that `lfat_disk_open` gave and that is not closed.
+/// As for `answered`.
 unsafe fn with(
     handle: *mut Handle,
     call: impl FnOnce(&mut DiskCard) -> Result<usize, Error>,
 ) -> u64 {
+    answered(handle, |card| answer(call(card)))
+}
+
+/// Makes a call on the card of a handle.
+///
+/// # Safety
+/// The handle is NULL or one that `lfat_disk_open` gave and that is not closed.
+unsafe fn answered(handle: *mut Handle, call: impl FnOnce(&mut DiskCard) -> u64) -> u64 {
     let Some(handle) = handle.as_mut() else {
         return argument("a handle of NULL");
     };
@@ -76,7 +85,7 @@ unsafe fn with(
         return answer(Err(Error::Ended));
     };
     match catch_unwind(AssertUnwindSafe(|| call(card))) {
-        Ok(result) => answer(result),
+        Ok(number) => number,
         Err(_) => {
             handle.0 = None;
             failed(INTERNAL, 0, "a fault of the disk layer; please report this")
@@ -87,7 +96,7 @@ unsafe fn with(
 /// Makes a call on the card of a handle and a name.
 ///
 /// # Safety
-/// As for `with`; the name is good for its length.
+/// As for `answered`; the name is good for its length.
 unsafe fn with_name(
     handle: *mut Handle,
     (name, name_len): (*const u8, usize),
@@ -102,7 +111,7 @@ unsafe fn with_name(
 /// Makes a call on the card of a handle, a name and another slice, which `what` says are not to be NULL.
 ///
 /// # Safety
-/// As for `with`; both slices are good for their lengths.
+/// As for `answered`; both slices are good for their lengths.
 unsafe fn with_two(
     handle: *mut Handle,
     (name, name_len): (*const u8, usize),
@@ -307,6 +316,17 @@ pub unsafe extern "C" fn lfat_disk_list(
             place.copy_from_slice(&entry.bytes);
         }
         Ok(entries.len())
+    })
+}
+
+/// # Safety
+/// As for `lfat_disk_close`.
+#[no_mangle]
+pub unsafe extern "C" fn lfat_disk_fits(disk: *mut Handle, bytes: u64) -> u64 {
+    answered(disk, |card| match card.fits(bytes) {
+        Ok(None) => failed(NO, 0, "NO: the card has too few free clusters"),
+        Ok(Some(cluster)) => u64::from(cluster),
+        Err(error) => answer(Err(error)),
     })
 }
 

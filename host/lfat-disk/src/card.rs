@@ -9,7 +9,7 @@ use crate::memory::Memory;
 use crate::partition::{self, Partition};
 use crate::volume::{is_entry, Volume};
 use crate::writer::Writer;
-use lfat_card::{calls, Answer, Refusal, NO_LIMIT};
+use lfat_card::{calls, Answer, CardView, Refusal, NO_LIMIT};
 use reference::{Operation, Program};
 use std::borrow::Cow;
 use std::path::Path;
@@ -280,6 +280,12 @@ impl<D: Disk, L: Lists> DiskCard<D, L> {
         Ok(entries.find(|entry| entry.name_bytes() == name))
     }
 
+    /// Whether so many bytes fit, by free clusters alone: the highest cluster that they would take, 0 for no bytes; `None` is no.
+    pub fn fits(&self, bytes: u64) -> Result<Option<u32>, Error> {
+        self.check_open()?;
+        Ok(CardView::new(&self.memory.window).fits(bytes)?)
+    }
+
     /// Copies a file's bytes from an offset on into the buffer; gives how many there were.
     pub fn read(&mut self, name: &[u8], offset: u64, buffer: &mut [u8]) -> Result<usize, Error> {
         self.check_open()?;
@@ -335,6 +341,8 @@ fn areas_moved(memory: &Memory) -> bool {
 fn count(answer: Answer) -> Result<usize, Error> {
     match answer {
         Answer::Done(count) | Answer::Stopped(count) => Ok(count as usize),
+        // Fits alone says no, and does not come here.
+        Answer::No => Err(Refusal::Unknown(254).into()),
         Answer::Refused(refusal) => Err(refusal.into()),
     }
 }

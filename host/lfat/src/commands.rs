@@ -2,7 +2,7 @@
 
 use crate::args::{Args, Options};
 use crate::failure::Failure;
-use crate::{help, rack, reading, writing};
+use crate::{fits, help, rack, reading, writing};
 
 pub struct Command {
     pub name: &'static str,
@@ -29,7 +29,7 @@ const LIMIT: Options = Options {
     plain: &[],
 };
 
-pub static COMMANDS: [Command; 12] = [
+pub static COMMANDS: [Command; 13] = [
     Command {
         name: "blank",
         words: &["IMAGE"],
@@ -67,6 +67,15 @@ pub static COMMANDS: [Command; 12] = [
             plain: &[],
         },
         run: reading::get,
+    },
+    Command {
+        name: "fits",
+        words: &["IMAGE", "BYTES|FILE"],
+        more: "[--json]",
+        about: "tell whether so many bytes, or a file of this machine, fit: exit status 0 for yes, 1 for no",
+        details: help::FITS,
+        options: JSON,
+        run: fits::fits,
     },
     Command {
         name: "put",

@@ -11,6 +11,8 @@ pub enum Failure {
     Refused(Refusal, String),
     /// The limit cut the stores short, after so many.
     Stopped(u32),
+    /// The answer to the question was no, and has been printed.
+    No,
     /// The rack found a card that recovery did not bring back.
     Mismatch(String),
     /// A file or the card could not be opened, read or written. The card is as it was.
@@ -24,7 +26,7 @@ pub enum Failure {
 impl Failure {
     pub fn status(&self) -> u8 {
         match self {
-            Failure::Refused(..) | Failure::Stopped(_) | Failure::Mismatch(_) => 1,
+            Failure::Refused(..) | Failure::Stopped(_) | Failure::No | Failure::Mismatch(_) => 1,
             Failure::Usage(_) => 2,
             Failure::Host(_) => 3,
             Failure::Disagree => 4,
@@ -91,6 +93,7 @@ impl fmt::Display for Failure {
             Failure::Stopped(made) => {
                 write!(f, "STOPPED after {made} stores, as asked. Run 'lfat recover' next.")
             }
+            Failure::No => write!(f, "no"),
             Failure::Mismatch(what) | Failure::Host(what) | Failure::Cut(what) => write!(f, "{what}"),
             Failure::Disagree => write!(
                 f,

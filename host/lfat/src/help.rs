@@ -21,6 +21,13 @@ NAME may be slot:N, as ls shows it, for a file whose name no rule allows.
   -o FILE     write to FILE instead, which is replaced once all is read; - is standard output
 ";
 
+pub const FITS: &str = "\
+A word of digits alone is a number of bytes; any other is a file, whose size counts. A file named by digits is given as ./123.
+Yes is that neither a put of them under a new name nor one over a file, with --replace, would be refused as NOSPACE. A new name
+also needs a free slot in the root directory, which is not asked. A refusal ends with 1 too, and is told on standard error.
+  --json      one JSON object: fits, bytes, clusters, cluster_bytes, up_to_cluster (null for no), free_clusters, free_bytes
+";
+
 pub const SLOT: &str = "\
 NAME (or OLD) may be slot:N, as ls shows it, for a file whose name no rule allows.
 ";
@@ -92,6 +99,6 @@ pub fn overview() -> String {
     text + "\n'lfat COMMAND --help' says more; 'lfat --version' the version. -- ends the options.\n\
          IMAGE is an image, a block device such as /dev/sdX, or IMAGE:N for a partition. Names are as ROUTE.CUT, in capitals.\n\
          Files marked read-only, which ls shows, can be read; they are not changed, renamed or removed.\n\
-         Exit status: 0 done; 1 refused, stopped or a mismatch; 2 wrong usage; 3 a file or the card could not be used;\n\
+         Exit status: 0 done; 1 refused, stopped, a mismatch or no; 2 wrong usage; 3 a file or the card could not be used;\n\
          4 list and library disagree, nothing written; 5 the disk failed in mid-save: recover the card.\n"
 }

@@ -14,7 +14,10 @@ fn main() -> ExitCode {
     match run(&words) {
         Ok(()) => ExitCode::SUCCESS,
         Err(failure) => {
-            eprintln!("lfat: {failure}");
+            // A no is an answer, and nothing went wrong.
+            if !matches!(failure, Failure::No) {
+                eprintln!("lfat: {failure}");
+            }
             ExitCode::from(failure.status())
         }
     }

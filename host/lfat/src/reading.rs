@@ -71,10 +71,7 @@ pub fn get(mut args: Args) -> Result<(), Failure> {
     let which = Which::parse(&args.word("NAME")?)?;
     args.end()?;
     let path = args.option("-o").unwrap_or(OsStr::new("-"));
-    if target.is_at(Path::new(path)) {
-        let what = format!("-o: '{}' is the card itself", path.display());
-        return Err(Failure::Usage(what));
-    }
+    target.check_other(Path::new(path), "-o")?;
     let mut card = target.open(&args, Access::Read)?;
     let size = size(&card, which);
     let mut piece = vec![0; PIECE.min(size)];

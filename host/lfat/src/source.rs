@@ -29,10 +29,7 @@ impl Source {
             return spooled(io::stdin().lock(), most)
                 .map_err(|error| Failure::host("standard input", error));
         }
-        if card.is_at(Path::new(path)) {
-            let what = format!("FILE: '{}' is the card itself", path.display());
-            return Err(Failure::Usage(what));
-        }
+        card.check_other(Path::new(path), "FILE")?;
         let file = File::open(path).map_err(failed)?;
         let about = file.metadata().map_err(failed)?;
         if !about.is_file() {

@@ -69,8 +69,19 @@ impl Target {
         }
     }
 
+    /// A file that a command is given, which the usage line calls so, is not the image or device itself.
+    pub fn check_other(&self, path: &Path, what: &str) -> Result<(), Failure> {
+        match self.is_at(path) {
+            true => Err(Failure::Usage(format!(
+                "{what}: '{}' is the card itself",
+                path.display()
+            ))),
+            false => Ok(()),
+        }
+    }
+
     /// Whether a path is the image or device itself.
-    pub fn is_at(&self, path: &Path) -> bool {
+    fn is_at(&self, path: &Path) -> bool {
         match (fs::metadata(path), fs::metadata(&self.path)) {
             (Ok(one), Ok(other)) => (one.dev(), one.ino()) == (other.dev(), other.ino()),
             _ => false,

@@ -98,12 +98,15 @@ pub fn put(args: Args) -> Result<(), Failure> {
         _ => &new,
     };
     opened.save(calls).map(drop).map_err(|failure| {
-        let (Failure::Refused(refusal, _), Ok(Some(entry))) = (&failure, &there) else {
+        let (Failure::Refused(refusal, _), Ok(there)) = (&failure, &there) else {
             return failure;
         };
-        let advice = match refusal {
-            Refusal::Exists => opened.remedy().taken(entry, given),
-            Refusal::Nospace if entry.size() > 0 => no_room_beside(given),
+        let advice = match (refusal, there) {
+            (Refusal::Exists, Some(entry)) => opened.remedy().taken(entry, given),
+            (Refusal::Nospace, Some(entry)) if entry.size() > 0 => {
+                format!("The old bytes of {given} keep their room until the new ones are saved. {NO_ROOM}")
+            }
+            (Refusal::Nospace, _) => NO_ROOM.to_string(),
             _ => {
                 let which = Which::Name(given);
                 return opened.remedy().explain(failure, which, None);
@@ -113,12 +116,9 @@ pub fn put(args: Args) -> Result<(), Failure> {
     })
 }
 
-/// What to do where new bytes do not fit beside the old ones.
-fn no_room_beside(name: Name) -> String {
-    format!(
-        "The old bytes of {name} keep their room until the new ones are saved. 'lfat info' shows the free clusters; 'lfat rm' frees some."
-    )
-}
+/// What to do where new bytes do not fit.
+const NO_ROOM: &str =
+    "'lfat info' shows the free clusters; 'lfat rm' frees some. 'lfat fits' tells before a save.";
 
 pub fn append(args: Args) -> Result<(), Failure> {
     let (mut opened, given, source) = with_file(args)?;

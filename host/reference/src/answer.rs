@@ -85,13 +85,16 @@ pub enum Answer {
     /// Nothing was stored and no lent byte was altered.
     Refused(Ground),
     /// The whole list of stores was made. For read: the bytes read. For list:
-    /// the entries there are.
+    /// the entries there are. For fits: yes, with the cluster.
     Done(u32),
+    /// Fits: no.
+    No,
     /// The limit ended the list early, after this many stores.
     Stopped(u32),
 }
 
 impl Answer {
+    const NO_CODE: u32 = 254;
     const STOPPED_CODE: u32 = 255;
 
     /// One number for the C interface: code × 2³² + count.
@@ -99,6 +102,7 @@ impl Answer {
         let (code, count) = match self {
             Answer::Refused(ground) => (ground.number(), 0),
             Answer::Done(count) => (0, count),
+            Answer::No => (Self::NO_CODE, 0),
             Answer::Stopped(count) => (Self::STOPPED_CODE, count),
         };
         u64::from(code) << 32 | u64::from(count)

@@ -12,7 +12,7 @@
 //! - `data`: the sectors that get new bytes, in append and replace;
 //! - `transaction`, `program`: the order of stores, as a list and in segments;
 //! - `recovery`: redo of a pending group, undo of anything else;
-//! - `reading`: read and list;
+//! - `reading`: read, list and fits;
 //! - `listing`: the text of the log listing program;
 //! - `builder`, `inspect`: making cards for tests and looking into them.
 
@@ -51,5 +51,5 @@ pub use operation::{
     append, create, delete, plan, program, recover, rename, replace, run, truncate, Operation,
 };
 pub use program::{Extent, Program, Segment};
-pub use reading::{list, read};
+pub use reading::{fits, list, read};
 pub use store::{Sector, Store, SECTOR_BYTES};

@@ -1,7 +1,8 @@
-//! The calls that store nothing: read and list.
+//! The calls that store nothing: read, list and fits.
 
 use crate::answer::Answer;
 use crate::check;
+use crate::fat::FREE;
 use crate::lookup::open_to_read;
 use crate::root::{slots, SLOT_BYTES};
 use crate::volume::Volume;
@@ -50,4 +51,26 @@ pub fn list(card: &[u8], buffer: &mut [u8]) -> Answer {
         count += 1;
     }
     Answer::Done(count)
+}
+
+/// Whether an empty file could be given so many bytes, by free clusters alone.
+/// A yes has the lowest cluster up to which FAT1 has enough free, 0 for no
+/// bytes; no entry after it is looked at.
+pub fn fits(card: &[u8], bytes: u64) -> Answer {
+    let volume = match check::clean(card) {
+        Ok(card) => card.volume,
+        Err(ground) => return Answer::Refused(ground),
+    };
+    let needed = bytes.div_ceil(u64::from(volume.geometry.cluster_bytes()));
+    if needed == 0 {
+        return Answer::Done(0);
+    }
+    let mut seen = 0;
+    for cluster in volume.fat1().holding(FREE) {
+        seen += 1;
+        if seen == needed {
+            return Answer::Done(u32::from(cluster));
+        }
+    }
+    Answer::No
 }

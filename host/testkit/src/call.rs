@@ -5,7 +5,7 @@ use lfat_card::calls;
 use reference::{Answer, Operation};
 use std::fmt;
 
-/// One of the nine calls.
+/// One of the ten calls.
 #[derive(Clone)]
 pub enum Call {
     Create(Vec<u8>),
@@ -19,6 +19,8 @@ pub enum Call {
     Read(Vec<u8>, u64, usize),
     /// The buffer's length.
     List(usize),
+    /// A number of bytes.
+    Fits(u64),
 }
 
 impl Call {
@@ -33,6 +35,7 @@ impl Call {
             Call::Recover => "recover",
             Call::Read(..) => "read",
             Call::List(..) => "list",
+            Call::Fits(..) => "fits",
         }
     }
 
@@ -54,7 +57,7 @@ impl Call {
             Call::Delete(name) => Some(Operation::Delete { name }),
             Call::Rename(old, new) => Some(Operation::Rename { old, new }),
             Call::Recover => Some(Operation::Recover),
-            Call::Read(..) | Call::List(..) => None,
+            Call::Read(..) | Call::List(..) | Call::Fits(..) => None,
         }
     }
 
@@ -70,6 +73,7 @@ impl Call {
             Call::Recover => calls::recover(card, limit),
             Call::Read(name, offset, _) => calls::read(card, name, *offset, buffer),
             Call::List(_) => calls::list(card, buffer),
+            Call::Fits(bytes) => calls::fits(card, *bytes),
         }
     }
 
@@ -77,6 +81,7 @@ impl Call {
         match (self, self.operation()) {
             (_, Some(operation)) => reference::run(card, &operation, limit),
             (Call::Read(name, offset, _), _) => reference::read(card, name, *offset, buffer),
+            (Call::Fits(bytes), _) => reference::fits(card, *bytes),
             _ => reference::list(card, buffer),
         }
     }
@@ -99,6 +104,7 @@ impl fmt::Debug for Call {
                 write!(f, " '{}' from {offset}, room {room}", shown(name))
             }
             Call::List(room) => write!(f, ", room {room}"),
+            Call::Fits(bytes) => write!(f, " {bytes} bytes"),
         }
     }
 }

@@ -81,7 +81,7 @@ pub fn random_call(random: &mut Random, card: &Card) -> Call {
     let cluster_bytes = usize::from(card.spec.sectors_per_cluster) * 512;
     let name = present_name(random, card);
     let length = random_length(random, cluster_bytes);
-    match random.below(28) {
+    match random.below(30) {
         0..=4 => Call::Create(random_name(random)),
         5..=9 => Call::Append(name, random.bytes(length)),
         10..=12 => Call::Truncate(name, length as u64),
@@ -90,7 +90,23 @@ pub fn random_call(random: &mut Random, card: &Card) -> Call {
         18 => Call::Recover,
         19..=21 => Call::Read(name, random_offset(random), length),
         22..=25 => Call::Replace(name, random.bytes(length)),
+        26 | 27 => Call::Fits(random_bytes(random, card)),
         _ => Call::List(random_room(random)),
+    }
+}
+
+/// A number of bytes that may fit: few, near the room that there is, or far too many.
+pub fn random_bytes(random: &mut Random, card: &Card) -> u64 {
+    let cluster_bytes = usize::from(card.spec.sectors_per_cluster) * 512;
+    let clusters = 2..card.clusters() as u16 + 2;
+    let free = clusters.filter(|&cluster| card.fat1_entry(cluster) == 0);
+    let room = free.count() * cluster_bytes;
+    match random.below(6) {
+        0 => random.pick(&[0, 1 << 25, 1 << 32, (1 << 32) + 1, u64::MAX - 511, u64::MAX]),
+        1 => room as u64 + 1,
+        2 => room as u64,
+        3 => random_length(random, cluster_bytes) as u64,
+        _ => random.below(room + 2 * cluster_bytes) as u64,
     }
 }
 

@@ -8,7 +8,7 @@ use testkit::call::Call;
 use testkit::cards::Card;
 use testkit::fixtures::furnished_card;
 use testkit::random::Random;
-use testkit::steps::{random_call, random_mark};
+use testkit::steps::{random_bytes, random_call, random_mark};
 use testkit::{cases, ALL};
 
 /// Changes a few bytes where it matters.
@@ -33,8 +33,15 @@ fn damage(card: &mut Card, random: &mut Random) {
     match random.below(4) {
         0 => mark_log(card, random),
         1 => damage_file(card, random),
+        2 => damage_slot(card, random),
         _ => (),
     }
+}
+
+/// A slot that ends the root directory, or one after its end.
+fn damage_slot(card: &mut Card, random: &mut Random) {
+    let slot = random.below(usize::from(card.spec.root_entries));
+    card.slot_mut(slot)[0] = random.pick(&[0, 0xE5, b'X']);
 }
 
 /// Another size, first cluster or link of one of the first slots.
@@ -77,8 +84,11 @@ fn random_window(card: &Card, random: &mut Random) -> usize {
 }
 
 fn calls(random: &mut Random, card: &Card) -> Vec<Call> {
-    let mut calls = vec![Call::List(random.below(300))];
-    calls.extend((0..7).map(|_| random_call(random, card)));
+    let mut calls = vec![
+        Call::List(random.below(300)),
+        Call::Fits(random_bytes(random, card)),
+    ];
+    calls.extend((0..12).map(|_| random_call(random, card)));
     calls.push(Call::Recover);
     calls
 }
@@ -110,7 +120,7 @@ fn damaged_card(seed: u64) -> Seen {
 #[test]
 fn damaged_cards() {
     let mut seen = Seen::new();
-    for seed in 0..cases(250) {
+    for seed in 0..cases(300) {
         seen.extend(damaged_card(seed));
     }
     assert_seen(&seen, |_| true);

@@ -33,7 +33,7 @@ fn dotted(name: &[u8; 11]) -> String {
     }
 }
 
-/// Both the library and mtools find exactly these files, byte for byte.
+/// Both the library and mtools find exactly these files, byte for byte, and the same room beside them.
 fn assert_holds(image: &Image, files: &Files) {
     let names: Vec<String> = files.keys().map(dotted).collect();
     let mut sorted = names.clone();
@@ -41,6 +41,10 @@ fn assert_holds(image: &Image, files: &Files) {
     assert_eq!(image.listed(), sorted);
     let count = calls::list(&image.card, &mut []);
     assert_eq!(count, Answer::Done(files.len() as u32));
+    let room = image.free_bytes();
+    let all = calls::fits(&image.card, room);
+    assert!(matches!(all, Answer::Done(1..)), "{room}: {all:?}");
+    assert_eq!(calls::fits(&image.card, room + 1), Answer::No, "{room}");
     for ((name, bytes), dotted) in files.iter().zip(names) {
         let mut buffer = vec![0xA5; bytes.len() + 600];
         let answer = calls::read(&image.card, name, 0, &mut buffer);

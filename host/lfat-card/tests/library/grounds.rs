@@ -59,7 +59,7 @@ fn expect(twin: &mut Twin, call: &Call, ground: Ground) {
 }
 
 /// Each call with a bad name, where it takes one.
-fn all_calls(name: &[u8]) -> [Call; 9] {
+fn all_calls(name: &[u8]) -> [Call; 10] {
     let name = name.to_vec();
     [
         Call::Create(name.clone()),
@@ -71,6 +71,7 @@ fn all_calls(name: &[u8]) -> [Call; 9] {
         Call::Recover,
         Call::Read(name, 0, 64),
         Call::List(64),
+        Call::Fits(1),
     ]
 }
 
@@ -90,6 +91,8 @@ fn grounds_of_the_card() {
     }
     twin.done(&Call::Recover);
     twin.done(&Call::List(64));
+    assert_eq!(twin.call(&Call::Fits(1), ALL), Answer::No);
+    twin.done(&Call::Fits(0));
 }
 
 /// The grounds after UNCLEAN, in order, on the full card.

@@ -8,7 +8,7 @@ use testkit::call::Call;
 use testkit::cards::Card;
 use testkit::fixtures::furnished_card;
 use testkit::random::Random;
-use testkit::steps::{random_call, random_mark, random_name, random_offset};
+use testkit::steps::{random_bytes, random_call, random_mark, random_name, random_offset};
 use testkit::{cases, ALL, PANEL, ROUTE};
 
 /// Things that a history can come across besides its answers.
@@ -37,6 +37,7 @@ impl Met {
 /// Reads something, and recovers with every limit.
 fn read_and_recover(twin: &mut Twin, random: &mut Random) {
     twin.call(&Call::List(random.below(200)), ALL);
+    twin.call(&Call::Fits(random_bytes(random, &twin.card)), ALL);
     let room = random.below(3_000);
     let call = Call::Read(random_name(random), random_offset(random), room);
     twin.call(&call, ALL);

@@ -1,4 +1,4 @@
-//! The library's nine calls: against the independent implementation, against Debian's FAT tools, and through power cuts.
+//! The library's ten calls: against the independent implementation, against Debian's FAT tools, and through power cuts.
 //!
 //! All random numbers have fixed seeds. `LFAT_CASES=10 cargo test --release -p lfat-card --test library` runs ten times as many
 //! random cases. `fat_tools` needs the packages dosfstools and mtools.
@@ -9,6 +9,7 @@ mod areas;
 mod boot;
 mod damage;
 mod fat_tools;
+mod fits;
 mod grounds;
 mod histories;
 mod locked;

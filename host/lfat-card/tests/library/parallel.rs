@@ -1,4 +1,4 @@
-//! Calls on different cards at the same time, and reads of one card: as one after the other.
+//! Calls on different cards at the same time, and calls that read one card: as one after the other.
 
 use std::thread;
 use testkit::call::Call;
@@ -60,6 +60,9 @@ fn reads_of_one_card() {
                     let read = part.len().min(buffer.len());
                     assert_eq!(answer, lfat_card::Answer::Done(read as u32));
                     assert!(buffer[..read] == part[..read]);
+                    // The file has 98 clusters from 10 on, and the next is free.
+                    let fits = lfat_card::calls::fits(card, 1 + random.below(512) as u64);
+                    assert_eq!(fits, lfat_card::Answer::Done(108));
                 }
             });
         }

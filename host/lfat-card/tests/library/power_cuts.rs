@@ -87,7 +87,7 @@ fn every_cut(card: &mut Vec<u8>, call: &Call, rows: u32, random: &mut Random) ->
 /// An operation with a list of stores that is not too long to cut everywhere.
 fn has_cuts(call: &Call) -> bool {
     match call {
-        Call::Recover | Call::Read(..) | Call::List(..) => false,
+        Call::Recover | Call::Read(..) | Call::List(..) | Call::Fits(..) => false,
         Call::Append(_, data) | Call::Replace(_, data) => data.len() < 20_000,
         _ => true,
     }

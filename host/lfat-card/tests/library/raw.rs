@@ -3,10 +3,12 @@
 
 use lfat_card::raw::*;
 use reference::card_k;
+use std::ptr::null;
+use testkit::random::Random;
 use testkit::{ALL, PANEL, ROUTE};
 
-/// What all nine calls answer, one after the other.
-fn answers(card: &mut [u8], name: &[u8], limit: u32) -> [u64; 9] {
+/// What all ten calls answer, one after the other.
+fn answers(card: &mut [u8], name: &[u8], limit: u32) -> [u64; 10] {
     let (at, length) = (card.as_mut_ptr(), card.len());
     let (name, name_length) = (name.as_ptr(), name.len());
     let data = [7u8; 600];
@@ -24,10 +26,12 @@ fn answers(card: &mut [u8], name: &[u8], limit: u32) -> [u64; 9] {
             lfat_recover(at, length, limit),
             lfat_read(at, length, name, name_length, 0, out, 600),
             lfat_list(at, length, out, 600),
+            lfat_fits(at, length, 600),
         ]
     }
 }
 
+const NO: u64 = 254 << 32;
 const STOPPED: u64 = 255 << 32;
 
 fn ground(number: u64) -> u64 {
@@ -38,27 +42,27 @@ fn ground(number: u64) -> u64 {
 fn refusals_have_no_count() {
     for limit in [0, 3, ALL] {
         let mut card = card_k();
-        assert_eq!(answers(&mut card[..511], ROUTE, limit), [ground(1); 9]);
-        assert_eq!(answers(&mut card[..512], ROUTE, limit), [ground(3); 9]);
+        assert_eq!(answers(&mut card[..511], ROUTE, limit), [ground(1); 10]);
+        assert_eq!(answers(&mut card[..512], ROUTE, limit), [ground(3); 10]);
         card[511] = 0;
-        assert_eq!(answers(&mut card, ROUTE, limit), [ground(2); 9]);
+        assert_eq!(answers(&mut card, ROUTE, limit), [ground(2); 10]);
         card[511] = 0xAA;
         card[512 + 2 * 100..][..2].copy_from_slice(&[0xF6, 0xFF]);
-        assert_eq!(answers(&mut card, ROUTE, limit), [ground(4); 9]);
+        assert_eq!(answers(&mut card, ROUTE, limit), [ground(4); 10]);
         let mut card = card_k();
         card[33 * 512 + 32] = 0xE5;
-        assert_eq!(answers(&mut card, ROUTE, limit), [ground(5); 9]);
+        assert_eq!(answers(&mut card, ROUTE, limit), [ground(5); 10]);
         let mut card = card_k();
         card[65 * 512] = b'A';
-        assert_eq!(answers(&mut card, ROUTE, limit), [ground(6); 9]);
+        assert_eq!(answers(&mut card, ROUTE, limit), [ground(6); 10]);
     }
     let (unclean, name) = (ground(7), ground(8));
     let mut card = card_k();
     card[16 * 512] = 1;
-    let mut expected = [unclean; 9];
+    let mut expected = [unclean; 10];
     expected[6] = STOPPED;
     assert_eq!(answers(&mut card, ROUTE, 0), expected);
-    let expected = [name, name, name, name, name, name, 0, name, 0];
+    let expected = [name, name, name, name, name, name, 0, name, 0, 11];
     assert_eq!(answers(&mut card_k(), b"ROUTE.CUT", 0), expected);
 }
 
@@ -69,7 +73,7 @@ fn locked_file() {
         let mut card = card_with(ROUTE);
         card[33 * 512 + 11] |= 0x01;
         let (exists, locked) = (ground(11), ground(16));
-        let expected = [exists, locked, locked, locked, locked, locked, 0, 0, 1];
+        let expected = [exists, locked, locked, locked, locked, locked, 0, 0, 1, 11];
         assert_eq!(answers(&mut card, ROUTE, limit), expected);
     }
 }
@@ -78,14 +82,55 @@ fn locked_file() {
 fn counts_of_finished_and_stopped_calls() {
     let mut card = card_k();
     // Create, append, replace, truncate, delete and rename, one after the other; the last finds nothing.
-    let finished = [3, 7, 7, 5, 5, ground(9), 0, ground(9), 0];
+    let finished = [3, 7, 7, 5, 5, ground(9), 0, ground(9), 0, 11];
     assert_eq!(answers(&mut card, ROUTE, ALL), finished);
     let mut card = card_k();
     let absent = ground(9);
     let stopped = [
-        STOPPED, absent, absent, absent, absent, absent, 0, absent, 0,
+        STOPPED, absent, absent, absent, absent, absent, 0, absent, 0, 11,
     ];
     assert_eq!(answers(&mut card, ROUTE, 0), stopped);
+}
+
+/// What fits answers.
+fn fits(card: &[u8], bytes: u64) -> u64 {
+    // The slice is valid for its length.
+    unsafe { lfat_fits(card.as_ptr(), card.len(), bytes) }
+}
+
+/// A yes is the cluster alone; a no has the number 254 and no count.
+#[test]
+fn yes_and_no() {
+    let mut card = card_k();
+    let room = 4_077 * 512;
+    for (bytes, answer) in [(0, 0), (1, 10), (1_300, 12), (room, 4_086), (room + 1, NO)] {
+        assert_eq!(fits(&card, bytes), answer, "{bytes}");
+    }
+    for bytes in [1 << 25, 1 << 32, 1 << 41, u64::MAX - 511, u64::MAX] {
+        assert_eq!(fits(&card, bytes), NO, "{bytes}");
+    }
+    for fat in [1, 17] {
+        card[fat * 512 + 20..][..4_077 * 2].fill(0xFF);
+    }
+    for (bytes, answer) in [(0, 0), (1, NO), (u64::MAX, NO)] {
+        assert_eq!(fits(&card, bytes), answer, "{bytes}");
+    }
+}
+
+/// Windows of bytes that are no card, also none at all.
+#[test]
+fn what_is_no_card() {
+    let mut random = Random::new(7);
+    let garbage = random.bytes(9_000);
+    for bytes in [0, 1, u64::MAX] {
+        assert_eq!(unsafe { lfat_fits(null(), 0, bytes) }, ground(1));
+        for length in [0, 1, 511] {
+            assert_eq!(fits(&garbage[..length], bytes), ground(1));
+        }
+        for length in [512, 513, 9_000] {
+            assert_eq!(fits(&garbage[..length], bytes), ground(2));
+        }
+    }
 }
 
 /// A call on the card and two other slices.

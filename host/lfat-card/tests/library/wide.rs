@@ -47,6 +47,8 @@ fn largest_card() {
     let front = (1 + 512 + 4_095) * 512;
     let route = || ROUTE.to_vec();
     for (call, expected) in [
+        (Call::Fits(0), Answer::Done(0)),
+        (Call::Fits(1), Answer::No),
         (Call::Read(route(), 0, 40_000), Answer::Done(40_000)),
         (Call::Read(route(), size - 9, 40), Answer::Done(9)),
         (Call::Append(route(), vec![3; 5]), Answer::Done(4)),
@@ -77,6 +79,14 @@ fn largest_card() {
         (Call::Read(route(), 32_760, 40), Answer::Done(40)),
         (Call::Delete(route()), Answer::Done(7)),
         (Call::List(64), Answer::Done(1)),
+        // All but clusters 2 and 3 and the log's: 65,520 of 32,768 bytes, just under 2^31.
+        (Call::Fits(1), Answer::Done(4)),
+        (Call::Fits(2_146_959_360), Answer::Done(65_523)),
+        (Call::Fits(2_146_959_361), Answer::No),
+        (Call::Fits(u64::from(u32::MAX)), Answer::No),
+        (Call::Fits((1 << 32) + 1), Answer::No),
+        (Call::Fits((1 << 47) + 1), Answer::No),
+        (Call::Fits(u64::MAX), Answer::No),
     ] {
         let mut expected_bytes = vec![0; call.room()];
         let mut bytes = vec![0; call.room()];
@@ -116,6 +126,7 @@ fn lengths_past_32_bits() {
     assert!(long[32..700] == [9; 668]);
     // As a window it is longer than the card.
     long[..card.len()].copy_from_slice(&card);
+    assert_eq!(calls::fits(&long, 600).encode(), 13);
     assert_eq!(calls::delete(&mut long, ROUTE, ALL).encode(), 5);
     assert_eq!(calls::delete(&mut card, ROUTE, ALL).encode(), 5);
     assert!(long[..card.len()] == card);

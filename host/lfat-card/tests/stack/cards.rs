@@ -73,6 +73,9 @@ fn drive_reads(measure: &mut Measure, place: &str, card: &mut Card) {
         Call::Read(ROUTE.to_vec(), 0, 2 << 20),
         Call::Read(ROUTE.to_vec(), 777_777, 5_000),
         Call::List(600 * 32),
+        Call::Fits(1),
+        Call::Fits(1 << 20),
+        Call::Fits(u64::MAX),
         Call::Recover,
     ] {
         measure.call(place, &mut card.bytes, &call, ALL);

@@ -29,6 +29,7 @@ fn crossing(call: &Call, card: &mut [u8], limit: u32, buffer: &mut [u8]) -> (*co
         Call::Recover => (lfat_recover as *const (), [card, length, limit, 0, 0, 0, 0]),
         Call::Read(name, offset, _) => (lfat_read as *const (), named(name, [*offset, to, room])),
         Call::List(_) => (lfat_list as *const (), [card, length, to, room, 0, 0, 0]),
+        Call::Fits(bytes) => (lfat_fits as *const (), [card, length, *bytes, 0, 0, 0, 0]),
     }
 }
 

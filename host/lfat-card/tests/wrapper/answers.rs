@@ -9,7 +9,8 @@ fn every_number_has_an_answer() {
         let answer = Answer::decode(number);
         match (code, answer) {
             (0, Answer::Done(7)) | (255, Answer::Stopped(7)) => assert_eq!(answer.encode(), number),
-            (_, Answer::Refused(refusal)) => {
+            (254, Answer::No) => assert_eq!(answer.encode(), code << 32),
+            (1..=253 | 256.., Answer::Refused(refusal)) => {
                 assert_eq!(u64::from(refusal.number()), code);
                 assert_eq!(answer.encode(), code << 32);
                 let is_known = (1..17).contains(&code);

@@ -22,6 +22,35 @@ fn a_card_that_is_only_read() {
     assert_eq!(card.view().bytes(), card.bytes());
 }
 
+/// A yes with its cluster, a no, and a refusal are three things; the card stays as it is.
+#[test]
+fn what_fits() {
+    // Clusters 10 to 15 are taken, 16 to 4,086 free.
+    let mut window = card_with_route(SIZE);
+    let before = window.clone();
+    let room = (4_086 - 15) * 512;
+    let card = Card::new(&mut window);
+    for (bytes, fits) in [
+        (0, Some(0)),
+        (1, Some(16)),
+        (512, Some(16)),
+        (513, Some(17)),
+        (room, Some(4_086)),
+        (room + 1, None),
+        (1 << 32, None),
+        (u64::MAX, None),
+    ] {
+        assert_eq!(card.fits(bytes), Ok(fits), "{bytes}");
+        assert_eq!(CardView::new(&before).fits(bytes), Ok(fits), "{bytes}");
+    }
+    assert!(card.bytes() == before);
+    window[512] = 1;
+    for bytes in [0, 1, u64::MAX] {
+        assert_eq!(CardView::new(&window).fits(bytes), Err(Refusal::Unclean));
+        assert_eq!(CardView::new(&window[..9]).fits(bytes), Err(Refusal::Short));
+    }
+}
+
 #[test]
 fn in_pieces_of_any_length() {
     let window = card_with_route(SIZE);

@@ -105,12 +105,12 @@ fn the_example() {
     assert_eq!(output.status.code(), Some(1));
     assert!(locked.bytes() == marked);
 
-    // More than fits: the old file stays as it was, and under a new name no empty one is left.
+    // More than fits: the old file stays as it was, and under a new name none is made.
     let large = Temporary::new(&points(2_000_000));
-    let before = state(&card.bytes()).expect("clean");
+    let before = card.bytes();
     for (name, what) in [
         ("PANEL.CUT", "save: NOSPACE: "),
-        ("KEEL", "append: NOSPACE: "),
+        ("KEEL", "fits: NO: the card has too few free clusters\n"),
     ] {
         let output = run(&save, &[path(&card), name, path(&large)]);
         let errors = String::from_utf8_lossy(&output.stderr).into_owned();
@@ -119,10 +119,8 @@ fn the_example() {
             "{errors}"
         );
         assert_eq!(output.status.code(), Some(1));
-        assert!(state(&card.bytes()).expect("clean") == before, "{name}");
+        assert!(card.bytes() == before, "{name}");
     }
-
-    let before = card.bytes();
     for (words, what) in [
         (vec![path(&card), "new.cut", path(&data)], "save: NAME: "),
         (
@@ -215,6 +213,16 @@ int main(int argc, char **argv)
     DUE(lfat_disk_open(argv[1], 0, LFAT_DISK_TO_READ, &disk), LFAT_DONE, 0);
     DUE(lfat_disk_open(argv[1], 0, 0, &other), LFAT_DISK_IN_USE, 0);
     DUE(lfat_disk_list(disk, entries, 40), LFAT_DONE, 2);
+    /* 4,064 clusters of 512 bytes are free, from 23 on. */
+    DUE(lfat_disk_fits(disk, 0), LFAT_DONE, 0);
+    DUE(lfat_disk_fits(disk, 513), LFAT_DONE, 24);
+    DUE(lfat_disk_fits(disk, 2080768), LFAT_DONE, 4086);
+    DUE(lfat_disk_fits(disk, 2080769), LFAT_NO, 0);
+    if (strcmp(lfat_disk_message(), "NO: the card has too few free clusters") != 0 || lfat_disk_errno() != 0)
+        wrong = 1;
+    DUE(lfat_disk_fits(disk, UINT64_C(1) << 32), LFAT_NO, 0);
+    DUE(lfat_disk_fits(disk, UINT64_MAX), LFAT_NO, 0);
+    DUE(lfat_disk_fits(NULL, 0), LFAT_DISK_ARGUMENT, 0);
     DUE(lfat_disk_create(disk, keel, 11), LFAT_DISK_READ_ONLY, 0);
     lfat_disk_close(disk);
 
@@ -224,7 +232,9 @@ int main(int argc, char **argv)
     DUE(lfat_disk_create(disk, keel, 11), LFAT_EXISTS, 0);
     DUE(lfat_disk_create(disk, keel, 10), LFAT_NAME, 0);
     DUE(lfat_disk_create(disk, NULL, 11), LFAT_DISK_ARGUMENT, 0);
+    DUE(lfat_disk_fits(disk, 1), LFAT_DONE, 23);
     DUE(lfat_disk_append(disk, keel, 11, bytes, sizeof bytes), LFAT_DONE, 9);
+    DUE(lfat_disk_fits(disk, 1), LFAT_DONE, 27);
     DUE(lfat_disk_append(disk, keel, 11, NULL, 0), LFAT_DONE, 0);
     DUE(lfat_disk_append(disk, keel, 11, NULL, 1), LFAT_DISK_ARGUMENT, 0);
     DUE(lfat_disk_replace(disk, keel, 11, bytes, 600), LFAT_DONE, 7);

@@ -64,6 +64,9 @@ fn a_save_on_a_device() {
         let mut back = vec![0; 60_000];
         assert_eq!(open.read(PANEL, 0, &mut back).expect("read"), 50_001);
         assert!(back[..50_001] == points(100_000)[..50_001]);
+        // ROUTE.CUT went from 10 to 12, 209 and 210 to 111 to 119; PANEL.CUT has 13 to 110.
+        assert_eq!(open.fits(1_537).expect("clean"), Some(120));
+        assert_eq!(open.fits(1 << 32).expect("clean"), None);
         drop(open);
         drop(device);
         reference::create(&mut wanted, NEW, u32::MAX);

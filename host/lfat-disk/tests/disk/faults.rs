@@ -36,6 +36,7 @@ fn an_error_at_every_operation() {
                 }
                 assert!(matches!(&answer, Err(Error::Cut(found)) if found.kind() == error));
                 assert!(matches!(open.list(), Err(Error::Ended)));
+                assert!(matches!(open.fits(0), Err(Error::Ended)));
                 assert!(matches!(open.read(ROUTE, 0, &mut []), Err(Error::Ended)));
                 assert!(matches!(open.recover(), Err(Error::Ended)));
                 drop(open);

@@ -5,6 +5,7 @@ mod c;
 mod devices;
 mod faults;
 mod files;
+mod fits;
 mod fragments;
 mod killed;
 mod partitions;

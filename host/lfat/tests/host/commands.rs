@@ -187,8 +187,8 @@ fn help_everywhere() {
     let overview = folder.lfat("--help").done().text();
     assert_eq!(folder.lfat("help").done().text(), overview);
     let commands = [
-        "blank", "ls", "get", "put", "append", "truncate", "rm", "mv", "recover", "log", "info",
-        "rack",
+        "blank", "ls", "get", "fits", "put", "append", "truncate", "rm", "mv", "recover", "log",
+        "info", "rack",
     ];
     for command in commands {
         assert!(overview.contains(&format!("\n  {command} ")), "{command}");
@@ -207,6 +207,17 @@ fn help_everywhere() {
     ] {
         assert!(put.contains(words), "{words}: {put}");
     }
+    let fits = folder.lfat("fits --help").done().text();
+    for words in [
+        "usage: lfat fits IMAGE BYTES|FILE [--json]\n",
+        "exit status 0 for yes, 1 for no\n",
+        "A file named by digits is given as ./123.",
+        "\n  --json ",
+        "\n  --partition N ",
+    ] {
+        assert!(fits.contains(words), "{words}: {fits}");
+    }
+    assert!(overview.contains("1 refused, stopped, a mismatch or no;"));
     let rack = folder.lfat("rack --help").done().text();
     assert!(rack.contains("replace NAME FILE"), "{rack}");
 }

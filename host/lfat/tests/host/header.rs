@@ -13,7 +13,7 @@ fn refusals() -> impl Iterator<Item = Refusal> {
 fn constants_source() -> String {
     let mut source = "#include \"lfat.h\"\n#include <stdio.h>\nint main(void) {\n".to_string();
     let mut codes: Vec<&str> = refusals().map(Refusal::name).collect();
-    codes.extend(["DONE", "STOPPED"]);
+    codes.extend(["DONE", "NO", "STOPPED"]);
     for code in codes {
         source +=
             &format!("printf(\"%d %s\\n\", (int)LFAT_{code}, lfat_code_name(LFAT_{code}));\n");
@@ -30,7 +30,7 @@ fn constants_expected() -> String {
     let mut text: String = refusals()
         .map(|refusal| format!("{} {}\n", refusal.number(), refusal.name()))
         .collect();
-    text += "0 DONE\n255 STOPPED\nunknown unknown\n255 7\nffffffff 512 11 32\n";
+    text += "0 DONE\n254 NO\n255 STOPPED\nunknown unknown\n255 7\nffffffff 512 11 32\n";
     text
 }
 
@@ -70,6 +70,19 @@ fn replacing_source() -> String {
          printf(\"%s \", lfat_code_name(LFAT_CODE(answer)));\n}}\n\
          read = lfat_read(card, card_len, name, 11, 0, back, sizeof back);\n\
          fwrite(back, 1, LFAT_COUNT(read), stdout);\nreturn 0;\n}}\n"
+    )
+}
+
+/// The example that asks whether bytes fit, with their number from the first line of standard input, before the card.
+fn fitting_source() -> String {
+    let example = example("Example: ask whether");
+    assert!(example.contains("lfat_fits") && example.contains("LFAT_NO"));
+    format!(
+        "#include \"lfat.h\"\n#include <stdio.h>\n#include <string.h>\nstatic uint8_t card[4150 * 512], before[sizeof card];\n\
+         int main(void) {{\nsize_t card_len = sizeof card;\nunsigned long data_len;\n\
+         if (scanf(\"%lu\", &data_len) != 1 || getchar() != '\\n') return 1;\n\
+         if (fread(card, 1, card_len, stdin) != card_len) return 1;\nmemcpy(before, card, card_len);\n{{\n{example}\n}}\n\
+         return memcmp(before, card, card_len) != 0;\n}}\n"
     )
 }
 
@@ -131,6 +144,20 @@ fn check(compiler: &str, standard: &str) -> Option<()> {
     let mut cut = card_with_route(1_300);
     reference::append(&mut cut, b"ROUTE   CUT", &points(1_300), 6);
     assert_eq!(replacing.printed(&cut), b"UNCLEAN ");
+
+    // ROUTE.CUT has three of 4,077 clusters.
+    let fitting = program("fitting", fitting_source())?;
+    for (bytes, words) in [
+        (0, "fits\n"),
+        (2_085_888, "fits\n"),
+        (2_085_889, "does not fit\n"),
+        (1 << 32, "does not fit\n"),
+        (u64::MAX, "does not fit\n"),
+    ] {
+        let input = [format!("{bytes}\n").as_bytes(), &card_with_route(1_300)].concat();
+        assert_eq!(fitting.printed(&input), words.as_bytes(), "{bytes}");
+    }
+    assert_eq!(fitting.printed(&[b"1\n", &cut[..]].concat()), b"UNCLEAN\n");
 
     let whole = program(
         "whole",

@@ -75,6 +75,16 @@ fn same_as_in_memory() {
                 folder.read("card") == [&window[..], &past].concat(),
                 "{step}: {line}"
             );
+            let bytes = step * 60_000 * u64::from(sectors_per_cluster);
+            let run = folder.lfat(&format!("fits card {bytes}"));
+            match Card::new(&mut window).fits(bytes).expect("clean") {
+                Some(0) => drop(run.done()),
+                Some(highest) => {
+                    let words = format!(", up to cluster {highest}\n");
+                    assert!(run.done().text().ends_with(&words), "{step}: {bytes}");
+                }
+                None => assert_eq!((run.status(), run.errors().as_str()), (1, "")),
+            }
         }
         assert!(locked > 2, "{locked}");
     }

@@ -33,6 +33,21 @@ fn every_command_that_has_it() {
     check(&folder, run.bytes(), "v['state'] == 'clean' and v['clusters'] == 4085 and v['free_clusters'] == 4074 and v['partition'] is None");
     check(&folder, run.bytes(), "v['fat1'] == [1, 16] and v['root']['slots'] == 512 and v['log'] == {'sectors': [65, 72], 'used': 3}");
 
+    let run = folder.lfat("fits card path --json").done();
+    let fields =
+        "'fits': True, 'bytes': 1300, 'clusters': 3, 'cluster_bytes': 512, 'up_to_cluster': 15";
+    let free = "'free_clusters': 4074, 'free_bytes': 2085888";
+    check(&folder, run.bytes(), &format!("v == {{{fields}, {free}}}"));
+    let run = folder.lfat("fits card 18446744073709551615 --json");
+    assert_eq!((run.status(), run.errors().as_str()), (1, ""));
+    check(&folder, run.bytes(), "v['fits'] is False and v['bytes'] == 2**64 - 1 and v['clusters'] == 2**55 and v['up_to_cluster'] is None");
+    let run = folder.lfat("fits card 0 --json").done();
+    check(
+        &folder,
+        run.bytes(),
+        "v['fits'] is True and [v[k] for k in ('bytes', 'clusters', 'up_to_cluster')] == [0, 0, 0]",
+    );
+
     let run = folder.lfat("log card --json").done();
     check(
         &folder,
@@ -81,4 +96,6 @@ fn every_command_that_has_it() {
     let run = folder.lfat("info card --json").failed(1, "UNCLEAN");
     check(&folder, run.bytes(), "v['state'] == 'UNCLEAN'");
     folder.lfat("ls card --json").failed(1, "UNCLEAN");
+    let run = folder.lfat("fits card 0 --json").failed(1, "UNCLEAN");
+    assert_eq!(run.bytes(), b"", "a refusal is no answer");
 }

@@ -1,6 +1,7 @@
 //! The host side: header and loader in C, the wrapper, the command line, the rack.
 
 mod commands;
+mod fits;
 mod header;
 mod images;
 mod json;

@@ -64,7 +64,7 @@ fn never_onto_the_card() {
             run.failed(2, "is the card itself").errors().lines().count(),
             1
         );
-        for words in ["put card NEW.CUT", "put -f card ROUTE.CUT"] {
+        for words in ["put card NEW.CUT", "put -f card ROUTE.CUT", "fits card"] {
             let run = folder.lfat(&format!("{words} {file}"));
             run.failed(2, "is the card itself");
         }

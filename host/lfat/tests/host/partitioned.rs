@@ -40,6 +40,12 @@ fn every_command() {
         folder.lfat("get card ROUTE.CUT").done().bytes(),
         points(1_300)
     );
+    // Clusters 10 to 12 and 13 to 16 are taken.
+    let wanted = "yes: 1300 bytes in 3 clusters of 512 bytes, up to cluster 19\n";
+    for image in ["card", "card:2", "--partition 2 card"] {
+        let run = folder.lfat(&format!("fits {image} path")).done();
+        assert_eq!(run.text(), wanted, "{image}");
+    }
     folder
         .lfat("rm card:2 KEEL --limit 3")
         .failed(1, "STOPPED after 3");
@@ -77,6 +83,8 @@ fn what_is_not_there() {
         "card: there is no partition 3; it has partitions 1 (type 0x83), 2 (type 0x06)",
     );
     one("put card:9 A path", 2, "no partition 9");
+    one("fits card:9 1", 2, "no partition 9");
+    one("fits card:1 1", 1, "BOOT");
     one("ls card:1", 1, "BOOT");
     one("ls card --partition many", 2, "'many' is no number");
     one("ls card:x", 3, "card:x: No such file");

@@ -25,9 +25,11 @@ pub fn refused(name: &str, card: &[u8], refusal: Refusal, lines: &[&str]) {
     }
 }
 
-pub const ALL_COMMANDS: [&str; 13] = [
+pub const ALL_COMMANDS: [&str; 15] = [
     "ls card",
     "get card ROUTE.CUT",
+    "fits card 1300",
+    "fits card path --json",
     "put card PANEL.CUT path",
     "put --replace card ROUTE.CUT path",
     "append card ROUTE.CUT path",

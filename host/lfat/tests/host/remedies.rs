@@ -80,8 +80,10 @@ fn no_room_beside_the_old_bytes() {
     let folder = folder_with("beside", &card);
     folder.lfat("put -f card ROUTE.CUT path").failed(
         1,
-        "The old bytes of ROUTE.CUT keep their room until the new ones are saved. 'lfat info' shows the free clusters; 'lfat rm' frees",
+        "The old bytes of ROUTE.CUT keep their room until the new ones are saved. 'lfat info' shows the free clusters; 'lfat rm' frees \
+         some. 'lfat fits' tells before a save.\n",
     );
+    assert_eq!(folder.lfat("fits card path").status(), 1);
     assert!(folder.read("card") == card);
     folder.lfat("rm card OTHER").done();
     folder.lfat("put -f card ROUTE.CUT path").done();
@@ -89,8 +91,15 @@ fn no_room_beside_the_old_bytes() {
     folder.write("none", b"");
     folder.lfat("put card EMPTY none").done();
     folder.write("long", &points(5_000));
-    let run = folder.lfat("put -f card EMPTY long").failed(1, "NOSPACE");
-    assert!(!run.errors().contains("old bytes"), "{}", run.errors());
+    for line in ["put -f card EMPTY long", "put card NEW long"] {
+        let run = folder.lfat(line).failed(1, "NOSPACE");
+        let errors = run.errors();
+        assert!(!errors.contains("old bytes"), "{errors}");
+        assert!(
+            errors.ends_with("'lfat fits' tells before a save.\n"),
+            "{errors}"
+        );
+    }
 }
 
 /// A card without a log: what the refusal says leads to one that has it.

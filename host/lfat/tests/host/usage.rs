@@ -15,6 +15,16 @@ fn files_that_cannot_be_used() {
     folder
         .lfat("put card A nothing")
         .failed(3, "lfat: nothing: No such file");
+    folder.lfat("fits card nothing").failed(
+        3,
+        "lfat: nothing: No such file or directory (os error 2); a number of bytes is digits alone\n",
+    );
+    folder
+        .lfat("fits card .")
+        .failed(3, "lfat: .: is a directory\n");
+    folder
+        .lfat("fits card /dev/null")
+        .failed(3, "lfat: /dev/null: is no plain file");
     folder
         .lfat("append card A nothing")
         .failed(3, "nothing: No such file");
@@ -38,8 +48,8 @@ fn wrong_usage() {
         .lfat("format card")
         .failed(2, "there is no command 'format'");
     for line in [
-        "blank", "ls", "get", "put", "append", "truncate", "rm", "mv", "recover", "log", "info",
-        "rack",
+        "blank", "ls", "get", "fits", "put", "append", "truncate", "rm", "mv", "recover", "log",
+        "info", "rack",
     ] {
         let run = folder.lfat(line).failed(2, "lfat: IMAGE ");
         assert!(run.errors().contains("missing; usage: "), "{line}");
@@ -65,6 +75,22 @@ fn wrong_usage() {
         (
             "truncate card ROUTE.CUT 18446744073709551616",
             "SIZE: '18446744073709551616' is no number",
+        ),
+        ("fits card", "BYTES|FILE is missing"),
+        ("fits card 1 path", "'path' is one word too many"),
+        ("fits card -1", "unknown option -1"),
+        ("fits card 1 --raw", "unknown option --raw"),
+        (
+            "fits card -",
+            "FILE: - has no size before it is read; give a number of bytes",
+        ),
+        (
+            "fits card 18446744073709551616",
+            "BYTES: 18446744073709551616 is over 18446744073709551615, the most",
+        ),
+        (
+            "fits card 00099999999999999999999999999999999999999999",
+            "BYTES: 000999",
         ),
         ("rm card", "NAME is missing"),
         ("mv card ROUTE.CUT", "NEW is missing"),

@@ -1,18 +1,22 @@
-//! The worked card in C: all nine calls.
+//! The worked card in C: all ten calls.
 
 use crate::support::c::{build, top};
 use crate::support::cli::Folder;
 use std::process::Stdio;
 
 #[test]
-fn all_nine_calls() {
+fn all_ten_calls() {
     let folder = Folder::new("worked-card");
     let program = folder.path().join("worked");
     build("gcc", "c99", &top().join("examples/worked.c"), &program).expect("gcc is there");
     let run = folder.run(&program, "", Stdio::null()).done();
     let text = run.text();
-    assert_eq!(text.lines().count(), 36);
+    assert_eq!(text.lines().count(), 47);
     for line in [
+        "    fits, no bytes: DONE 0",
+        "    fits 1300, in clusters 10 to 12: DONE 12",
+        "    fits, a byte more: NO 0",
+        "    unclean until recovered, fits: UNCLEAN 0",
         "M3  create ROUTE.CUT: DONE 3",
         "M5  append 1300, cut after 4 stores: STOPPED 4",
         "M6  append 1300, cut after 5 stores: STOPPED 5",

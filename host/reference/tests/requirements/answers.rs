@@ -35,6 +35,7 @@ fn answers_encode_as_code_and_count() {
     assert_eq!(Answer::Done(0).encode(), 0);
     assert_eq!(Answer::Done(u32::MAX).encode(), 0xFFFF_FFFF);
     assert_eq!(Answer::Stopped(7).encode(), 0xFF_0000_0007);
+    assert_eq!(Answer::No.encode(), 0xFE_0000_0000);
     assert_eq!(Answer::Refused(Ground::Short).encode(), 1 << 32);
     assert_eq!(Answer::Refused(Ground::Nospace).encode(), 15 << 32);
     assert_eq!(Answer::Refused(Ground::Locked).encode(), 16 << 32);

@@ -81,10 +81,15 @@ fn check_reading(card: &Card, name: &[u8], random: &mut Random) {
             assert!(rest.iter().all(|&byte| byte == 0x5A));
         }
         Answer::Refused(_) => assert!(buffer.iter().all(|&byte| byte == 0x5A)),
-        Answer::Stopped(_) => panic!("read has no limit"),
+        other => panic!("{other:?}"),
     }
-    let answer = list(&card.bytes, &mut buffer);
-    assert!(!matches!(answer, Answer::Stopped(_)));
+    // Both ask grounds 1 to 7 and no others.
+    let bytes = random.pick(&[0, 1, 5_000, 1 << 20, u64::MAX]);
+    match (list(&card.bytes, &mut buffer), fits(&card.bytes, bytes)) {
+        (Answer::Refused(ground), Answer::Refused(other)) => assert_eq!(ground, other),
+        (Answer::Done(_), Answer::Done(_) | Answer::No) => (),
+        other => panic!("{bytes}: {other:?}"),
+    }
 }
 
 #[test]

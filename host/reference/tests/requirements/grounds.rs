@@ -239,6 +239,23 @@ fn list_ladder() {
     assert_eq!(answer, Answer::Done(5));
 }
 
+/// Grounds 1 to 7 and no others; the card is full.
+#[test]
+fn fits_ladder() {
+    let mut ladder = Ladder::new();
+    for &ground in &Ground::ALL[..7] {
+        for bytes in [0, 1, u64::MAX] {
+            let answer = fits(&ladder.card.bytes[..ladder.length], bytes);
+            assert_eq!(answer, Answer::Refused(ground), "{bytes}");
+        }
+        ladder.mend(ground);
+    }
+    ladder.card.fill_root(5);
+    assert_eq!(fits(&ladder.card.bytes, 0), Answer::Done(0));
+    assert_eq!(fits(&ladder.card.bytes, 1), Answer::No);
+    assert_eq!(fits(&ladder.card.bytes, u64::MAX), Answer::No);
+}
+
 #[test]
 fn root_slot_after_the_end() {
     for byte in [0xE5, b'A', 0x01, 0xFF] {
@@ -265,6 +282,8 @@ fn any_difference_between_the_fats_is_unclean() {
             let place = fat * 512 + at;
             card.bytes[place] ^= 1;
             let answer = list(&card.bytes, &mut []);
+            assert_eq!(answer, Answer::Refused(Ground::Unclean), "{at}");
+            let answer = fits(&card.bytes, 0);
             assert_eq!(answer, Answer::Refused(Ground::Unclean), "{at}");
             card.bytes[place] ^= 1;
         }

@@ -128,6 +128,9 @@ impl Model {
     fn assert_on(&self, card: &[u8]) {
         assert!(is_sound(card));
         assert_eq!(free_clusters(card).len(), self.free());
+        let room = (self.free() * self.cluster_bytes) as u64;
+        assert!(matches!(fits(card, room), Answer::Done(_)));
+        assert_eq!(fits(card, room + 1), Answer::No);
         assert_eq!(list(card, &mut []), Answer::Done(self.files.len() as u32));
         for (name, bytes) in &self.files {
             let mut buffer = vec![0x5A; bytes.len() + 40];

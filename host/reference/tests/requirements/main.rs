@@ -7,6 +7,7 @@ mod boot;
 mod buffers;
 mod damage;
 mod file_ops;
+mod fits;
 mod grounds;
 mod histories;
 mod inspection;

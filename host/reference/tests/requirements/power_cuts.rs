@@ -126,7 +126,7 @@ fn check_recoveries(card: &mut Card, expected: &State, sound: Sound, depth: usiz
                 recover(&mut card.bytes, ALL);
                 check_end(card, expected, sound);
             }
-            Answer::Refused(ground) => panic!("{ground}"),
+            other => panic!("{other:?}"),
         }
         kept.put_back(card);
     }

@@ -3,20 +3,21 @@
 use reference::{Answer, Ground};
 use std::collections::BTreeSet;
 
-/// Calls with the codes that they answered: 0 DONE, 255 STOPPED, else the ground's number.
+/// Calls with the codes that they answered: 0 DONE, 254 NO, 255 STOPPED, else the ground's number.
 pub type Seen = BTreeSet<(&'static str, u64)>;
 
 /// The calls, each with the codes that it never answers. Every other code comes up in a test.
-const NEVER: [(&str, &[u64]); 9] = [
-    ("create", &[9, 10, 13, 14, 15, 16]),
-    ("append", &[11, 12, 14]),
-    ("replace", &[11, 12, 14]),
-    ("truncate", &[11, 12, 15]),
-    ("delete", &[11, 12, 14, 15]),
-    ("rename", &[13, 14, 15]),
-    ("recover", &[7, 8, 9, 10, 11, 12, 13, 14, 15, 16]),
-    ("read", &[11, 12, 14, 15, 16, 255]),
-    ("list", &[8, 9, 10, 11, 12, 13, 14, 15, 16, 255]),
+const NEVER: [(&str, &[u64]); 10] = [
+    ("create", &[9, 10, 13, 14, 15, 16, 254]),
+    ("append", &[11, 12, 14, 254]),
+    ("replace", &[11, 12, 14, 254]),
+    ("truncate", &[11, 12, 15, 254]),
+    ("delete", &[11, 12, 14, 15, 254]),
+    ("rename", &[13, 14, 15, 254]),
+    ("recover", &[7, 8, 9, 10, 11, 12, 13, 14, 15, 16, 254]),
+    ("read", &[11, 12, 14, 15, 16, 254, 255]),
+    ("list", &[8, 9, 10, 11, 12, 13, 14, 15, 16, 254, 255]),
+    ("fits", &[8, 9, 10, 11, 12, 13, 14, 15, 16, 255]),
 ];
 
 pub fn code(answer: Answer) -> u64 {
@@ -26,7 +27,7 @@ pub fn code(answer: Answer) -> u64 {
 /// All codes that there are.
 fn codes() -> impl Iterator<Item = u64> {
     let grounds = Ground::ALL.into_iter().map(Ground::number);
-    [0, 255].into_iter().chain(grounds.map(u64::from))
+    [0, 254, 255].into_iter().chain(grounds.map(u64::from))
 }
 
 /// Of each call, every code that is wanted was either seen or stands in the list of those that it never answers, and no code was

@@ -7,6 +7,7 @@
 
 use std::path::PathBuf;
 use std::process::{Command, Output};
+use testkit::mtools::free_bytes;
 
 const LOG: std::ops::Range<usize> = 40..44;
 
@@ -89,6 +90,11 @@ impl Image {
         let mut names: Vec<String> = text.lines().map(|line| line.replace("::/", "")).collect();
         names.sort();
         names
+    }
+
+    /// The bytes that mtools find free.
+    pub fn free_bytes(&self) -> u64 {
+        free_bytes(&self.tool("mdir", &["::"]))
     }
 
     /// fsck.fat prints its version and the summary, and nothing else.
