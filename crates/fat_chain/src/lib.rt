@@ -47,12 +47,15 @@ pub fn clusters_needed(l: Layout, bytes: u64) -> u64
     (bytes - 1) / (512 * sector::wider(l.factor)) + 1
 }
 
-// Those that a file's size needs.
+// Those that a file's size needs: in 32 bits, by which reading keeps to its 512 bytes of stack.
 pub fn clusters_for(l: Layout, size: u32) -> u32
     requires { ⌜ Fits l ⌝ }
     ensures { λ r. ⌜ r ≡ needed l size ⌝ }
 {
-    clusters_needed(l, sector::wider(size)) as u32
+    if size == 0 {
+        return 0;
+    }
+    (size - 1) / (512 * l.factor) + 1
 }
 
 // How many clusters from k on lie one after another on the card, each linked to the next: at least 1, at most n.

@@ -1,6 +1,6 @@
 -- Laws of the clusters that a size needs.
-use Prim.Native.Nat.{ℕ, zero, suc, _+_, _-_, _*_, _/_, _%_, _≤_, _<_}
-use native.Mathlib.Nat.{div-le-self, le-div-iff-mul-le, div-lt-iff-lt-mul, div-mul-le-self, div-add-mod', mod-lt}
+use Prim.Native.Nat.{ℕ, suc, _+_, _-_, _*_, _/_, _%_, _≤_, _<_}
+use native.Mathlib.Nat.{le-div-iff-mul-le, div-lt-iff-lt-mul, div-mul-le-self, div-add-mod', mod-lt}
 use native.Mathlib.Omega.{arith}
 use mathlib.Core.Path.{_≡_}
 use Rattle.model.specs.Chain.{needed, cluster-bytes}
@@ -32,11 +32,6 @@ needed-some l one n h =
     needed-is l one n ((n - 1) / b + 1) (omega arith) (omega arith)
 
 module _ (l : Layout) (one : 1 ≤ l .factor) where
-  -- No more clusters than bytes.
-  pub needed-le : (n : ℕ) → needed l n ≤ n
-  needed-le zero = omega (arith, needed-none l one)
-  needed-le (suc n) = omega (arith, needed-some l one (suc n) (omega arith), div-le-self (suc n - 1) (512 * l .factor))
-
   pub needed-mono : (n m : ℕ) → n ≤ m → needed l n ≤ needed l m
   unfolding needed cluster-bytes
   needed-mono n m h = div-mono (512 * l .factor) (n + (512 * l .factor - 1)) (m + (512 * l .factor - 1)) (omega arith) (omega arith)

@@ -29,9 +29,10 @@ module _ (l : Layout) (one : 1 ≤ l .factor) (f : File) (n : ℕ) where
         let b : ℕ = 512 * l .factor in
         let m : ℕ = needed l (n - spare) in
         let lo = needed-enough l one (f .size) in
+        let up = needed-enough l one (n - spare) in
+        let down = needed-tight l one (n - spare) in
         let s : (needed l (f .size) + m) * b ≡ needed l (f .size) * b + m * b = omega arith in
-        let e : needed l (f .size + n) ≡ needed l (f .size) + m =
-        needed-is l one (f .size + n) (needed l (f .size) + m) (omega (arith, needed-enough l one (n - spare))) (omega (arith, needed-tight l one (n - spare))) in
+        let e : needed l (f .size + n) ≡ needed l (f .size) + m = needed-is l one (f .size + n) (needed l (f .size) + m) (omega arith) (omega arith) in
         omega arith
 
   -- To a file of no bytes.

@@ -1,5 +1,5 @@
 -- Whether bytes fit, on the card of `Small`, whose FAT sector has entries past those of its clusters: rows that refuse wrong definitions.
-use Prim.Native.Nat.{ℕ, _+_, _*_}
+use Prim.Native.Nat.{ℕ}
 use mathlib.Core.Path.{_≡_, refl}
 use mathlib.Core.List.{List, [], _∷_, map}
 use mathlib.Core.Bool.{_||_}

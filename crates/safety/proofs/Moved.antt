@@ -37,8 +37,8 @@ use Rattle.safety.proofs.Ended.{Ended, ended, same-bears, same-director
 use Rattle.safety.proofs.Chained.{HasChain, head-is, size-is, empty-then, kept-then}
 use Rattle.safety.proofs.Readings.{Meant, Read, holds-of, holds-read, gone-of, granted-write}
 use Rattle.operations.proofs.Edits.{one-in, one-out, two-first, two-second, two-out}
-use Rattle.safety.proofs.Slots.{new-size, new-first, new-directory, new-locked, new-bears, named-size, named-first, named-directory, named-bears, named-only}
-use Rattle.safety.proofs.Slots.{deleted-bears, means, means-none, lower-not, bearer}
+use Rattle.safety.proofs.Slots.{new-size, new-first, new-directory, new-locked, new-bears, named-size, named-first, named-directory, named-bears}
+use Rattle.safety.proofs.Slots.{named-only, deleted-bears, means, means-none, lower-not, bearer}
 use Rattle.safety.proofs.Supplied.{creates-as, renames-as, deletes-as, create-supplies, rename-supplies, delete-supplies, ks}
 use Rattle.safety.proofs.Calls.{left-is}
 use Rattle.safety.proofs.Granted.{Created, create-granted, Renamed, rename-granted, Deleted, delete-granted}

@@ -18,7 +18,10 @@ add-result : tie.Need-add-result
 add-result c = omega (arith, div-le-self (c .before .before .args .bytes - 1) (512 * c .wider .result))
 
 returns-2 : tie.Need-returns-2
-returns-2 c = ap (λ d. (c .before .before .args .bytes - 1) / (512 * d) + 1) (c .wider .ensures) ∙ sym (needed-some (c .before .before .args .l) (c .before .before .pre .shape .factor-low) (c .before .before .args .bytes) (omega arith))
+returns-2 c =
+    let b = c .before .before in
+    ap (λ d. (b .args .bytes - 1) / (512 * d) + 1) (c .wider .ensures)
+    ∙ sym (needed-some (b .args .l) (b .pre .shape .factor-low) (b .args .bytes) (omega arith))
 
 pub clusters-needed-spec : {M : Type 1} → statement M
 clusters-needed-spec =
