@@ -15,7 +15,7 @@ use Rattle.model.specs.declared.Outcome.{Outcome}
 use Rattle.model.specs.declared.Outcome.the-variants.{Refused, Done, No}
 use Rattle.model.proofs.Grounds.{ends}
 use Rattle.model.proofs.Indices.{indices-length}
-use Rattle.operations.specs.Fitting.{Fit, fit, fits, fit-outcome}
+use Rattle.operations.specs.Fitting.{Fit, fit, fits-on, fits, fit-outcome}
 use Rattle.operations.proofs.Fits.{fits-clean, fit-none, fit-few, fit-found, fit-past}
 use Rattle.fat_read.specs.Located.{holds}
 
@@ -28,6 +28,7 @@ module _ (w : Window) (bytes : ℕ) where
 
   pub fits-granted : (v : Volume) → clean w ≡ granted v
       → fit-outcome (granted (fit (needed (v .layout) bytes) (free-clusters (v .layout) (fat1-of (v .layout) (w .card))))) ≡ fit-outcome (fits w bytes)
+  unfolding fits-on
   fits-granted v e = sym (ap fit-outcome (fits-clean w bytes v e))
 
 -- ---- n clusters, on a clean card

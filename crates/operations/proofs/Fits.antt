@@ -10,8 +10,6 @@ use lib.Seq.{length-take-le, getD-take}
 use borrow.Author.Tests.{lt-ltb, le-ltb}
 use Rattle.model.specs.Scan.{count-from, indices-from, nth-from}
 use Rattle.model.specs.Sector.{Window}
-use Rattle.model.specs.Fat.{fat1-of, free-clusters}
-use Rattle.model.specs.Chain.{needed}
 use Rattle.model.specs.Ground.{granted}
 use Rattle.model.specs.Volume.{clean}
 use Rattle.model.specs.declared.Volume.{Volume}
@@ -22,9 +20,8 @@ use Rattle.model.proofs.Nths.{getD-any, nth-end, nth-inside}
 use Rattle.operations.specs.Plan.{last-cluster}
 use Rattle.operations.specs.Fitting.{fit, fits, fits-on, yes, no}
 
-pub fits-clean : (w : Window) (bytes : ℕ) (v : Volume) → clean w ≡ granted v
-    → fits w bytes ≡ granted (fit (needed (v .layout) bytes) (free-clusters (v .layout) (fat1-of (v .layout) (w .card))))
-unfolding fits fits-on
+pub fits-clean : (w : Window) (bytes : ℕ) (v : Volume) → clean w ≡ granted v → fits w bytes ≡ granted (fits-on v (w .card) bytes)
+unfolding fits
 fits-clean w bytes v is = then (clean w) _ v is
 
 module _ (n : ℕ) (ks : List ℕ) where

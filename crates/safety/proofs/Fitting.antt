@@ -34,7 +34,7 @@ use Rattle.operations.specs.Plan.{added, last-cluster, new-clusters, fresh-clus
 use Rattle.operations.specs.Calls.{Call, creates, appends, replaces, plan, append, append-on, append-to, replace, replace-on, replace-file, file-of, named-file}
 use Rattle.operations.specs.Calls.{taken-by, released-by}
 use Rattle.operations.specs.Outcome.{left, largest}
-use Rattle.operations.specs.Fitting.{Fit, fit, fits, yes, no}
+use Rattle.operations.specs.Fitting.{Fit, fit, fits-on, fits, yes, no}
 use Rattle.operations.proofs.Added.{added-empty}
 use Rattle.operations.proofs.Fits.{fits-clean, fit-few, fit-enough, fit-none, fit-found}
 use Rattle.safety.specs.Demand3.{Genuine, finished}
@@ -83,6 +83,10 @@ module _ (w : Window) (v : Volume) (is : clean w ≡ granted v) where
   some-sectors : 1 ≤ l .factor
   some-sectors = let d = cleaned (w .size) c v is in rw (d .1) (fit-shape (w .size) c (d .0 .fit) .factor-low)
 
+  by-free : (bytes : ℕ) → fits w bytes ≡ granted (fit (needed l bytes) ks)
+  unfolding fits-on
+  by-free bytes = fits-clean w bytes v is
+
   -- A call that asks NOSPACE for the clusters of so many bytes, and takes the lowest free ones.
   module _ (bytes : ℕ) (k : Call) (short : length ks < needed l bytes → plan k w ≡ refused Ground.Nospace)
       (long : needed l bytes ≤ length ks → (p : Program) × (plan k w ≡ granted p)) (takes : taken-by v c k ≡ take (needed l bytes) ks) where
@@ -91,7 +95,7 @@ module _ (w : Window) (v : Volume) (is : clean w ≡ granted v) where
     tells = go (less? (length ks) (needed l bytes))
       where
         given : fits w bytes ≡ granted (fit (needed l bytes) ks)
-        given = fits-clean w bytes v is
+        given = by-free bytes
 
         top : needed l bytes ≤ length ks → fits w bytes ≡ granted (yes (highest (taken-by v c k)))
         top enough =
@@ -157,7 +161,7 @@ module _ (w : Window) (v : Volume) (is : clean w ≡ granted v) where
   lowest-of bytes k e = go (less? (length ks) (needed l bytes)) (same? (needed l bytes) 0)
     where
       given : fits w bytes ≡ granted (fit (needed l bytes) ks)
-      given = fits-clean w bytes v is
+      given = by-free bytes
 
       is-yes : (j : ℕ) → fit (needed l bytes) ks ≡ yes j → j ≡ k
       is-yes j f = let r : granted (yes j) ≡ granted (yes k) = sym (given ∙ ap granted f) ∙ e in cc
@@ -196,8 +200,8 @@ fitting-saved w v real is n d cluster room p made =
     let x : Window = left largest (creates n) w in
     let is′ : clean x ≡ granted v = after-calls (creates n) w v real is .clean-again in
     let same : fits x (d .size) ≡ fits w (d .size) =
-    fits-clean x (d .size) v is′ ∙ ap (λ ks. granted (fit (needed (v .layout) (d .size)) ks)) (create-free w v real is n p made)
-    ∙ sym (fits-clean w (d .size) v is) in
+    by-free x v is′ (d .size) ∙ ap (λ ks. granted (fit (needed (v .layout) (d .size)) ks)) (create-free w v real is n p made)
+    ∙ sym (by-free w v is (d .size)) in
     let more = fits-append x v is′ n d (created-empty w v real is n p made) .goes-on cluster (same ∙ room) in
     path-saved w v real is n d p (more .0) made (more .1)
   where

@@ -13,7 +13,7 @@ use Rattle.model.specs.declared.Outcome.{Outcome}
 use Rattle.model.specs.declared.Outcome.the-variants.{Refused, Done, No}
 use Rattle.model.specs.declared.Ground.the-variants as Ground
 use Rattle.operations.specs.Outcome.{left, outcome-number}
-use Rattle.operations.specs.Fitting.{fit, fit-outcome}
+use Rattle.operations.specs.Fitting.{fit, fits-on, fit-outcome}
 use Rattle.operations.proofs.Fits.{fits-clean}
 use Rattle.worked.specs.CardK.{k, window-k}
 use Rattle.worked.specs.Worked.{volume-k, k3, k4, m4}
@@ -30,7 +30,7 @@ abbrev free-in : Window → List ℕ
 free-in w = free-clusters (volume-k .layout) (fat1-of (volume-k .layout) (w .card))
 
 by-free : (w : Window) → clean w ≡ granted volume-k → {ks : List ℕ} → free-in w ≡ ks → (ns : List ℕ) → asked ns w ≡ computed ns ks
-unfolding asked computed
+unfolding asked computed fits-on
 by-free w is free ns = (λ t. map (λ n. fit-outcome (fits-clean w n volume-k is t)) ns) ∙ ap (computed ns) free
 
 free-k : free-in k ≡ range 10 4077
