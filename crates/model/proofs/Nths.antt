@@ -34,7 +34,7 @@ module _ (p : ℕ → Bool) where
       go true x y = refl
       go false x y = refl
 
-  -- The last of the numbers but s, from j on, after the c of the first s.
+  -- The m-th is among those after the first s, which have c: there it is number k.
   nth-drop : (i n m s c j r k : ℕ) → c ≡ count-from p i s → j ≡ i + s → r + s ≡ n → 1 ≤ k → k + c ≡ m → nth-from p i n m ≡ nth-from p j r k
   unfolding nth-from
   nth-drop i n m s c j r k counted at left some more =
@@ -81,7 +81,7 @@ pub record Placed (p : ℕ → Bool) (i m k : ℕ) : Type 0 where
   pub before : count-from p i (k - i) + 1 ≡ m
 
 module _ (p : ℕ → Bool) where
-  -- One number more at the front, of which it holds, or not: c is 1, or 0.
+  -- One number more at the front: it counts c.
   placed-on : (i m x c k : ℕ) → c ≡ count-from p i 1 → x + c ≡ m → Placed p (i + 1) x k → Placed p i m k
   placed-on i m x c k one more h =
       let low = h .low in
