@@ -195,6 +195,13 @@ create-free w v real is n p made =
     indices-same (λ j. is-free (entry (fat1-of (v .layout) t) j)) (λ j. is-free (entry (fat1-of (v .layout) (w .card)) j)) 2 (v .layout .clusters)
     (λ j lo hi. after-calls (creates n) w v real is .free-clusters-then p made j hi ∙ and-true (is-free (entry (fat1-of (v .layout) (w .card)) j)))
 
+-- Its file may be written, and is empty.
+pub created-empty : (w : Window) (v : Volume) → Genuine w → clean w ≡ granted v → (n : Span) (p : Program) → plan (creates n) w ≡ granted p
+    → Empty v (finished (creates n) w) n
+created-empty w v real is n p made =
+    let same : v ≡ volume-of (w .card) Pending.Nothing = volume-is w v is in
+    rw same (create-leaves (started w v real is) (is ∙ ap granted same) n p made)
+
 pub fitting-saved : FittingSaved
 fitting-saved w v real is n d cluster room p made =
     let x : Window = left largest (creates n) w in
@@ -204,9 +211,3 @@ fitting-saved w v real is n d cluster room p made =
     ∙ sym (by-free w v is (d .size)) in
     let more = fits-append x v is′ n d (created-empty w v real is n p made) .goes-on cluster (same ∙ room) in
     path-saved w v real is n d p (more .0) made (more .1)
-  where
-    created-empty : (w : Window) (v : Volume) → Genuine w → clean w ≡ granted v → (n : Span) (p : Program) → plan (creates n) w ≡ granted p
-        → Empty v (finished (creates n) w) n
-    created-empty w v real is n p made =
-        let same : v ≡ volume-of (w .card) Pending.Nothing = volume-is w v is in
-        rw same (create-leaves (started w v real is) (is ∙ ap granted same) n p made)

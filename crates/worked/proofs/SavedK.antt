@@ -1,4 +1,4 @@
--- The premises of what is promised of saved paths hold of card K: it is sound, and a path can be saved on it.
+-- The premises of what is promised of saved paths, and of what fits tells, hold of card K: it is sound, and a path can be saved on it.
 use Prim.Native.Nat.{ℕ, _+_, _/_}
 use native.Mathlib.Omega.{arith}
 use mathlib.Core.Path.{_≡_, refl}
@@ -14,14 +14,17 @@ use Rattle.safety.specs.Cuts.{program-of}
 use Rattle.safety.specs.Sound.{Sound}
 use Rattle.safety.specs.Saved.{Holds, KeepsOthers}
 use Rattle.safety.specs.Restored.{InOrder}
+use Rattle.safety.specs.Fitting.{Tells}
 use Rattle.worked.specs.CardK.{card-k, window-k, k, route, span}
-use Rattle.worked.specs.Worked.{volume-k}
+use Rattle.worked.specs.Worked.{volume-k, k3, m4}
 use Rattle.model.proofs.Tests.{clash}
 use Rattle.worked.proofs.Compute.{compute}
 use Rattle.worked.proofs.Rows.{first-row}
 use Rattle.worked.proofs.Instance.{k-genuine}
+use Rattle.safety.proofs.Theorem.{after-calls}
 use Rattle.safety.proofs.Saved.{path-saved}
 use Rattle.safety.proofs.Sounds.{all-keep}
+use Rattle.safety.proofs.Fitting.{created-empty, fits-append}
 
 -- No slot of it is a file.
 no-file : (s : ℕ) → is-file (slot-at (volume-k .layout) (k .card) s) ≡ false
@@ -58,3 +61,9 @@ appends-passes d = refl
 pub saved-at-k : (d : Bytes) → Holds (left largest (appends route (span 1300 d)) (left largest (creates route) k)) route 1300 d
 saved-at-k d = path-saved k volume-k k-genuine first-row route (span 1300 d) (program-of (plan (creates route) k))
     (program-of (plan (appends route (span 1300 d)) (left largest (creates route) k))) (granted-of _ creates-passes) (granted-of _ (appends-passes d))
+
+-- After M3 ROUTE.CUT is an empty file, so what fits says there is what M4 does.
+pub tells-at-k : (d : Bytes) → Tells k3 volume-k 1300 (m4 d)
+tells-at-k d =
+    fits-append k3 volume-k (after-calls (creates route) k volume-k k-genuine first-row .clean-again) route (span 1300 d)
+    (created-empty k volume-k k-genuine first-row route (program-of (plan (creates route) k)) (granted-of _ creates-passes))
