@@ -175,7 +175,7 @@ fn pass_entries(w: &[u8], fat: u32, k: u32, n: u32, v: u32, m: u32) -> u32
     end
 }
 
-// The same, sector by sector: one that holds too few is passed over by its count, and none is read after the one that decides.
+// The same, sector by sector: one that holds too few is passed over by its count, and no sector is read after the one that has it.
 pub fn find_nth(w: &[u8], fat: u32, k: u32, n: u32, v: u32, m: u32) -> u32
     requires { ⌜ (k + n < 4294967296) × (512 * fat + 2 * (k + n) ≤ length (now w)) × (1 ≤ m) ⌝ }
     ensures { λ r. ⌜ r ≡ nth-from (holds v (fat-at (card-of (now (w .entry))) fat)) k n m ⌝ }

@@ -46,7 +46,7 @@ indices p n = indices-from p 0 n
 abbrev pub range : ℕ → ℕ → List ℕ
 range i n = indices-from (λ k. true) i n
 
--- The m-th of them, the first being number 1, else i + n.
+-- The m-th of the n numbers from i on that p holds of, the first being number 1, else i + n.
 unfoldable pub nth-from : (ℕ → Bool) → ℕ → ℕ → ℕ → ℕ
 nth-from p i n m = getD (indices-from p i n) (m - 1) (i + n)
 
