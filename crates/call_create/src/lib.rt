@@ -84,6 +84,7 @@ fn rename_to(w: &mut [u8], v: Volume, f: File, name: &[u8], to: u32, limit: u32)
     let entry = f.entry;
     let o = Operation::Rename {
         entry,
+        count: 0,
         first: f.first,
         size: f.size,
         to,

@@ -106,7 +106,7 @@ module _ (l : Layout) (fits : Fits l) (t : Fat) (f : File) (h : keeps-chain l (e
 
 -- A delete frees them all.
 pub delete-is : (v : Volume) (c : Card) (f : File)
-    → delete-stores v c f ≡ operate v c [] (cut (old-fat v c) 0 (f .first) (needed (v .layout) (f .size))) (plain (Delete (f .entry) (f .first) (f .size)))
+    → delete-stores v c f ≡ operate v c [] (cut (old-fat v c) 0 (f .first) (needed (v .layout) (f .size))) (plain (Delete (f .entry) 0 (f .first) (f .size)))
 unfolding delete-stores clusters-of
 delete-is v c f = rw (release-cut (old-fat v c) (f .first) (needed (v .layout) (f .size)))
 

@@ -68,6 +68,7 @@ fn delete_file(w: &mut [u8], v: Volume, f: File, limit: u32) -> Progress
     let entry = f.entry;
     let o = Operation::Delete {
         entry,
+        count: 0,
         first: f.first,
         size: f.size,
     };

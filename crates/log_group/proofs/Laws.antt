@@ -19,7 +19,7 @@ module _ (rs : ℕ → Record) where
   unfolding operation-of
   told-update n = rw (tests 2 n 1, tests 2 n 2)
 
-  pub told-delete : rs 0 .number ≡ 3 → operation-of rs ≡ Delete (entry-in (rs 0)) (rs 0 .cluster) (rs 0 .size)
+  pub told-delete : rs 0 .number ≡ 3 → operation-of rs ≡ Delete (entry-in (rs 0)) (rs 0 .count) (rs 0 .cluster) (rs 0 .size)
   unfolding operation-of
   told-delete n = rw (tests 3 n 1, tests 3 n 2, tests 3 n 3)
 
@@ -27,7 +27,7 @@ module _ (rs : ℕ → Record) where
   unfolding operation-of
   told-truncate n = rw (tests 4 n 1, tests 4 n 2, tests 4 n 3, tests 4 n 4)
 
-  pub told-rename : rs 0 .number ≡ 5 → operation-of rs ≡ Rename (entry-in (rs 0)) (rs 0 .cluster) (rs 0 .size) (rs 1 .slot) (rs 1 .name)
+  pub told-rename : rs 0 .number ≡ 5 → operation-of rs ≡ Rename (entry-in (rs 0)) (rs 0 .count) (rs 0 .cluster) (rs 0 .size) (rs 1 .slot) (rs 1 .name)
   unfolding operation-of
   told-rename n = rw (tests 5 n 1, tests 5 n 2, tests 5 n 3, tests 5 n 4, tests 5 n 5)
 

@@ -26,6 +26,7 @@ pub fn records_of(x: Change) -> u32
         } => 1,
         Operation::Delete {
             entry: _,
+            count: _,
             first: _,
             size: _,
         } => 1,
@@ -37,6 +38,7 @@ pub fn records_of(x: Change) -> u32
         } => 1,
         Operation::Rename {
             entry: _,
+            count: _,
             first: _,
             size: _,
             to: _,
@@ -74,6 +76,7 @@ fn decode(log: &[u8], s: u32) -> Operation
         },
         3 => Operation::Delete {
             entry,
+            count: r.count,
             first: r.cluster,
             size: r.size,
         },
@@ -88,6 +91,7 @@ fn decode(log: &[u8], s: u32) -> Operation
             let renamed = d.name;
             Operation::Rename {
                 entry,
+                count: r.count,
                 first: r.cluster,
                 size: r.size,
                 to: d.slot,

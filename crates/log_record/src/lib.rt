@@ -6,7 +6,7 @@ ghost use lib.ListN.{length};
 ghost use Rattle.model.specs.Sector.{card-of};
 ghost use Rattle.model.specs.Scan.{all};
 ghost use Rattle.model.specs.Record.{record-at, group-size, pends};
-ghost use Rattle.model.specs.Pending.{slot-ok, record-ok, alike, apart, part-ok, records-ok};
+ghost use Rattle.model.specs.Pending.{slot-ok, count-ok, record-ok, alike, apart, part-ok, records-ok};
 
 // Whether record r of sector s is pending.
 pub fn pends(log: &[u8], s: u32, r: u32) -> bool
@@ -59,6 +59,13 @@ pub fn load(log: &[u8], s: u32, k: u32) -> Record
     }
 }
 
+// The long-name count.
+fn count_ok(r: Record) -> bool
+    ensures { λ t. ⌜ t ≡ count-ok r ⌝ }
+{
+    r.count == 0
+}
+
 // The fields of record 0 that are judged.
 fn record_ok(r: Record, entries: u32, z: u32) -> bool
     ensures { λ t. ⌜ t ≡ record-ok entries z r ⌝ }
@@ -75,7 +82,7 @@ fn record_ok(r: Record, entries: u32, z: u32) -> bool
     if r.high != 0 {
         return false;
     }
-    if r.count != 0 {
+    if !count_ok(r) {
         return false;
     }
     if 65536 <= r.from {
@@ -109,7 +116,7 @@ fn is_alike(r: Record, d: Record) -> bool
     r.size == d.size
 }
 
-// Whether each of the first n records of sector s names another slot than k.
+// Whether none of the first n records of sector s has slot k: as its own, or among those before it that its count tells of.
 fn is_apart(log: &[u8], s: u32, n: u32, k: u32) -> bool
     requires { ⌜ (512 * s + 512 ≤ length (now log)) × (n ≤ 16) ⌝ }
     ensures { λ t. ⌜ t ≡ all (apart (record-at (card-of (now (log .entry)) s)) k) n ⌝ }
@@ -117,7 +124,7 @@ fn is_apart(log: &[u8], s: u32, n: u32, k: u32) -> bool
     let mut i = 0;
     while i < n {
         let r = load(log, s, i);
-        if r.slot == k {
+        if root_names::has_slot(r.slot, r.count, k) {
             return false;
         }
         i += 1;

@@ -104,14 +104,14 @@ fn record_bytes(r: Record) -> [u8; 32]
 }
 
 // A record about an entry.
-fn record_about(e: Entry, number: u32, cluster: u32, from: u32, size: u32) -> Record
-    ensures { λ r. ⌜ r ≡ record-of e number cluster from size ⌝ }
+fn record_about(e: Entry, number: u32, count: u32, cluster: u32, from: u32, size: u32) -> Record
+    ensures { λ r. ⌜ r ≡ record-of e number count cluster from size ⌝ }
 {
     let name = e.name;
     Record {
         name,
         attributes: e.attributes,
-        count: 0,
+        count,
         number,
         directory: 0,
         slot: e.slot,
@@ -129,43 +129,49 @@ fn record_of(x: Change, k: u32) -> Record
 {
     let o = x.operation;
     match o {
-        Operation::Create { entry } => record_about(entry, 1, 0, 0, 0),
+        Operation::Create { entry } => record_about(entry, 1, 0, 0, 0, 0),
         Operation::Update {
             entry,
             last,
             from,
             size,
-        } => record_about(entry, 2, last, from, size),
-        Operation::Delete { entry, first, size } => record_about(entry, 3, first, 0, size),
+        } => record_about(entry, 2, 0, last, from, size),
+        Operation::Delete {
+            entry,
+            count,
+            first,
+            size,
+        } => record_about(entry, 3, count, first, 0, size),
         Operation::Truncate {
             entry,
             first,
             from,
             size,
-        } => record_about(entry, 4, first, from, size),
+        } => record_about(entry, 4, 0, first, from, size),
         Operation::Rename {
             entry,
+            count,
             first,
             size,
             to,
             renamed,
         } => {
             if k == 0 {
-                return record_about(entry, 5, first, 0, size);
+                return record_about(entry, 5, count, first, 0, size);
             }
             let e = Entry {
                 slot: to,
                 name: renamed,
                 attributes: entry.attributes,
             };
-            record_about(e, 0, first, 0, size)
+            record_about(e, 0, count, first, 0, size)
         }
         Operation::Replace {
             entry,
             first,
             from,
             size,
-        } => record_about(entry, 6, first, from, size),
+        } => record_about(entry, 6, 0, first, from, size),
     }
 }
 

@@ -18,6 +18,7 @@ pub mod Walks
 pub mod Chains
 pub mod Changes
 pub mod Root
+pub mod Long
 pub mod Order
 pub mod Names
 pub mod Records

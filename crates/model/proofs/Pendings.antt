@@ -9,12 +9,13 @@ use lib.Dec.{eqb, ltb, leb}
 use lib.ListN.{length, getD}
 use borrow.Author.Tests.{eq-eqb, eqb-true, lt-ltb, le-ltb, ltb-false, ltb-true, le-leb, leb-true, ne-eqb}
 use Rattle.model.specs.Bytes.{Bytes, zeros, pick, byte-of, overlay}
-use Rattle.model.specs.Scan.{first, every, between, all-from, walk}
+use Rattle.model.specs.Scan.{first, every, between, all-from, walk, among}
 use Rattle.model.specs.Sector.{clip}
+use Rattle.model.specs.Long.{name-slots}
 use Rattle.model.specs.Log.{Log}
 use Rattle.model.specs.Record.{pends, tells, committed, record-bytes, record-of, encode, lay, records, group-size, record-at}
 use Rattle.model.specs.Record.{change-of, group-of, group-in, last-number}
-use Rattle.model.specs.Pending.{pending-in, first-pending, pending-at, accepted, slot-ok, record-ok, part-ok, alike, records-ok, empty-from, group-ok}
+use Rattle.model.specs.Pending.{pending-in, first-pending, pending-at, accepted, slot-ok, count-ok, record-ok, part-ok, alike, records-ok, empty-from, group-ok}
 use Rattle.model.specs.Pending.{alone}
 use Rattle.model.specs.declared.Area.{Area}
 use Rattle.model.specs.declared.Entry.{Entry}
@@ -199,27 +200,33 @@ recorded n z x fits one more live =
       live,
     )
 
-pub record-fine : (n z : ℕ) (e : Entry) (number k from size : ℕ) → 1 ≤ number → number ≤ last-number → from < 65536 → Seat n z (e .slot)
-    → record-ok n z (record-of e number k from size) ≡ true
+pub record-fine : (n z : ℕ) (e : Entry) (number count k from size : ℕ) → 1 ≤ number → number ≤ last-number → count-ok (record-of e number count k from size) ≡ true
+    → from < 65536 → Seat n z (e .slot) → record-ok n z (record-of e number count k from size) ≡ true
 unfolding record-ok record-of
-record-fine n z e number k from size low high small seat =
-    each-every _ (between-is 1 last-number number low high also refl also refl also refl also lt-ltb from 65536 small also slot-read n z (e .slot) seat also tt)
+record-fine n z e number count k from size low high counted small seat =
+    each-every _ (between-is 1 last-number number low high also refl also refl also counted also lt-ltb from 65536 small also slot-read n z (e .slot) seat also tt)
+
+-- A record without entries of a long name.
+pub none-counted : (e : Entry) (number k from size : ℕ) → count-ok (record-of e number 0 k from size) ≡ true
+unfolding count-ok record-of
+none-counted e number k from size = refl
 
 -- The numbers that RECORD takes of record 0: 1 to 6 and no others.
-numbers : (e : Entry) → map (λ n. record-ok 1 0 (record-of (record { slot = 0; name = e .name; attributes = e .attributes }) n 0 0 0))
+numbers : (e : Entry) → map (λ n. record-ok 1 0 (record-of (record { slot = 0; name = e .name; attributes = e .attributes }) n 0 0 0 0))
     (0 ∷ 1 ∷ 2 ∷ 3 ∷ 4 ∷ 5 ∷ 6 ∷ 7 ∷ 255 ∷ []) ≡ false ∷ true ∷ true ∷ true ∷ true ∷ true ∷ true ∷ false ∷ false ∷ []
-unfolding record-ok record-of every between slot-ok
+unfolding record-ok count-ok record-of every between slot-ok
 numbers e = refl
 
 -- The second of two records, with another name, number and slot.
-pub part-fine : (n z : ℕ) (e f : Entry) (number k from size : ℕ) → f .attributes ≡ e .attributes → Seat n z (f .slot) → (e .slot ≡ f .slot → ⊥) → (i : ℕ)
-    → 1 ≤ i → i < 2 → part-ok n z (listed (record-of e number k from size ∷ record-of f 0 k from size ∷ [])) i ≡ true
+pub part-fine : (n z : ℕ) (e f : Entry) (number count k from size : ℕ) → f .attributes ≡ e .attributes → Seat n z (f .slot)
+    → among (name-slots (e .slot) count) (f .slot) ≡ false → (i : ℕ)
+    → 1 ≤ i → i < 2 → part-ok n z (listed (record-of e number count k from size ∷ record-of f 0 count k from size ∷ [])) i ≡ true
 unfolding part-ok alike record-of all-from walk
-part-fine n z e f number k from size same seat ne zero low less = absurd (omega arith)
-part-fine n z e f number k from size same seat ne (suc zero) low less =
-    each-every _ (each-every _ (eq-eqb (e .attributes) (f .attributes) (sym same) also refl also refl also refl also eq-eqb from from refl also eq-eqb k k refl
-    also eq-eqb size size refl also tt) also slot-read n z (f .slot) seat also (rw (ne-eqb (e .slot) (f .slot) ne)) also tt)
-part-fine n z e f number k from size same seat ne (suc (suc i)) low less = absurd (omega arith)
+part-fine n z e f number count k from size same seat off zero low less = absurd (omega arith)
+part-fine n z e f number count k from size same seat off (suc zero) low less =
+    each-every _ (each-every _ (eq-eqb (e .attributes) (f .attributes) (sym same) also eq-eqb count count refl also refl also refl
+    also eq-eqb from from refl also eq-eqb k k refl also eq-eqb size size refl also tt) also slot-read n z (f .slot) seat also (rw off) also tt)
+part-fine n z e f number count k from size same seat off (suc (suc i)) low less = absurd (omega arith)
 
 record-first : (r : Record) → record-bytes r 0 ≡ byte-of (r .name .stem) 0
 unfolding record-bytes overlay

@@ -45,13 +45,13 @@ pub record RecordFits (r : Record) : Type 0 where
   pub size : r .size < 256 ^ 4
 
 -- A record about an entry.
-pub entry-record : (e : Entry) (number cluster from size : ℕ) → number < 256 → EntryFits e → cluster < 256 ^ 2 → from < 256 ^ 4 → size < 256 ^ 4
-    → RecordFits (record-of e number cluster from size)
+pub entry-record : (e : Entry) (number count cluster from size : ℕ) → number < 256 → count < 256 → EntryFits e → cluster < 256 ^ 2 → from < 256 ^ 4
+    → size < 256 ^ 4 → RecordFits (record-of e number count cluster from size)
 unfolding record-of
-entry-record e number cluster from size n h c f s = record {
+entry-record e number count cluster from size n m h c f s = record {
   name = h .name;
   attributes = h .attributes;
-  count = omega arith;
+  count = m;
   number = n;
   directory = omega arith;
   slot = h .slot;
@@ -149,9 +149,9 @@ operation-told : (o : Operation) → operation-of (listed (operation-records o))
 unfolding operation-of operation-records record-of
 operation-told (Create e) = refl
 operation-told (Update e last from size) = refl
-operation-told (Delete e first size) = refl
+operation-told (Delete e count first size) = refl
 operation-told (Truncate e first from size) = refl
-operation-told (Rename e first size to renamed) = refl
+operation-told (Rename e count first size to renamed) = refl
 operation-told (Replace e first from size) = refl
 
 pub plain-told : (o : Operation) → change-of (listed (records (plain o))) ≡ plain o

@@ -55,6 +55,10 @@ pub or-false : (a b : Bool) → (a || b) ≡ false → (a ≡ false) × (b ≡ f
 or-false true b h = clash refl h
 or-false false b h = (refl, h)
 
+pub or-assoc : (a b c : Bool) → ((a || b) || c) ≡ (a || (b || c))
+or-assoc true b c = refl
+or-assoc false b c = refl
+
 -- Two tests of orders that follow from each other.
 pub leb-same : (a b c d : ℕ) → (a ≤ b → c ≤ d) → (b < a → d < c) → leb a b ≡ leb c d
 leb-same a b c d f g = go (leb a b) refl

@@ -5,6 +5,7 @@ pub mod Boot
 pub mod Fat
 pub mod Chain
 pub mod Root
+pub mod Long
 pub mod Log
 pub mod Record
 pub mod Pending

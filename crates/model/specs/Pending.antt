@@ -4,9 +4,10 @@ use mathlib.Core.List.{[], _∷_}
 use mathlib.Core.Bool.{Bool, true, false, _&&_, _||_, not}
 use lib.Dec.{leb, ltb, eqb}
 use Rattle.model.specs.Bytes.{Bytes, pick}
-use Rattle.model.specs.Scan.{every, between, first, all, all-from}
+use Rattle.model.specs.Scan.{every, between, first, all, all-from, among}
 use Rattle.model.specs.Sector.{Card}
 use Rattle.model.specs.Root.{first-bytes, end-slot}
+use Rattle.model.specs.Long.{name-slots}
 use Rattle.model.specs.Log.{Log, log-of}
 use Rattle.model.specs.Record.{last-number, record-at, group-size, pends}
 use Rattle.model.specs.declared.Record.{Record}
@@ -26,12 +27,15 @@ first-pending n g = first (pending-at g) (16 * n)
 unfoldable pub slot-ok : ℕ → ℕ → ℕ → Bool
 slot-ok n z s = ltb s n && leb s z
 
--- "operation 1 to 5" and 6 ("RECORD takes operation 6"), "directory cluster, high word and long-name count 0, DIR_Cluster below
--- 65,536, slots .."
+-- "long-name count 0"
+unfoldable pub count-ok : Record → Bool
+count-ok r = eqb (r .count) 0
+
+-- "operation 1 to 5" and 6 ("RECORD takes operation 6"), "directory cluster, high word .. 0, DIR_Cluster below 65,536, slots .."
 unfoldable pub record-ok : ℕ → ℕ → Record → Bool
 record-ok n z r =
     every (
-    between 1 last-number (r .number) ∷ eqb (r .directory) 0 ∷ eqb (r .high) 0 ∷ eqb (r .count) 0
+    between 1 last-number (r .number) ∷ eqb (r .directory) 0 ∷ eqb (r .high) 0 ∷ count-ok r
     ∷ ltb (r .from) 65536 ∷ slot-ok n z (r .slot) ∷ [])
 
 -- "alike but for name, operation and slot"
@@ -41,9 +45,9 @@ alike r d =
     eqb (r .attributes) (d .attributes) ∷ eqb (r .count) (d .count) ∷ eqb (r .directory) (d .directory)
     ∷ eqb (r .high) (d .high) ∷ eqb (r .from) (d .from) ∷ eqb (r .cluster) (d .cluster) ∷ eqb (r .size) (d .size) ∷ [])
 
--- Record i names another slot than s.
+-- Slot s is none of those of record i: its slot, and as many before it as its count says.
 abbrev pub apart : (ℕ → Record) → ℕ → ℕ → Bool
-apart rs s i = not (eqb (rs i .slot) s)
+apart rs s i = not (among (name-slots (rs i .slot) (rs i .count)) s)
 
 -- Record k of a group, a "part of the record before": "for rename two different slots, both records .. alike".
 unfoldable pub part-ok : ℕ → ℕ → (ℕ → Record) → ℕ → Bool

@@ -69,12 +69,12 @@ record-in b = record {
   size = r-size b;
 }
 
--- A record about an entry. "Long-name count, directory cluster and high word are 0 here."
-unfoldable pub record-of : Entry → ℕ → ℕ → ℕ → ℕ → Record
-record-of e number cluster from size = record {
+-- A record about an entry. "Directory cluster and high word are 0 here."
+unfoldable pub record-of : Entry → ℕ → ℕ → ℕ → ℕ → ℕ → Record
+record-of e number count cluster from size = record {
   name = e .name;
   attributes = e .attributes;
-  count = 0;
+  count = count;
   number = number;
   directory = 0;
   slot = e .slot;
@@ -90,16 +90,17 @@ last-number = 6
 
 -- "First/last: create 0; update, the last cluster before; others, the first cluster." "DIR_Cluster: update and truncate; others 0."
 -- "Size: 0 for create." "Rename's record 1 is record 0 with the new name, operation 0 and the new slot." Replace: "The record has
--- operation 6, the old first cluster in first/last, the new first cluster (0 for no bytes) in DIR_Cluster, and the new size."
+-- operation 6, the old first cluster in first/last, the new first cluster (0 for no bytes) in DIR_Cluster, and the new size." Delete and
+-- rename: "The record's long-name count holds how many there are"; in all others it is 0.
 unfoldable pub operation-records : Operation → List Record
-operation-records (Create e) = record-of e 1 0 0 0 ∷ []
-operation-records (Update e last from size) = record-of e 2 last from size ∷ []
-operation-records (Delete e first size) = record-of e 3 first 0 size ∷ []
-operation-records (Truncate e first from size) = record-of e 4 first from size ∷ []
-operation-records (Rename e first size to renamed) =
-    record-of e 5 first 0 size
-    ∷ record-of (record { slot = to; name = renamed; attributes = e .attributes }) 0 first 0 size ∷ []
-operation-records (Replace e first from size) = record-of e 6 first from size ∷ []
+operation-records (Create e) = record-of e 1 0 0 0 0 ∷ []
+operation-records (Update e last from size) = record-of e 2 0 last from size ∷ []
+operation-records (Delete e count first size) = record-of e 3 count first 0 size ∷ []
+operation-records (Truncate e first from size) = record-of e 4 0 first from size ∷ []
+operation-records (Rename e count first size to renamed) =
+    record-of e 5 count first 0 size
+    ∷ record-of (record { slot = to; name = renamed; attributes = e .attributes }) 0 count first 0 size ∷ []
+operation-records (Replace e first from size) = record-of e 6 0 first from size ∷ []
 
 unfoldable pub records : Change → List Record
 records x = operation-records (x .operation)
@@ -129,9 +130,9 @@ operation-of rs =
     let e = entry-in r in
     pick (eqb (r .number) 1) (Create e)
     (pick (eqb (r .number) 2) (Update e (r .cluster) (r .from) (r .size))
-    (pick (eqb (r .number) 3) (Delete e (r .cluster) (r .size))
+    (pick (eqb (r .number) 3) (Delete e (r .count) (r .cluster) (r .size))
     (pick (eqb (r .number) 4) (Truncate e (r .cluster) (r .from) (r .size))
-    (pick (eqb (r .number) 5) (Rename e (r .cluster) (r .size) (rs 1 .slot) (rs 1 .name))
+    (pick (eqb (r .number) 5) (Rename e (r .count) (r .cluster) (r .size) (rs 1 .slot) (rs 1 .name))
     (Replace e (r .cluster) (r .from) (r .size))))))
 
 -- The change that they tell.

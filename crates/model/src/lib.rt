@@ -77,7 +77,8 @@ pub enum Access {
     Write,
 }
 
-// The operations that the log can hold, each with its own fields. `from` is DIR_Cluster.
+// The operations that the log can hold, each with its own fields. `from` is DIR_Cluster, `count` how many entries of a long name stand
+// directly before the slot.
 pub enum Operation {
     Create {
         entry: Entry,
@@ -90,6 +91,7 @@ pub enum Operation {
     },
     Delete {
         entry: Entry,
+        count: u32,
         first: u32,
         size: u32,
     },
@@ -101,6 +103,7 @@ pub enum Operation {
     },
     Rename {
         entry: Entry,
+        count: u32,
         first: u32,
         size: u32,
         to: u32,

@@ -19,13 +19,14 @@ unfolding ones onesIn
     Rattle.model.specs.Root.padded Rattle.model.specs.Root.name-ok Rattle.model.specs.Root.same-name Rattle.model.specs.Root.bears
     Rattle.model.specs.Root.lowest-slot Rattle.model.specs.Root.find Rattle.model.specs.Root.free-run Rattle.model.specs.Root.end-slot
     Rattle.model.specs.Root.root-ok Rattle.model.specs.Root.entry-at Rattle.model.specs.Root.file-at Rattle.model.specs.Root.is-locked
-    Rattle.model.specs.Root.slot-holds Rattle.model.specs.Root.lookup
+    Rattle.model.specs.Root.slot-holds Rattle.model.specs.Root.lookup Rattle.model.specs.Long.name-slots
     Rattle.model.specs.Log.run Rattle.model.specs.Log.run-ok Rattle.model.specs.Log.area Rattle.model.specs.Log.unused
     Rattle.model.specs.Record.record-bytes Rattle.model.specs.Record.record-of Rattle.model.specs.Record.operation-records Rattle.model.specs.Record.records
     Rattle.model.specs.Record.lay Rattle.model.specs.Record.encode Rattle.model.specs.Record.operation-of Rattle.model.specs.Record.change-of
     Rattle.model.specs.Record.group-size Rattle.model.specs.Record.tells Rattle.model.specs.Record.pends Rattle.model.specs.Record.committed
     Rattle.model.specs.Record.commit
     Rattle.model.specs.Pending.first-pending Rattle.model.specs.Pending.slot-ok Rattle.model.specs.Pending.record-ok Rattle.model.specs.Pending.alike
+    Rattle.model.specs.Pending.count-ok
     Rattle.model.specs.Pending.part-ok Rattle.model.specs.Pending.records-ok Rattle.model.specs.Pending.empty-from Rattle.model.specs.Pending.group-ok
     Rattle.model.specs.Pending.alone Rattle.model.specs.Pending.accepted Rattle.model.specs.Record.group-in Rattle.model.specs.Pending.pending-in
     Rattle.model.specs.Pending.pending

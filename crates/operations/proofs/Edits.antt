@@ -5,23 +5,25 @@ use native.Mathlib.Omega.{arith}
 use native.Mathlib.Nat.{mod-lt}
 use mathlib.Core.Path.{_≡_, refl, sym, ap, _∙_, subst}
 use mathlib.Core.Logic.{_⊎_, inl, inr, ⊎-elim}
-use mathlib.Core.List.{List, [], _∷_, map}
-use mathlib.Core.Bool.{Bool, true, false, _&&_}
+use mathlib.Core.List.{List, [], _∷_, _++_, map, append-nil}
+use mathlib.Core.Bool.{Bool, true, false, _&&_, _||_}
 use lib.Dec.{leb, ltb, eqb}
 use borrow.Author.Tests.{eq-eqb, ne-eqb, eqb-false}
 use Rattle.model.specs.Bytes.{Bytes, overlay, pick, byte-of, patch, zeros}
-use Rattle.model.specs.Scan.{any}
+use Rattle.model.specs.Scan.{any, among}
 use Rattle.model.specs.Sector.{Card, clip}
 use Rattle.model.specs.Root.{Directory, root-place, slot-at}
+use Rattle.model.specs.Long.{name-slots}
 use Rattle.model.specs.declared.Layout.{Layout}
 use Rattle.model.specs.declared.Name.{Name}
 use Rattle.model.specs.declared.Change.{Change}
 use Rattle.model.specs.declared.Operation.{Operation}
 use Rattle.model.specs.declared.Operation.the-variants.{Create, Update, Delete, Truncate, Rename, Replace}
-use Rattle.operations.specs.Finish.{set-size, set-first, mark-deleted, set-name, new-entry, Edit, edit, edit-from, set-slots, operation-edits, edits}
+use Rattle.operations.specs.Finish.{set-size, set-first, mark-deleted, set-name, new-entry, Edit, edit, edit-from, set-slots, marks, operation-edits, edits}
 use Rattle.operations.specs.Finish.{effect, Slots, root-sector, concerns}
-use Rattle.model.proofs.Tests.{told, less?, same?, or-false}
-use Rattle.model.proofs.All.{All}
+use Rattle.model.proofs.Tests.{told, less?, same?, or-false, or-assoc, clash}
+use Rattle.model.proofs.All.{All, all-append, all-image, all-map}
+use Rattle.model.proofs.Long.{of-name, each-among}
 use Rattle.model.proofs.Cards.{clip-at}
 use Rattle.model.proofs.Overlays.{overlay-in, overlay-above}
 
@@ -68,7 +70,7 @@ laid-again : (f : Bytes → Bytes) (j : ℕ) → Laid f j → Over f f j
 laid-again f j (inl k) b x e = k .2 x ∙ sym (k .2 b)
 laid-again f j (inr k) b x e = k x ∙ e
 
-laid-local : (f : Bytes → Bytes) (j : ℕ) → Laid f j → Over f (λ b. b) j
+pub laid-local : (f : Bytes → Bytes) (j : ℕ) → Laid f j → Over f (λ b. b) j
 laid-local f j (inl k) b x e = k .2 x ∙ sym (k .2 b)
 laid-local f j (inr k) b x e = k x ∙ e ∙ sym (k b)
 
@@ -114,7 +116,7 @@ pub set-out : (e : Edit) (es : List Edit) (d : Directory) (k : ℕ) → (k ≡ e
 unfolding set-slots
 set-out e es d k h = rw (ne-eqb k (e .slot) h)
 
--- Slot k after edits, by the first edit of it: what the edit makes of bytes b that agree with those that it reads; and by the others.
+-- Slot k after edits, by the first edit of it: what the edit makes of bytes b that agree with those that it reads.
 pub edit-made : (e : Edit) (es : List Edit) (d : Directory) (k j : ℕ) (b : Bytes) → k ≡ e .slot → Laid (e .change) j → b j ≡ d (e .source) j
     → e .change b j ≡ set-slots (e ∷ es) d k j
 edit-made e es d k j b h own same = laid-local (e .change) j own (d (e .source)) b same ∙ sym (λ t. set-in e es d k h t j)
@@ -122,9 +124,6 @@ edit-made e es d k j b h own same = laid-local (e .change) j own (d (e .source))
 pub own-made : (s : ℕ) (f : Bytes → Bytes) (es : List Edit) (d : Directory) (k j : ℕ) (b : Bytes) → k ≡ s → Laid f j → b j ≡ d k j
     → f b j ≡ set-slots (edit s f ∷ es) d k j
 own-made s f es d k j b h own same = edit-made (edit s f) es d k j b h own (same ∙ ap (λ (i : ℕ). d i j) h)
-
-pub edit-past : (e : Edit) (es : List Edit) (d : Directory) (k j v : ℕ) → (k ≡ e .slot → ⊥) → v ≡ set-slots es d k j → v ≡ set-slots (e ∷ es) d k j
-edit-past e es d k j v ne h = h ∙ sym (λ t. set-out e es d k ne t j)
 
 pub edits-out : (es : List Edit) (d : Directory) (k : ℕ) → All (λ e. k ≡ e .slot → ⊥) es → set-slots es d k ≡ d k
 unfolding set-slots
@@ -184,6 +183,43 @@ all-same n whole [] d x j near w a = tt
 all-same n whole (e ∷ es) d x j near w a =
     (reads-same whole e d x j (a .0 .0) (a .0 .1) (near (e .source) (w .0 .1)), all-same n whole es d x j near (w .1) (a .1))
 
+-- ---- slots marked as deleted, and other edits after them
+
+module _ (rest : List Edit) where
+  -- A slot that is marked, and one that is not.
+  pub marks-in : (ks : List ℕ) (d : Directory) (k : ℕ) → among ks k ≡ true → set-slots (marks ks ++ rest) d k ≡ mark-deleted (d k)
+  unfolding any
+  marks-in [] d k h = clash h refl
+  marks-in (i ∷ ks) d k h = ⊎-elim
+      (λ e. set-in (edit i (λ b. mark-deleted b)) (marks ks ++ rest) d k e ∙ ap (λ (i : ℕ). mark-deleted (d i)) (sym e))
+      (λ ne. set-out (edit i (λ b. mark-deleted b)) (marks ks ++ rest) d k ne ∙ marks-in ks d k (rw (ne-eqb k i ne) at h)) (same? k i)
+
+  pub marks-out : (ks : List ℕ) (d : Directory) (k : ℕ) → among ks k ≡ false → set-slots (marks ks ++ rest) d k ≡ set-slots rest d k
+  unfolding any
+  marks-out [] d k h = refl
+  marks-out (i ∷ ks) d k h =
+      let r = or-false (eqb k i) (among ks k) h in
+      set-out (edit i (λ b. mark-deleted b)) (marks ks ++ rest) d k (eqb-false k i (r .0)) ∙ marks-out ks d k (r .1)
+
+  -- A test of the slots.
+  pub marks-any : (q : ℕ → Bool) (ks : List ℕ) → any (map (λ e. q (e .slot)) (marks ks ++ rest)) ≡ (any (map q ks) || any (map (λ e. q (e .slot)) rest))
+  unfolding any
+  marks-any q [] = refl
+  marks-any q (k ∷ ks) = ap (λ t. q k || t) (marks-any q ks) ∙ sym (or-assoc (q k) (any (map q ks)) _)
+
+  -- An edit made of a marked slot, which makes the same of it whether it is marked or not.
+  marks-bear : (ks : List ℕ) (e : Edit) (j : ℕ) → among ks (e .source) ≡ true → Over (e .change) (λ b. mark-deleted b) j → Bears (marks ks ++ rest) e j
+  unfolding any
+  marks-bear [] e j h over = clash h refl
+  marks-bear (i ∷ ks) e j h over = ((λ q. (sym q, over)), λ ne. marks-bear ks e j (rw (ne-eqb (e .source) i ne) at h) over)
+
+  marks-again : (ks : List ℕ) (j : ℕ) → All (λ e. Laid (e .change) j × Bears (marks ks ++ rest) e j) rest → Again (marks ks ++ rest) j
+  marks-again ks j a =
+      all-append (λ e. Laid (e .change) j × Bears (marks ks ++ rest) e j) (marks ks) rest
+      (all-image (λ e. Laid (e .change) j × Bears (marks ks ++ rest) e j) (λ k. edit k (λ b. mark-deleted b)) ks
+      (all-map (λ k. among ks k ≡ true) (λ k. Laid (λ b. mark-deleted b) j × Bears (marks ks ++ rest) (edit k (λ b. mark-deleted b)) j)
+      (λ k h. (laid-mark j, marks-bear ks (edit k (λ b. mark-deleted b)) j h (laid-again (λ b. mark-deleted b) j (laid-mark j)))) ks (each-among ks))) a
+
 -- ---- operations
 
 -- What each operation supplies: an edit of a slot's own bytes may be made again, and a rename's new name covers the old slot's mark.
@@ -195,13 +231,15 @@ unfolding operation-edits
 operation-again (Create e) j = own-again (e .slot) (λ b. new-entry (e .name)) j (laid-new (e .name) j)
 operation-again (Update e last from size) j =
     own-again (e .slot) (λ b. set-size size (pick (eqb last 0) (set-first from b) b)) j (laid-resized (eqb last 0) from size j)
-operation-again (Delete e first size) j = own-again (e .slot) (λ b. mark-deleted b) j (laid-mark j)
+operation-again (Delete e count first size) j =
+    subst (λ es. Again es j) (append-nil (marks (name-slots (e .slot) count))) (marks-again [] (name-slots (e .slot) count) j tt)
 operation-again (Truncate e first from size) j =
     own-again (e .slot) (λ b. set-size size (pick (eqb size 0) (set-first 0 b) b)) j (laid-resized (eqb size 0) 0 size j)
-operation-again (Rename e first size to renamed) j = (
-  (laid-mark j, ((λ _. (refl, laid-again (λ b. mark-deleted b) j (laid-mark j))), λ ne. absurd (ne refl))),
-  ((laid-name renamed j, ((λ _. (refl, name-over renamed j)), λ ne. absurd (ne refl))), tt),
-)
+operation-again (Rename e count first size to renamed) j =
+    let ks : List ℕ = name-slots (e .slot) count in
+    let named : Edit = edit-from (e .slot) to (λ b. set-name renamed b) in
+    marks-again (named ∷ []) ks j
+    ((laid-name renamed j, marks-bear (named ∷ []) ks named j (of-name (e .slot) count (e .slot) (omega arith, omega arith)) (name-over renamed j)), tt)
 operation-again (Replace e first from size) j = own-again (e .slot) (λ b. set-size size (set-first from b)) j (laid-resized true from size j)
 
 pub again : (o : Change) (j : ℕ) → Again (edits o) j

@@ -9,6 +9,7 @@ use Rattle.model.specs.Promises.{All}
 use Rattle.model.specs.Sector.{Card, Store, store}
 use Rattle.model.specs.Fat.{fat1-of, fat2-of, write-fat}
 use Rattle.model.specs.Root.{Directory, root-place, slot-at}
+use Rattle.model.specs.Long.{name-slots}
 use Rattle.model.specs.Record.{commit}
 use Rattle.model.specs.declared.Layout.{Layout}
 use Rattle.model.specs.declared.Name.{Name}
@@ -48,20 +49,25 @@ set-size n b = patch 4 n 28 b
 abbrev pub mark-deleted : Bytes → Bytes
 mark-deleted b = patch 1 0xE5 0 b
 
+-- Slots marked as deleted.
+abbrev pub marks : List ℕ → List Edit
+marks ks = map (λ k. edit k (λ b. mark-deleted b)) ks
+
 -- "attributes 0x20, the three dates 0x0021, all else 0 but the name"
 unfoldable pub new-entry : Name → Bytes
 new-entry n = set-name n (patch 1 0x20 11 (patch 2 0x21 16 (patch 2 0x21 18 (patch 2 0x21 24 zeros))))
 
 -- "Root effect. Create: a new slot .. Update: size; first cluster becomes DIR_Cluster if the last was 0. Truncate: size; first
 -- cluster 0 if size is 0. Delete: first byte 0xE5. Rename: the new slot gets the new name and bytes 11 to 31 of the old, the old
--- gets 0xE5." Replace: "The root slot gets that first cluster and size", those of the record.
+-- gets 0xE5." Delete and rename "also mark the old name's long entries with 0xE5", as many as the record's count says. Replace: "The root
+-- slot gets that first cluster and size", those of the record.
 unfoldable pub operation-edits : Operation → List Edit
 operation-edits (Create e) = edit (e .slot) (λ b. new-entry (e .name)) ∷ []
 operation-edits (Update e last from size) = edit (e .slot) (λ b. set-size size (pick (eqb last 0) (set-first from b) b)) ∷ []
-operation-edits (Delete e first size) = edit (e .slot) (λ b. mark-deleted b) ∷ []
+operation-edits (Delete e count first size) = marks (name-slots (e .slot) count)
 operation-edits (Truncate e first from size) = edit (e .slot) (λ b. set-size size (pick (eqb size 0) (set-first 0 b) b)) ∷ []
-operation-edits (Rename e first size to renamed) =
-    edit (e .slot) (λ b. mark-deleted b) ∷ edit-from (e .slot) to (λ b. set-name renamed b) ∷ []
+operation-edits (Rename e count first size to renamed) =
+    marks (name-slots (e .slot) count) ++ (edit-from (e .slot) to (λ b. set-name renamed b) ∷ [])
 operation-edits (Replace e first from size) = edit (e .slot) (λ b. set-size size (set-first from b)) ∷ []
 
 unfoldable pub edits : Change → List Edit

@@ -123,10 +123,10 @@ truncate-stores v c f size =
 
 unfoldable pub delete-stores : Volume → Card → File → Program
 delete-stores v c f =
-    operate v c [] (release (clusters-of (v .layout) (old-fat v c) f) (old-fat v c)) (plain (Delete (f .entry) (f .first) (f .size)))
+    operate v c [] (release (clusters-of (v .layout) (old-fat v c) f) (old-fat v c)) (plain (Delete (f .entry) 0 (f .first) (f .size)))
 
 unfoldable pub rename-stores : Volume → Card → File → ℕ → Name → Program
-rename-stores v c f s name = operate v c [] (old-fat v c) (plain (Rename (f .entry) (f .first) (f .size) s name))
+rename-stores v c f s name = operate v c [] (old-fat v c) (plain (Rename (f .entry) 0 (f .first) (f .size) s name))
 
 -- Replace "takes new clusters, for which the old ones do not count as free": the lowest free ones, as many as n bytes need.
 unfoldable pub fresh-clusters : Volume → Card → ℕ → List ℕ

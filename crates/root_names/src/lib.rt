@@ -1,10 +1,12 @@
-// Names of 8 and 3 bytes: the rule that they keep, and the numbers in them.
+// Names of 8 and 3 bytes: the rule that they keep, the numbers in them, and the slots that a name takes.
 use model::Name;
 ghost use mathlib.Core.Path.{_≡_};
 ghost use Prim.Native.Nat.{_+_, _*_, _≤_};
 ghost use lib.ListN.{length};
 ghost use Rattle.model.specs.Bytes.{bytes-of, part, view};
+ghost use Rattle.model.specs.Scan.{among};
 ghost use Rattle.model.specs.Sector.{card-of};
+ghost use Rattle.model.specs.Long.{name-slots};
 ghost use Rattle.model.specs.Root.{name-byte, stem-length, padded, name-ok, name-in};
 
 // Capital letters, digits and ! # $ % & ' ( ) - @ ^ _ ` { } ~
@@ -80,4 +82,14 @@ pub fn name_of(s: &[u8]) -> Name
     ensures { λ r. ⌜ r ≡ name-in (bytes-of (now (s .entry))) ⌝ }
 {
     name_at(s, 0, 0)
+}
+
+// Whether slot k is slot s of a name, or one of the n directly before it, which entries of its long name take.
+pub fn has_slot(s: u32, n: u32, k: u32) -> bool
+    ensures { λ r. ⌜ r ≡ among (name-slots s n) k ⌝ }
+{
+    if s < k {
+        return false;
+    }
+    s - k <= n
 }

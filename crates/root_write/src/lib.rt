@@ -11,6 +11,10 @@ ghost use Rattle.model.specs.Sector.{card-of};
 ghost use Rattle.model.specs.Root.{slot-at};
 ghost use Rattle.model.specs.Promises.{Held, Ran};
 ghost use Rattle.operations.specs.Finish.{Slots, mark-deleted, effect, root-sector, concerns, root-stores};
+ghost use Rattle.model.specs.Long.{name-slots};
+ghost use Rattle.model.specs.Scan.{any};
+ghost use lib.Dec.{eqb};
+ghost use mathlib.Core.List.{map};
 ghost use Rattle.root_write.specs.Slots.{resized, root-turn};
 
 // The 32 bytes of slot k.
@@ -42,6 +46,19 @@ fn mark(b: [u8; 32]) -> [u8; 32]
     sector_build::set(b, 0, 1, 0xE5)
 }
 
+// Whether slot s of a name, or one of the n before it, is in root sector r. Of those before it the sector's last slot is the nearest.
+fn reaches(s: u32, n: u32, r: u32) -> bool
+    ensures { λ t. ⌜ t ≡ any (map (λ k. eqb (k / 16) r) (name-slots s n)) ⌝ }
+{
+    if s / 16 < r {
+        return false;
+    }
+    if s / 16 == r {
+        return true;
+    }
+    root_names::has_slot(s, n, 16 * r + 15)
+}
+
 // Whether a change edits a slot in root sector r.
 fn concerns(x: Change, r: u32) -> bool
     ensures { λ t. ⌜ t ≡ concerns x r ⌝ }
@@ -57,9 +74,10 @@ fn concerns(x: Change, r: u32) -> bool
         } => entry.slot / 16 == r,
         Operation::Delete {
             entry,
+            count,
             first: _,
             size: _,
-        } => entry.slot / 16 == r,
+        } => reaches(entry.slot, count, r),
         Operation::Truncate {
             entry,
             first: _,
@@ -68,12 +86,13 @@ fn concerns(x: Change, r: u32) -> bool
         } => entry.slot / 16 == r,
         Operation::Rename {
             entry,
+            count,
             first: _,
             size: _,
             to,
             renamed: _,
         } => {
-            if entry.slot / 16 == r {
+            if reaches(entry.slot, count, r) {
                 return true;
             }
             to / 16 == r
@@ -115,10 +134,11 @@ fn slot_after(w: &[u8], l: Layout, x: Change, k: u32) -> [u8; 32]
         }
         Operation::Delete {
             entry,
+            count,
             first: _,
             size: _,
         } => {
-            if k == entry.slot {
+            if root_names::has_slot(entry.slot, count, k) {
                 return mark(b);
             }
             b
@@ -136,12 +156,13 @@ fn slot_after(w: &[u8], l: Layout, x: Change, k: u32) -> [u8; 32]
         }
         Operation::Rename {
             entry,
+            count,
             first: _,
             size: _,
             to,
             renamed,
         } => {
-            if k == entry.slot {
+            if root_names::has_slot(entry.slot, count, k) {
                 return mark(b);
             }
             if k == to {

@@ -11,6 +11,7 @@ use Rattle.model.specs.Sector.{Card, Window, after}
 use Rattle.model.specs.Fat.{Fat, entry, release}
 use Rattle.model.specs.Chain.{file-sector, chain}
 use Rattle.model.specs.Root.{Directory, slot-at, free-slot, bears, is-label, listed, vacant, file-size, file-at, entry-at}
+use Rattle.model.specs.Long.{name-slots}
 use Rattle.model.specs.Ground.{granted}
 use Rattle.model.specs.Volume.{clean}
 use Rattle.model.specs.declared.Layout.{Layout}
@@ -134,15 +135,15 @@ module _ {size : ℕ} {c : Card} (st : Start size c) (is : clean (window size c)
     apart e = live-not-free l c x (g .live) (g .room) (sym e)
 
     pub left-slot : effect (renames-as st x (g .live) m) d x ≡ mark-deleted (d x)
-    unfolding edits operation-edits entry-at
+    unfolding edits operation-edits name-slots entry-at
     left-slot = two-first (renames-as st x (g .live) m) d x z (λ b. mark-deleted b) (λ b. set-name (name-of m) b) refl
 
     pub named-slot : effect (renames-as st x (g .live) m) d z ≡ b
-    unfolding edits operation-edits entry-at
+    unfolding edits operation-edits name-slots entry-at
     named-slot = two-second (renames-as st x (g .live) m) d x z (λ b. mark-deleted b) (λ b. set-name (name-of m) b) refl apart
 
     pub rest-slot : (k : ℕ) → (k ≡ x → ⊥) → (k ≡ z → ⊥) → effect (renames-as st x (g .live) m) d k ≡ d k
-    unfolding edits operation-edits entry-at
+    unfolding edits operation-edits name-slots entry-at
     rest-slot k ne other = two-out (renames-as st x (g .live) m) d x z (λ b. mark-deleted b) (λ b. set-name (name-of m) b) refl k ne other
 
     x-listed : listed (d x) ≡ true
@@ -247,11 +248,11 @@ module _ {size : ℕ} {c : Card} (st : Start size c) (is : clean (window size c)
   module _ (n : Span) (p : Program) (g : Deleted st is n p) {t : Card}
       (end : Ended size c [] (release (ks st (at n) (g .it .live) (g .it .keeps)) fat) (deletes-as st (at n) (g .it .live) (g .it .keeps)) t) where
     pub gone-slot : effect (deletes-as st (at n) (g .it .live) (g .it .keeps)) d (at n) ≡ mark-deleted (d (at n))
-    unfolding edits operation-edits entry-at
+    unfolding edits operation-edits name-slots entry-at
     gone-slot = one-in (deletes-as st (at n) (g .it .live) (g .it .keeps)) d (at n) (λ b. mark-deleted b) refl
 
     pub kept-slot : (k : ℕ) → (k ≡ at n → ⊥) → effect (deletes-as st (at n) (g .it .live) (g .it .keeps)) d k ≡ d k
-    unfolding edits operation-edits entry-at
+    unfolding edits operation-edits name-slots entry-at
     kept-slot k ne = one-out (deletes-as st (at n) (g .it .live) (g .it .keeps)) d (at n) (λ b. mark-deleted b) refl k ne
 
     not-there : bears (name-of n) (slot-at l t (at n)) ≡ false

@@ -11,6 +11,7 @@ use Rattle.model.specs.Sector.{Card, Store}
 use Rattle.model.specs.Fat.{Fat, entry, release}
 use Rattle.model.specs.Chain.{needed}
 use Rattle.model.specs.Root.{slot-at, name-ok, free-slot, name-in, entry-at, first-cluster, file-size}
+use Rattle.model.specs.Long.{name-slots}
 use Rattle.model.specs.Promises.{Shape}
 use Rattle.model.specs.declared.Entry.{Entry}
 use Rattle.model.specs.declared.Layout.{Layout}
@@ -21,13 +22,14 @@ use Rattle.operations.specs.Finish.{operation-edits, edits, new-entry}
 use Rattle.operations.specs.Plan.{shorten, extend, exchange, last-cluster}
 use Rattle.model.proofs.All.{All, all-take, all-drop}
 use Rattle.model.proofs.Names.{name-starts, name-fits, free-low, Live, live-not-free}
+use Rattle.model.proofs.Long.{not-of-name}
 use Rattle.model.proofs.Volumes.{layout-of, first-fat, SameMarks}
 use Rattle.safety.proofs.Start.{Start, shape-of, entries-few, Clear}
 use Rattle.safety.proofs.Effect.{Lives, resized-lives}
 use Rattle.safety.proofs.Operate.{Supplies}
 use Rattle.safety.proofs.Clusters.{Plain, released-marks, plain-fits, shorten-marks, extend-marks, exchange-marks}
 use Rattle.model.proofs.Records.{EntryFits, ChangeFits, entry-record, plain-told}
-use Rattle.model.proofs.Pendings.{recorded, record-fine, part-fine, starts-not-zero}
+use Rattle.model.proofs.Pendings.{recorded, record-fine, none-counted, part-fine, starts-not-zero}
 use Rattle.model.specs.Record.{operation-records, records, record-of, plain, last-number}
 use Rattle.safety.proofs.After.{last-slot}
 use Rattle.safety.proofs.Operations.{KeepsChain, entry-fits, slot-seat, slot-named, slot-lives, first-fits, size-fits, the-chain, old-plain, old-busy}
@@ -52,7 +54,7 @@ module _ {size : ℕ} {c : Card} (st : Start size c) where
       let fits : ChangeFits (creates-as n) = record {
         few = omega arith;
         fields = (
-          entry-record _ 1 0 0 0 (omega arith)
+          entry-record _ 1 0 0 0 0 (omega arith) (omega arith)
               (record { slot = omega (arith, entries-few st, room); name = name-fits n ok; attributes = omega arith })
               (omega arith) (omega arith) (omega arith),
           tt,
@@ -64,7 +66,7 @@ module _ {size : ℕ} {c : Card} (st : Start size c) where
         marks = λ k low high. refl;
         fits = fits;
         recorded = recorded (l .entries) (last-slot c) (creates-as n) fits
-            (record-fine (l .entries) (last-slot c) _ 1 0 0 0 (omega arith) (omega arith) (omega arith) (room, free-low l c))
+            (record-fine (l .entries) (last-slot c) _ 1 0 0 0 0 (omega arith) (omega arith) (none-counted _ 1 0 0 0) (omega arith) (room, free-low l c))
             (λ k low high. absurd (omega arith)) (name-starts n ok, tt);
         lives = (starts-not-zero _ (name-starts n ok), tt);
       }
@@ -77,10 +79,10 @@ module _ {size : ℕ} {c : Card} (st : Start size c) where
     e = entry-at s b
 
     abbrev pub renames-as : Span → Change
-    renames-as n = plain (Rename e (first-cluster b) (file-size b) (free-slot l c) (name-in (n .byte)))
+    renames-as n = plain (Rename e 0 (first-cluster b) (file-size b) (free-slot l c) (name-in (n .byte)))
 
     pub rename-supplies : (n : Span) → name-ok n ≡ true → free-slot l c < l .entries → Supplies c [] fat (renames-as n)
-    unfolding entry-at records operation-records record-of edits operation-edits overlay byte-of
+    unfolding entry-at records operation-records record-of edits operation-edits name-slots overlay byte-of
     rename-supplies n ok room =
         let k : ℕ = first-cluster b in
         let m : ℕ = file-size b in
@@ -91,7 +93,10 @@ module _ {size : ℕ} {c : Card} (st : Start size c) where
         let old : m < 256 ^ 4 = size-fits st s live in
         let fits : ChangeFits (renames-as n) = record {
           few = omega arith;
-          fields = (entry-record e 5 k 0 m (omega arith) own first (omega arith) old, (entry-record f 0 k 0 m (omega arith) other first (omega arith) old, tt));
+          fields = (
+            entry-record e 5 0 k 0 m (omega arith) (omega arith) own first (omega arith) old,
+            (entry-record f 0 0 k 0 m (omega arith) (omega arith) other first (omega arith) old, tt),
+          );
           told = plain-told _;
         } in
         record {
@@ -99,21 +104,22 @@ module _ {size : ℕ} {c : Card} (st : Start size c) where
           marks = λ k low high. refl;
           fits = fits;
           recorded = recorded (l .entries) (last-slot c) (renames-as n) fits
-              (record-fine (l .entries) (last-slot c) e 5 k 0 m (omega arith) (omega arith) (omega arith) (slot-seat st s live))
-              (part-fine (l .entries) (last-slot c) e f 5 k 0 m refl (room, free-low l c) (live-not-free l c s live room))
+              (record-fine (l .entries) (last-slot c) e 5 0 k 0 m (omega arith) (omega arith) (none-counted e 5 k 0 m) (omega arith) (slot-seat st s live))
+              (part-fine (l .entries) (last-slot c) e f 5 0 k 0 m refl (room, free-low l c)
+              (not-of-name s 0 (free-slot l c) (λ w. live-not-free l c s live room (omega (arith, w)))))
               (slot-named st s live, (name-starts n ok, tt));
           lives = ((λ r. omega arith), (starts-not-zero _ (name-starts n ok), tt));
         }
 
     -- An operation that one record tells of, about the entry in this slot.
-    entry-supplies : (o : Operation) (number k from m : ℕ) → records (plain o) ≡ record-of e number k from m ∷ [] → 1 ≤ number → number ≤ last-number
+    entry-supplies : (o : Operation) (number k from m : ℕ) → records (plain o) ≡ record-of e number 0 k from m ∷ [] → 1 ≤ number → number ≤ last-number
         → k < 256 ^ 2 → from < 65536 → m < 256 ^ 4 → {ds : List Store} {f : Fat} → All (λ s. Clear c (s .sector)) ds → SameMarks l f fat
         → Lives (slot-at l c) (plain o) → Supplies c ds f (plain o)
     unfolding entry-at record-of
     entry-supplies o number k from m told low high first small sized outside marks lives =
         let fits : ChangeFits (plain o) = record {
           few = rw told (omega arith);
-          fields = rw told (entry-record e number k from m (omega arith) (entry-fits st s live) first (omega arith) sized, tt);
+          fields = rw told (entry-record e number 0 k from m (omega arith) (omega arith) (entry-fits st s live) first (omega arith) sized, tt);
           told = plain-told o;
         } in
         record {
@@ -121,7 +127,7 @@ module _ {size : ℕ} {c : Card} (st : Start size c) where
           marks = marks;
           fits = fits;
           recorded = recorded (l .entries) (last-slot c) (plain o) fits
-              (rw told (record-fine (l .entries) (last-slot c) e number k from m low high small (slot-seat st s live)))
+              (rw told (record-fine (l .entries) (last-slot c) e number 0 k from m low high (none-counted e number k from m) small (slot-seat st s live)))
               (λ i one less. absurd (let none : i < 1 = rw told at less in omega arith)) (rw told (slot-named st s live, tt));
           lives = lives;
         }
@@ -131,11 +137,11 @@ module _ {size : ℕ} {c : Card} (st : Start size c) where
       ks = the-chain st s live whole
 
       abbrev pub deletes-as : Change
-      deletes-as = plain (Delete e (first-cluster b) (file-size b))
+      deletes-as = plain (Delete e 0 (first-cluster b) (file-size b))
 
       pub delete-supplies : Supplies c [] (release ks fat) deletes-as
-      unfolding entry-at records operation-records edits operation-edits overlay byte-of
-      delete-supplies = entry-supplies (Delete e (first-cluster b) (file-size b)) 3 (first-cluster b) 0 (file-size b) refl (omega arith) (omega arith)
+      unfolding entry-at records operation-records edits operation-edits name-slots overlay byte-of
+      delete-supplies = entry-supplies (Delete e 0 (first-cluster b) (file-size b)) 3 (first-cluster b) 0 (file-size b) refl (omega arith) (omega arith)
           (first-fits st s live) (omega arith) (size-fits st s live) tt (λ k low high. released-marks l (sh .few) fat ks (old-plain st s live whole) k)
           ((λ r. omega arith), tt)
 

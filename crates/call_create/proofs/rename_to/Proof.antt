@@ -4,7 +4,8 @@ use native.Mathlib.Omega.{arith}
 use borrow.Author.Tests.{eqb-true}
 use Rattle.model.specs.Root.{name-ok}
 use Rattle.model.proofs.Tests.{every-at}
-use Rattle.operations.specs.Finish.{Slots, edits, operation-edits}
+use Rattle.operations.specs.Finish.{Slots}
+use Rattle.operations.proofs.Seats.{rename-slots}
 use Rattle.operations.specs.Plan.{rename-stores}
 use borrow.Author.Needs.{needs}
 use Rattle.call_create.proofs.rename_to.Statement.{statement}
@@ -20,11 +21,11 @@ name-of-requires c κs = let e : length (c .before .before .before .args .name .
     (every-at _ (c .before .before .before .pre .1 .2) 0) in omega arith
 
 record-change-requires : tie.Need-record-change-requires
-unfolding edits operation-edits
 record-change-requires c κs =
     let b = c .before .before .before .before .before .before in
     let p = b .pre in
-    (p .0, subst (Slots (b .args .v .layout .entries)) (sym (c .plain .ensures)) ((p .1 .0, p .1 .0), ((p .1 .1, p .1 .0), tt)))
+    let n = b .args .v .layout .entries in
+    (p .0, subst (Slots n) (sym (c .plain .ensures)) (rename-slots n _ _ _ _ (p .1 .0) _ _ (p .1 .1)))
 
 returns : tie.Need-returns
 unfolding rename-stores

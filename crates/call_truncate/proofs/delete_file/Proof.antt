@@ -2,7 +2,8 @@ use mathlib.Core.Path.{sym, subst}
 use Rattle.model.specs.Sector.{card-of}
 use Rattle.operations.specs.Plan.{old-fat}
 use Rattle.call_truncate.proofs.Cuts.{all-inside, delete-is}
-use Rattle.operations.specs.Finish.{Slots, edits, operation-edits}
+use Rattle.operations.specs.Finish.{Slots}
+use Rattle.operations.proofs.Seats.{delete-slots}
 use borrow.Author.Needs.{needs}
 use Rattle.call_truncate.proofs.delete_file.Statement.{statement}
 use Rattle.call_truncate.proofs.delete_file.Tie as tie
@@ -12,7 +13,6 @@ use Rattle.fat_chain.proofs.clusters_for.Reads as clusters-for-reads
 use Rattle.call_truncate.proofs.shorten.Reads as shorten-reads
 
 shorten-requires : tie.Need-shorten-requires
-unfolding edits operation-edits
 shorten-requires c κs =
     let k = c .before .before .before in
     let b = k .before .before .before in
@@ -22,7 +22,7 @@ shorten-requires c κs =
       p .0,
       (
         rw (k .clusters-for .ensures) (all-inside (a .v .layout) (p .0 .held .fits) (old-fat (a .v) (card-of (a .w .now))) (a .f) (p .1 .chain)),
-        subst (Slots (a .v .layout .entries)) (sym (c .plain .ensures)) ((s, s), tt),
+        subst (Slots (a .v .layout .entries)) (sym (c .plain .ensures)) (delete-slots (a .v .layout .entries) _ _ _ _ s),
       ),
     )
 

@@ -29,7 +29,7 @@ returns-3 : tie.Need-returns-3
 returns-3 c =
     let a = c .before .before .before .before .args in
     let load = c .before .before .load in
-    ap (λ (x : Record). Delete (entry-in x) (x .cluster) (x .size)) (load .ensures)
+    ap (λ (x : Record). Delete (entry-in x) (x .count) (x .cluster) (x .size)) (load .ensures)
     ∙ sym (told-delete (record-at (card-of (a .log .now) (a .s))) (ap (λ (x : Record). x .number) (sym (load .ensures)) ∙ c .match .keys3))
 
 returns-4 : tie.Need-returns-4
@@ -43,7 +43,7 @@ returns-5 : tie.Need-returns-5
 returns-5 c =
     let a = c .before .before .before .before .before .before .args in
     let load = c .before .before .before .before .load in
-    (λ i. Rename (entry-in (load .ensures i)) (load .ensures i .cluster) (load .ensures i .size) (c .before .load2 .ensures i .slot)
+    (λ i. Rename (entry-in (load .ensures i)) (load .ensures i .count) (load .ensures i .cluster) (load .ensures i .size) (c .before .load2 .ensures i .slot)
     (c .before .load2 .ensures i .name)) ∙ sym
     (told-rename (record-at (card-of (a .log .now) (a .s)))
     (ap (λ (x : Record). x .number) (sym (load .ensures)) ∙ c .before .before .match .keys5))

@@ -2,9 +2,9 @@ use Prim.Native.Nat.{_-_, _≤_}
 use native.Mathlib.Omega.{arith}
 use mathlib.Core.Path.{sym, ap, _∙_}
 use mathlib.Core.Bool.{true, not}
-use lib.Dec.{eqb}
-use borrow.Author.Tests.{eq-eqb, ne-eqb}
+use Rattle.model.specs.Scan.{among}
 use Rattle.model.specs.Sector.{card-of}
+use Rattle.model.specs.Long.{name-slots}
 use Rattle.model.specs.Record.{record-at}
 use Rattle.model.specs.Pending.{apart}
 use Rattle.model.specs.declared.Record.{Record}
@@ -15,6 +15,7 @@ use Rattle.log_record.proofs.is_apart.Tie as tie
 use Rattle.log_record.proofs.is_apart.Reads as reads
 use Rattle.log_record.proofs.is_apart.Lts as lts
 use Rattle.log_record.proofs.load.Reads as load-reads
+use Rattle.root_names.proofs.has_slot.Reads as has-slot-reads
 
 abbrev Inv-loop : tie.InvT-loop
 Inv-loop log s n k i₀ i = (i ≤ n) × Sofar (apart (record-at (card-of log s)) k) true 0 i
@@ -31,7 +32,8 @@ returns c =
     let l = d .before .before in
     let a = l .before .before .args in
     sym (all-not (apart (record-at (card-of (a .log .now) (a .s))) (a .k)) 0 (a .n) (l .loop .i) (omega arith) (omega arith)
-    (ap (λ (r : Record). not (eqb (r .slot) (a .k))) (sym (d .load .ensures)) ∙ ap not (eq-eqb _ _ (c .if1 .taken))))
+    (ap (λ (r : Record). not (among (name-slots (r .slot) (r .count)) (a .k))) (sym (d .load .ensures))
+    ∙ ap not (sym (c .before .has-slot .ensures) ∙ c .if1 .taken)))
 
 loop-again : tie.Need-loop-again Inv-loop μ-loop
 loop-again c =
@@ -40,7 +42,8 @@ loop-again c =
     let a = l .before .before .args in (
       search needs,
       sofar-more (apart (record-at (card-of (a .log .now) (a .s))) (a .k)) true 0 (l .loop .i) (l .loop .inv .1)
-          (ap (λ (r : Record). not (eqb (r .slot) (a .k))) (sym (d .load .ensures)) ∙ ap not (ne-eqb _ _ (c .if1 .left))),
+          (ap (λ (r : Record). not (among (name-slots (r .slot) (r .count)) (a .k))) (sym (d .load .ensures))
+          ∙ ap not (sym (c .before .has-slot .ensures) ∙ c .if1 .left)),
     )
 
 returns-2 : tie.Need-returns-2 Inv-loop μ-loop
@@ -52,4 +55,4 @@ returns-2 c =
 pub is-apart-spec : {M : Type 1} → statement M
 is-apart-spec =
     tie.close
-    (tie.spec Inv-loop μ-loop loop-holds (λ c κs. search needs) returns (λ c. search needs) (λ c. search needs) loop-again returns-2)
+    (tie.spec Inv-loop μ-loop loop-holds (λ c κs. search needs) (λ c κs. search needs) returns (λ c. search needs) (λ c. search needs) loop-again returns-2)
