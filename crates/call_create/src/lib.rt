@@ -81,10 +81,11 @@ fn rename_to(w: &mut [u8], v: Volume, f: File, name: &[u8], to: u32, limit: u32)
     ensures { λ r. ⌜
         Did limit (granted (rename-stores v (card-of (now (w .entry))) f to (name-of (view (now (name .entry)))))) (now (w .entry)) (now (w .exit)) r ⌝ }
 {
+    let l = v.layout;
     let entry = f.entry;
     let o = Operation::Rename {
         entry,
-        count: 0,
+        count: root_long::long_count(w, l, entry.slot),
         first: f.first,
         size: f.size,
         to,

@@ -19,7 +19,7 @@ use Rattle.model.proofs.All.{All, all-map, all-take}
 use Rattle.model.proofs.Chains.{Used, chain-used}
 use Rattle.model.proofs.Needed.{needed-mono}
 use Rattle.model.proofs.Walks.{chain-length, chain-here, chain-drop}
-use Rattle.operations.specs.Plan.{clusters-of, old-fat, last-cluster, operate, shorten, truncate-along, truncate-stores, delete-stores}
+use Rattle.operations.specs.Plan.{clusters-of, old-fat, last-cluster, operate, shorten, truncate-along, truncate-stores, long-entries, delete-stores}
 use Rattle.fat_chain.specs.Links.{links}
 use Rattle.fat_chain.proofs.Links.{links-none, links-more}
 use Rattle.file_read.proofs.Laws.{chain-at, link-inside}
@@ -106,7 +106,8 @@ module _ (l : Layout) (fits : Fits l) (t : Fat) (f : File) (h : keeps-chain l (e
 
 -- A delete frees them all.
 pub delete-is : (v : Volume) (c : Card) (f : File)
-    → delete-stores v c f ≡ operate v c [] (cut (old-fat v c) 0 (f .first) (needed (v .layout) (f .size))) (plain (Delete (f .entry) 0 (f .first) (f .size)))
+    → delete-stores v c f
+    ≡ operate v c [] (cut (old-fat v c) 0 (f .first) (needed (v .layout) (f .size))) (plain (Delete (f .entry) (long-entries v c f) (f .first) (f .size)))
 unfolding delete-stores clusters-of
 delete-is v c f = rw (release-cut (old-fat v c) (f .first) (needed (v .layout) (f .size)))
 

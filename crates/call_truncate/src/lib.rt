@@ -68,7 +68,7 @@ fn delete_file(w: &mut [u8], v: Volume, f: File, limit: u32) -> Progress
     let entry = f.entry;
     let o = Operation::Delete {
         entry,
-        count: 0,
+        count: root_long::long_count(w, l, entry.slot),
         first: f.first,
         size: f.size,
     };

@@ -6,7 +6,7 @@ ghost use lib.ListN.{length};
 ghost use Rattle.model.specs.Sector.{card-of};
 ghost use Rattle.model.specs.Scan.{all};
 ghost use Rattle.model.specs.Record.{record-at, group-size, pends};
-ghost use Rattle.model.specs.Pending.{slot-ok, count-ok, record-ok, alike, apart, part-ok, records-ok};
+ghost use Rattle.model.specs.Pending.{slot-ok, most-counted, count-ok, record-ok, alike, apart, part-ok, records-ok};
 
 // Whether record r of sector s is pending.
 pub fn pends(log: &[u8], s: u32, r: u32) -> bool
@@ -59,11 +59,27 @@ pub fn load(log: &[u8], s: u32, k: u32) -> Record
     }
 }
 
-// The long-name count.
+// How many entries of a long name a record may tell of.
+fn most_counted(number: u32) -> u32
+    ensures { λ r. ⌜ r ≡ most-counted number ⌝ }
+{
+    if number == 3 {
+        return root_names::MOST_LONG;
+    }
+    if number == 5 {
+        return root_names::MOST_LONG;
+    }
+    0
+}
+
+// The long-name count, which is not above the slot.
 fn count_ok(r: Record) -> bool
     ensures { λ t. ⌜ t ≡ count-ok r ⌝ }
 {
-    r.count == 0
+    if most_counted(r.number) < r.count {
+        return false;
+    }
+    r.count <= r.slot
 }
 
 // The fields of record 0 that are judged.

@@ -1,3 +1,4 @@
+pub mod LongRows
 pub mod Tests
 pub mod Scan
 pub mod All
@@ -25,6 +26,7 @@ pub mod Records
 pub mod Logs
 pub mod Lookups
 pub mod Pendings
+pub mod Belong
 pub mod Grounds
 pub mod Volumes
 pub mod Copies

@@ -11,12 +11,12 @@ use borrow.Author.Tests.{eq-eqb, eqb-true, lt-ltb, le-ltb, ltb-false, ltb-true, 
 use Rattle.model.specs.Bytes.{Bytes, zeros, pick, byte-of, overlay}
 use Rattle.model.specs.Scan.{first, every, between, all-from, walk, among}
 use Rattle.model.specs.Sector.{clip}
-use Rattle.model.specs.Long.{name-slots}
+use Rattle.model.specs.Long.{name-slots, most-long}
 use Rattle.model.specs.Log.{Log}
 use Rattle.model.specs.Record.{pends, tells, committed, record-bytes, record-of, encode, lay, records, group-size, record-at}
 use Rattle.model.specs.Record.{change-of, group-of, group-in, last-number}
-use Rattle.model.specs.Pending.{pending-in, first-pending, pending-at, accepted, slot-ok, count-ok, record-ok, part-ok, alike, records-ok, empty-from, group-ok}
-use Rattle.model.specs.Pending.{alone}
+use Rattle.model.specs.Pending.{pending-in, first-pending, pending-at, accepted, slot-ok, most-counted, count-ok, record-ok, part-ok, alike}
+use Rattle.model.specs.Pending.{records-ok, empty-from, group-ok, alone}
 use Rattle.model.specs.declared.Area.{Area}
 use Rattle.model.specs.declared.Entry.{Entry}
 use Rattle.model.specs.declared.Record.{Record}
@@ -200,21 +200,35 @@ recorded n z x fits one more live =
       live,
     )
 
-pub record-fine : (n z : ℕ) (e : Entry) (number count k from size : ℕ) → 1 ≤ number → number ≤ last-number → count-ok (record-of e number count k from size) ≡ true
-    → from < 65536 → Seat n z (e .slot) → record-ok n z (record-of e number count k from size) ≡ true
+pub record-fine : (n z : ℕ) (e : Entry) (number count k from size : ℕ) → 1 ≤ number → number ≤ last-number
+    → count-ok (record-of e number count k from size) ≡ true → from < 65536 → Seat n z (e .slot) → record-ok n z (record-of e number count k from size) ≡ true
 unfolding record-ok record-of
 record-fine n z e number count k from size low high counted small seat =
-    each-every _ (between-is 1 last-number number low high also refl also refl also counted also lt-ltb from 65536 small also slot-read n z (e .slot) seat also tt)
+    each-every _ (between-is 1 last-number number low high also refl also refl also counted also lt-ltb from 65536 small
+    also slot-read n z (e .slot) seat also tt)
 
--- A record without entries of a long name.
-pub none-counted : (e : Entry) (number k from size : ℕ) → count-ok (record-of e number 0 k from size) ≡ true
+-- Its long-name count: 0 in any, and in a delete or a rename as many as there may be.
+count-fine : (e : Entry) (number count k from size : ℕ) → count ≤ most-counted number → count ≤ e .slot
+    → count-ok (record-of e number count k from size) ≡ true
 unfolding count-ok record-of
-none-counted e number k from size = refl
+count-fine e number count k from size few low = and-both _ _ (le-leb count (most-counted number) few) (le-leb count (e .slot) low)
+
+pub none-counted : (e : Entry) (number k from size : ℕ) → count-ok (record-of e number 0 k from size) ≡ true
+none-counted e number k from size = count-fine e number 0 k from size (omega arith) (omega arith)
+
+module _ (e : Entry) (count k from size : ℕ) (few : count ≤ most-long) (low : count ≤ e .slot) where
+  pub delete-counted : count-ok (record-of e 3 count k from size) ≡ true
+  unfolding most-counted
+  delete-counted = count-fine e 3 count k from size few low
+
+  pub rename-counted : count-ok (record-of e 5 count k from size) ≡ true
+  unfolding most-counted
+  rename-counted = count-fine e 5 count k from size few low
 
 -- The numbers that RECORD takes of record 0: 1 to 6 and no others.
 numbers : (e : Entry) → map (λ n. record-ok 1 0 (record-of (record { slot = 0; name = e .name; attributes = e .attributes }) n 0 0 0 0))
     (0 ∷ 1 ∷ 2 ∷ 3 ∷ 4 ∷ 5 ∷ 6 ∷ 7 ∷ 255 ∷ []) ≡ false ∷ true ∷ true ∷ true ∷ true ∷ true ∷ true ∷ false ∷ false ∷ []
-unfolding record-ok count-ok record-of every between slot-ok
+unfolding record-ok count-ok most-counted record-of every between slot-ok
 numbers e = refl
 
 -- The second of two records, with another name, number and slot.

@@ -7,7 +7,7 @@ use Rattle.model.specs.Bytes.{Bytes, pick}
 use Rattle.model.specs.Scan.{every, between, first, all, all-from, among}
 use Rattle.model.specs.Sector.{Card}
 use Rattle.model.specs.Root.{first-bytes, end-slot}
-use Rattle.model.specs.Long.{name-slots}
+use Rattle.model.specs.Long.{name-slots, most-long}
 use Rattle.model.specs.Log.{Log, log-of}
 use Rattle.model.specs.Record.{last-number, record-at, group-size, pends}
 use Rattle.model.specs.declared.Record.{Record}
@@ -27,9 +27,12 @@ first-pending n g = first (pending-at g) (16 * n)
 unfoldable pub slot-ok : ℕ → ℕ → ℕ → Bool
 slot-ok n z s = ltb s n && leb s z
 
--- "long-name count 0"
+-- "RECORD now allows, in delete and rename, a count of at most 20 and not above the old slot"; in the others "long-name count 0".
+unfoldable pub most-counted : ℕ → ℕ
+most-counted number = pick (eqb number 3 || eqb number 5) most-long 0
+
 unfoldable pub count-ok : Record → Bool
-count-ok r = eqb (r .count) 0
+count-ok r = leb (r .count) (most-counted (r .number)) && leb (r .count) (r .slot)
 
 -- "operation 1 to 5" and 6 ("RECORD takes operation 6"), "directory cluster, high word .. 0, DIR_Cluster below 65,536, slots .."
 unfoldable pub record-ok : ℕ → ℕ → Record → Bool
@@ -49,7 +52,8 @@ alike r d =
 abbrev pub apart : (ℕ → Record) → ℕ → ℕ → Bool
 apart rs s i = not (among (name-slots (rs i .slot) (rs i .count)) s)
 
--- Record k of a group, a "part of the record before": "for rename two different slots, both records .. alike".
+-- Record k of a group, a "part of the record before": "for rename two different slots, both records .. alike", "with the new slot outside
+-- those marked".
 unfoldable pub part-ok : ℕ → ℕ → (ℕ → Record) → ℕ → Bool
 part-ok n z rs k =
     every (alike (rs (k - 1)) (rs k) ∷ slot-ok n z (rs k .slot) ∷ all (apart rs (rs k .slot)) k ∷ [])

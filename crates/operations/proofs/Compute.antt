@@ -20,13 +20,15 @@ unfolding ones onesIn
     Rattle.model.specs.Root.lowest-slot Rattle.model.specs.Root.find Rattle.model.specs.Root.free-run Rattle.model.specs.Root.end-slot
     Rattle.model.specs.Root.root-ok Rattle.model.specs.Root.entry-at Rattle.model.specs.Root.file-at Rattle.model.specs.Root.is-locked
     Rattle.model.specs.Root.slot-holds Rattle.model.specs.Root.lookup Rattle.model.specs.Long.name-slots
+    Rattle.model.specs.Long.turned Rattle.model.specs.Long.sum-of Rattle.model.specs.Long.is-long Rattle.model.specs.Long.belong
+    Rattle.model.specs.Long.long-count
     Rattle.model.specs.Log.run Rattle.model.specs.Log.run-ok Rattle.model.specs.Log.area Rattle.model.specs.Log.unused
     Rattle.model.specs.Record.record-bytes Rattle.model.specs.Record.record-of Rattle.model.specs.Record.operation-records Rattle.model.specs.Record.records
     Rattle.model.specs.Record.lay Rattle.model.specs.Record.encode Rattle.model.specs.Record.operation-of Rattle.model.specs.Record.change-of
     Rattle.model.specs.Record.group-size Rattle.model.specs.Record.tells Rattle.model.specs.Record.pends Rattle.model.specs.Record.committed
     Rattle.model.specs.Record.commit
     Rattle.model.specs.Pending.first-pending Rattle.model.specs.Pending.slot-ok Rattle.model.specs.Pending.record-ok Rattle.model.specs.Pending.alike
-    Rattle.model.specs.Pending.count-ok
+    Rattle.model.specs.Pending.most-counted Rattle.model.specs.Pending.count-ok
     Rattle.model.specs.Pending.part-ok Rattle.model.specs.Pending.records-ok Rattle.model.specs.Pending.empty-from Rattle.model.specs.Pending.group-ok
     Rattle.model.specs.Pending.alone Rattle.model.specs.Pending.accepted Rattle.model.specs.Record.group-in Rattle.model.specs.Pending.pending-in
     Rattle.model.specs.Pending.pending
@@ -64,6 +66,7 @@ unfolding ones onesIn
     Rattle.operations.specs.Calls.truncate Rattle.operations.specs.Calls.delete Rattle.operations.specs.Calls.rename
     Rattle.operations.specs.Calls.recover Rattle.operations.specs.Calls.plan Rattle.operations.specs.Calls.named-file
     Rattle.operations.specs.Calls.taken-by Rattle.operations.specs.Calls.released-by
+    Rattle.operations.specs.Calls.old-slots Rattle.operations.specs.Calls.changed-by
     Rattle.operations.specs.Outcome.outcome Rattle.operations.specs.Outcome.made Rattle.operations.specs.Outcome.left
     Rattle.operations.specs.Reading.file-byte Rattle.operations.specs.Reading.reading Rattle.operations.specs.Reading.read-on
     Rattle.operations.specs.Reading.read

@@ -19,7 +19,8 @@ use Rattle.model.specs.declared.Name.{Name}
 use Rattle.model.specs.declared.Change.{Change}
 use Rattle.model.specs.declared.Operation.{Operation}
 use Rattle.model.specs.declared.Operation.the-variants.{Create, Update, Delete, Truncate, Rename, Replace}
-use Rattle.operations.specs.Finish.{set-size, set-first, mark-deleted, set-name, new-entry, Edit, edit, edit-from, set-slots, marks, operation-edits, edits}
+use Rattle.operations.specs.Finish.{set-size, set-first, mark-deleted, set-name, new-entry, Edit, edit, edit-from, set-slots, marks}
+use Rattle.operations.specs.Finish.{operation-edits, edits}
 use Rattle.operations.specs.Finish.{effect, Slots, root-sector, concerns}
 use Rattle.model.proofs.Tests.{told, less?, same?, or-false, or-assoc, clash}
 use Rattle.model.proofs.All.{All, all-append, all-image, all-map}
@@ -201,7 +202,11 @@ module _ (rest : List Edit) where
       let r = or-false (eqb k i) (among ks k) h in
       set-out (edit i (λ b. mark-deleted b)) (marks ks ++ rest) d k (eqb-false k i (r .0)) ∙ marks-out ks d k (r .1)
 
-  -- A test of the slots.
+  -- The slots, and a test of them.
+  pub marks-slots : (ks : List ℕ) → map (λ e. e .slot) (marks ks ++ rest) ≡ ks ++ map (λ e. e .slot) rest
+  marks-slots [] = refl
+  marks-slots (k ∷ ks) = ap (λ js. k ∷ js) (marks-slots ks)
+
   pub marks-any : (q : ℕ → Bool) (ks : List ℕ) → any (map (λ e. q (e .slot)) (marks ks ++ rest)) ≡ (any (map q ks) || any (map (λ e. q (e .slot)) rest))
   unfolding any
   marks-any q [] = refl
@@ -252,7 +257,7 @@ pub effect-mix : (n : ℕ) (o : Change) (d x : Directory) → Slots n o → (j :
 unfolding effect
 effect-mix n o d x w j near k less = edits-mix (edits o) d x k j (all-same n (edits o) (edits o) d x j near w (again o j)) (near k less)
 
--- A change that edits one slot, or two, the second made of the first.
+-- A change that edits one slot, or marks some and then makes other edits.
 module _ (o : Change) (d : Directory) where
   pub one-in : (x : ℕ) (f : Bytes → Bytes) → edits o ≡ edit x f ∷ [] → effect o d x ≡ f (d x)
   unfolding effect
@@ -262,18 +267,14 @@ module _ (o : Change) (d : Directory) where
   unfolding effect set-slots
   one-out x f e k ne = ap (λ es. set-slots es d k) e ∙ set-out (edit x f) [] d k ne
 
-  module _ (x y : ℕ) (f g : Bytes → Bytes) (e : edits o ≡ edit x f ∷ edit-from x y g ∷ []) where
-    pub two-first : effect o d x ≡ f (d x)
+  module _ (ks : List ℕ) (rest : List Edit) (e : edits o ≡ marks ks ++ rest) where
+    pub marked-in : (k : ℕ) → among ks k ≡ true → effect o d k ≡ mark-deleted (d k)
     unfolding effect
-    two-first = ap (λ es. set-slots es d x) e ∙ set-in (edit x f) (edit-from x y g ∷ []) d x refl
+    marked-in k h = ap (λ es. set-slots es d k) e ∙ marks-in rest ks d k h
 
-    pub two-second : (y ≡ x → ⊥) → effect o d y ≡ g (d x)
+    pub marked-out : (k : ℕ) → among ks k ≡ false → effect o d k ≡ set-slots rest d k
     unfolding effect
-    two-second ne = ap (λ es. set-slots es d y) e ∙ set-out (edit x f) (edit-from x y g ∷ []) d y ne ∙ set-in (edit-from x y g) [] d y refl
-
-    pub two-out : (k : ℕ) → (k ≡ x → ⊥) → (k ≡ y → ⊥) → effect o d k ≡ d k
-    unfolding effect set-slots
-    two-out k ne other = ap (λ es. set-slots es d k) e ∙ set-out (edit x f) (edit-from x y g ∷ []) d k ne ∙ set-out (edit-from x y g) [] d k other
+    marked-out k h = ap (λ es. set-slots es d k) e ∙ marks-out rest ks d k h
 
 -- A slot in a root sector that is not concerned keeps its bytes.
 edits-apart : (es : List Edit) (d : Directory) (k : ℕ) → any (map (λ e. eqb (e .slot / 16) (k / 16)) es) ≡ false → set-slots es d k ≡ d k

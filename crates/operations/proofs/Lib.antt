@@ -1,5 +1,6 @@
 pub mod Compute
 pub mod Small
+pub mod LongRows
 pub mod Locked
 pub mod FitRows
 pub mod Admitted

@@ -1,6 +1,6 @@
 -- The calls that store: their grounds, in checking order, and what each then does.
 use Prim.Native.Nat.{ℕ, _-_}
-use mathlib.Core.List.{List, []}
+use mathlib.Core.List.{List, [], _∷_, _++_}
 use mathlib.Core.Bool.{Bool, _&&_, not}
 use lib.Dec.{ltb, eqb}
 use lib.ListN.{drop, length}
@@ -8,7 +8,8 @@ use Rattle.model.specs.Bytes.{Span, pick}
 use Rattle.model.specs.Sector.{Card, Window}
 use Rattle.model.specs.Fat.{entry, free-clusters}
 use Rattle.model.specs.Chain.{keeps-chain, needed}
-use Rattle.model.specs.Root.{name-ok, name-in, find, free-slot, file-at, lookup}
+use Rattle.model.specs.Root.{slot-at, name-ok, name-in, find, free-slot, file-at, lookup}
+use Rattle.model.specs.Long.{name-slots, long-count}
 use Rattle.model.specs.Ground.{Answer, refused, granted, _when_, _>>=_, _>>_}
 use Rattle.model.specs.Volume.{examine, clean}
 use Rattle.model.specs.declared.Name.{Name}
@@ -205,3 +206,17 @@ released-by v c (deletes n) = clusters-of (v .layout) (old-fat v c) (named-file 
 released-by v c (renames n m) = []
 released-by v c (replaces n d) = clusters-of (v .layout) (old-fat v c) (named-file v c n)
 released-by v c recovers = []
+
+-- The slots of a name: those of the long entries that belong to its slot, then its own.
+unfoldable pub old-slots : Volume → Card → Span → List ℕ
+old-slots v c n = name-slots (slot-of v c n) (long-count (slot-at (v .layout) c) (slot-of v c n))
+
+-- The slots that a call changes, if it is not refused.
+unfoldable pub changed-by : Volume → Card → Call → List ℕ
+changed-by v c (creates n) = free-slot (v .layout) c ∷ []
+changed-by v c (appends n d) = slot-of v c n ∷ []
+changed-by v c (truncates n size) = slot-of v c n ∷ []
+changed-by v c (deletes n) = old-slots v c n
+changed-by v c (renames n m) = old-slots v c n ++ (free-slot (v .layout) c ∷ [])
+changed-by v c (replaces n d) = slot-of v c n ∷ []
+changed-by v c recovers = []

@@ -8,6 +8,8 @@ use Rattle.model.specs.Scan.{range}
 use Rattle.model.specs.Sector.{Card, Store, store, put, after}
 use Rattle.model.specs.Fat.{Fat, entry, fat1-of, fat2-of, free-clusters, link, release, write-fat}
 use Rattle.model.specs.Chain.{needed, chain, file-sector}
+use Rattle.model.specs.Root.{slot-at}
+use Rattle.model.specs.Long.{long-count}
 use Rattle.model.specs.Log.{Log, log-of, unused}
 use Rattle.model.specs.Record.{plain, encode, group-of, group-in}
 use Rattle.model.specs.declared.Layout.{Layout}
@@ -121,12 +123,16 @@ truncate-stores v c f size =
     let n = needed (v .layout) size in
     truncate-along v c f size (take n ks) (drop n ks)
 
+-- How many entries of a long name belong to a file's slot.
+abbrev pub long-entries : Volume → Card → File → ℕ
+long-entries v c f = long-count (slot-at (v .layout) c) (f .entry .slot)
+
 unfoldable pub delete-stores : Volume → Card → File → Program
 delete-stores v c f =
-    operate v c [] (release (clusters-of (v .layout) (old-fat v c) f) (old-fat v c)) (plain (Delete (f .entry) 0 (f .first) (f .size)))
+    operate v c [] (release (clusters-of (v .layout) (old-fat v c) f) (old-fat v c)) (plain (Delete (f .entry) (long-entries v c f) (f .first) (f .size)))
 
 unfoldable pub rename-stores : Volume → Card → File → ℕ → Name → Program
-rename-stores v c f s name = operate v c [] (old-fat v c) (plain (Rename (f .entry) 0 (f .first) (f .size) s name))
+rename-stores v c f s name = operate v c [] (old-fat v c) (plain (Rename (f .entry) (long-entries v c f) (f .first) (f .size) s name))
 
 -- Replace "takes new clusters, for which the old ones do not count as free": the lowest free ones, as many as n bytes need.
 unfoldable pub fresh-clusters : Volume → Card → ℕ → List ℕ

@@ -9,6 +9,9 @@ ghost use Rattle.model.specs.Sector.{card-of};
 ghost use Rattle.model.specs.Long.{name-slots};
 ghost use Rattle.model.specs.Root.{name-byte, stem-length, padded, name-ok, name-in};
 
+// The most entries that a long name has.
+pub const MOST_LONG: u32 = 20;
+
 // Capital letters, digits and ! # $ % & ' ( ) - @ ^ _ ` { } ~
 fn name_byte(b: u8) -> bool
     ensures { λ r. ⌜ r ≡ name-byte b ⌝ }

@@ -21,7 +21,7 @@ pub fn root_place(l: Layout, r: u32) -> u32
 }
 
 // Byte j of slot k.
-fn slot_byte(w: &[u8], l: Layout, k: u32, j: u32) -> u32
+pub fn slot_byte(w: &[u8], l: Layout, k: u32, j: u32) -> u32
     requires { ⌜ Held l (now w) × (k < l .entries) × (j < 32) ⌝ }
     ensures { λ r. ⌜ (r ≡ slot-at l (card-of (now (w .entry))) k j) × (r < 256) ⌝ }
 {

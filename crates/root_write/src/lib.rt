@@ -4,17 +4,17 @@ use model::Layout;
 use model::Operation;
 use model::Progress;
 ghost use mathlib.Core.Path.{_≡_};
+ghost use mathlib.Core.List.{map};
 ghost use Prim.Native.Nat.{ℕ, _+_, _*_, _/_, _<_};
+ghost use lib.Dec.{eqb};
 ghost use lib.ListN.{getD};
 ghost use Rattle.model.specs.Bytes.{bytes-of};
+ghost use Rattle.model.specs.Scan.{any};
 ghost use Rattle.model.specs.Sector.{card-of};
 ghost use Rattle.model.specs.Root.{slot-at};
+ghost use Rattle.model.specs.Long.{name-slots};
 ghost use Rattle.model.specs.Promises.{Held, Ran};
 ghost use Rattle.operations.specs.Finish.{Slots, mark-deleted, effect, root-sector, concerns, root-stores};
-ghost use Rattle.model.specs.Long.{name-slots};
-ghost use Rattle.model.specs.Scan.{any};
-ghost use lib.Dec.{eqb};
-ghost use mathlib.Core.List.{map};
 ghost use Rattle.root_write.specs.Slots.{resized, root-turn};
 
 // The 32 bytes of slot k.

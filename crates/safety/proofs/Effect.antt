@@ -5,11 +5,11 @@ use mathlib.Core.Path.{_≡_, refl, sym, _∙_, subst}
 use mathlib.Core.Logic.{_⊎_, inl, inr}
 use mathlib.Core.List.{List, [], _∷_}
 use mathlib.Core.Bool.{Bool, true, false}
-use Rattle.model.specs.Bytes.{Bytes, overlay, pick}
+use Rattle.model.specs.Bytes.{Bytes, overlay, byte-of, pick}
 use Rattle.model.specs.Root.{Directory}
 use Rattle.model.specs.Record.{records}
 use Rattle.model.specs.declared.Change.{Change}
-use Rattle.operations.specs.Finish.{set-first, set-size, Edit, set-slots, edits, effect, Slots}
+use Rattle.operations.specs.Finish.{set-first, set-size, Edit, set-slots, marks, edits, effect, Slots}
 use Rattle.model.proofs.Tests.{same?}
 use Rattle.model.proofs.All.{All}
 use Rattle.model.proofs.Records.{ChangeFits, listed}
@@ -21,15 +21,24 @@ use Rattle.operations.proofs.Seats.{Seated, told-seats, told-slots}
 pub recorded-slots : (n z : ℕ) (o : Change) → ChangeFits o → Recorded n z o → Slots n o
 recorded-slots n z o h w = subst (Slots n) (h .told) (told-slots n z (listed (records o)) (w .0))
 
--- Each edit makes its slot begin otherwise than 0.
+-- An edit makes its slot begin otherwise than 0; each of a change does.
+abbrev pub Begun : Directory → Edit → Type 0
+Begun d e = e .change (d (e .source)) 0 ≡ 0 → ⊥
+
 abbrev pub Lives : Directory → Change → Type 0
-Lives d o = All (λ e. e .change (d (e .source)) 0 ≡ 0 → ⊥) (edits o)
+Lives d o = All (Begun d) (edits o)
+
+-- A mark does.
+pub marks-live : (d : Directory) (ks : List ℕ) → All (Begun d) (marks ks)
+unfolding overlay byte-of
+marks-live d [] = tt
+marks-live d (k ∷ ks) = ((λ r. omega arith), marks-live d ks)
 
 -- The effect leaves a slot's first byte, or the slot is not above z and begins otherwise than 0 after it.
 abbrev pub Begins : ℕ → ℕ → ℕ → ℕ → Type 0
 Begins z k old new = (new ≡ old) ⊎ ((k ≤ z) × (new ≡ 0 → ⊥))
 
-edits-begin : (z : ℕ) (es : List Edit) (d : Directory) (k : ℕ) → All (λ e. (e .slot ≤ z) × (e .change (d (e .source)) 0 ≡ 0 → ⊥)) es
+edits-begin : (z : ℕ) (es : List Edit) (d : Directory) (k : ℕ) → All (λ e. (e .slot ≤ z) × Begun d e) es
     → Begins z k (d k 0) (set-slots es d k 0)
 unfolding set-slots
 edits-begin z [] d k a = inl refl
@@ -45,8 +54,8 @@ unfolding overlay
 resized-lives true k size b h e = h e
 resized-lives false k size b h e = h e
 
-seated-edits : (n z : ℕ) (d : Directory) (es : List Edit) → All (Seated n z) es → All (λ e. e .change (d (e .source)) 0 ≡ 0 → ⊥) es
-    → All (λ e. (e .slot ≤ z) × (e .change (d (e .source)) 0 ≡ 0 → ⊥)) es
+seated-edits : (n z : ℕ) (d : Directory) (es : List Edit) → All (Seated n z) es → All (Begun d) es
+    → All (λ e. (e .slot ≤ z) × Begun d e) es
 seated-edits n z d [] a b = tt
 seated-edits n z d (e ∷ es) a b = ((a .0 .0 .1, b .0), seated-edits n z d es (a .1) (b .1))
 

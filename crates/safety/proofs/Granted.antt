@@ -13,7 +13,7 @@ use Rattle.model.specs.Bytes.{Span}
 use Rattle.model.specs.Sector.{Card, Window}
 use Rattle.model.specs.Fat.{Fat, release, free-clusters}
 use Rattle.model.specs.Chain.{needed}
-use Rattle.model.specs.Root.{slot-at, name-ok, free-slot, file-size, file-at, is-file, is-directory, is-locked}
+use Rattle.model.specs.Root.{slot-at, name-ok, free-slot, file-size, entry-at, file-at, is-file, is-directory, is-locked}
 use Rattle.model.specs.Ground.{Answer, granted, _>>=_}
 use Rattle.model.specs.Volume.{clean}
 use Rattle.model.specs.declared.File.{File}
@@ -115,7 +115,7 @@ module _ {size : ℕ} {c : Card} (st : Start size c) (is : clean (window size c)
     pub same : operate v c [] fat (renames-as st (at n) live m) ≡ p
 
   pub rename-granted : (n m : Span) (p : Program) → plan (renames n m) w ≡ granted p → Renamed n m p
-  unfolding plan rename rename-on rename-as rename-stores file-at
+  unfolding plan rename rename-on rename-as rename-stores file-at entry-at
   rename-granted n m p h =
       let h1 = asked Ground.Name (not (name-ok n && name-ok m)) _ p (opened _ (granted p) h) in
       let b = bound (file-named Access.Write v c n) _ p (h1 .1) in
@@ -163,7 +163,7 @@ module _ {size : ℕ} {c : Card} (st : Start size c) (is : clean (window size c)
     pub same : operate v c [] (release (ks st (at n) (it .live) (it .keeps)) fat) (deletes-as st (at n) (it .live) (it .keeps)) ≡ p
 
   pub delete-granted : (n : Span) (p : Program) → plan (deletes n) w ≡ granted p → Deleted n p
-  unfolding plan delete delete-on delete-stores file-at clusters-of
+  unfolding plan delete delete-on delete-stores file-at entry-at clusters-of
   delete-granted n p h =
       let b = bound (file-of Access.Write v c n) _ p (opened _ (granted p) h) in
       let e : granted (delete-stores v c (b .0)) ≡ granted p = b .2 in

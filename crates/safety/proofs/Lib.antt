@@ -32,6 +32,7 @@ pub mod Saved
 pub mod Others
 pub mod Sounds
 pub mod Locks
+pub mod Changed
 pub mod Same
 pub mod Restored
 pub mod Fitting

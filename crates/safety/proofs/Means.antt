@@ -28,7 +28,7 @@ use Rattle.safety.proofs.Start.{Start}
 use Rattle.safety.proofs.Ended.{Ended, same-bears, same-directory}
 use Rattle.safety.proofs.Chained.{head-is, size-is}
 use Rattle.safety.proofs.Readings.{Meant, holds-of}
-use Rattle.safety.proofs.Slots.{Resizes, bears-name, vacant-bears, named-only, new-named, deleted-bears, bearer, means-same}
+use Rattle.safety.proofs.Slots.{Resizes, bears-name, vacant-bears, named-only, new-named, deleted-bears, dropped-bears, bearer, means-same}
 use Rattle.safety.proofs.Supplied.{creates-as, renames-as, deletes-as, ks}
 use Rattle.safety.proofs.Granted.{Created, Renamed, Deleted}
 use Rattle.safety.proofs.Moved.{new-slot, old-slot, left-slot, named-slot, rest-slot, gone-slot, kept-slot}
@@ -112,7 +112,8 @@ module _ {size : ℕ} {c : Card} (st : Start size c) (is : clean (window size c)
       (λ q. edited end m k less (set-name (name-of n′) (d (at n))) (ap (effect (renames-as st (at n) (g .live) n′) d) q ∙ named-slot st is n n′ p g end)
       (not-new n′ m (set-name (name-of n′) (d (at n))) (g .unused) there (named-only (name-of m) (name-of n′) (d (at n)) (name-fits n′ (g .new-ok)))
       ∙ sym (ap (λ k. bears (name-of m) (d k)) q ∙ vacant-bears (name-of m) (d z) (free-vacant l c (g .room)))))
-      (λ ne′. edited end m k less (d k) (rest-slot st is n n′ p g end k ne ne′) refl) (same? k z))
+      (λ ne′. edited end m k less (effect (renames-as st (at n) (g .live) n′) d k) refl
+      (dropped-bears (name-of m) (d k) _ (rest-slot st is n n′ p g end k ne ne′))) (same? k z))
       (same? k (at n)))
 
   pub delete-means : (n : Span) (p : Program) (g : Deleted st is n p) {t : Card}
@@ -122,4 +123,5 @@ module _ {size : ℕ} {c : Card} (st : Start size c) (is : clean (window size c)
   delete-means n p g {t} end m other = means-same v c m t (λ k less. ⊎-elim
       (λ q. edited end m k less (mark-deleted (d (at n))) (ap (effect (deletes-as st (at n) (g .it .live) (g .it .keeps)) d) q ∙ gone-slot st is n p g end)
       (deleted-bears (name-of m) (d (at n)) ∙ sym (ap (λ k. bears (name-of m) (d k)) q ∙ not-mine n m (g .it .live .in-root) other)))
-      (λ ne. edited end m k less (d k) (kept-slot st is n p g end k ne) refl) (same? k (at n)))
+      (λ ne. edited end m k less (effect (deletes-as st (at n) (g .it .live) (g .it .keeps)) d k) refl
+      (dropped-bears (name-of m) (d k) _ (kept-slot st is n p g end k ne))) (same? k (at n)))

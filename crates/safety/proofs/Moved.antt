@@ -3,7 +3,7 @@ use Prim.Native.Nat.{ℕ, _/_, _%_, _<_}
 use native.Mathlib.Omega.{arith}
 use mathlib.Core.Path.{_≡_, refl, sym, ap, _∙_, subst}
 use mathlib.Core.Logic.{_⊎_, inl, inr, ⊎-elim}
-use mathlib.Core.List.{List, [], _∷_}
+use mathlib.Core.List.{List, [], _∷_, _++_, append-nil}
 use mathlib.Core.Bool.{true, false, not}
 use borrow.Author.Tests.{not-true}
 use Rattle.model.specs.Bytes.{Bytes, Span}
@@ -11,14 +11,15 @@ use Rattle.model.specs.Sector.{Card, Window, after}
 use Rattle.model.specs.Fat.{Fat, entry, release}
 use Rattle.model.specs.Chain.{file-sector, chain}
 use Rattle.model.specs.Root.{Directory, slot-at, free-slot, bears, is-label, listed, vacant, file-size, file-at, entry-at}
-use Rattle.model.specs.Long.{name-slots}
+use Rattle.model.specs.Long.{name-slots, long-count}
 use Rattle.model.specs.Ground.{granted}
 use Rattle.model.specs.Volume.{clean}
+use Rattle.model.specs.declared.Change.{Change}
 use Rattle.model.specs.declared.Layout.{Layout}
 use Rattle.model.specs.declared.Pending.{Pending}
 use Rattle.model.specs.declared.Volume.{Volume}
 use Rattle.operations.specs.Program.{Program, stores}
-use Rattle.operations.specs.Finish.{effect, edits, operation-edits, new-entry, set-name, mark-deleted}
+use Rattle.operations.specs.Finish.{Edit, edit-from, set-slots, marks, effect, edits, operation-edits, new-entry, set-name, mark-deleted}
 use Rattle.operations.specs.Plan.{operate}
 use Rattle.operations.specs.Calls.{Call, plan, creates, renames, deletes, slot-of, name-of}
 use Rattle.operations.specs.Outcome.{left, largest}
@@ -28,8 +29,9 @@ use Rattle.safety.specs.Saved.{Holds, Gone, Alone}
 use Rattle.safety.specs.Fitting.{Empty}
 use Rattle.model.proofs.Tests.{clash, same?, told, and-right}
 use Rattle.model.proofs.All.{All}
+use Rattle.model.proofs.Long.{OfName}
 use Rattle.model.proofs.Cards.{after-nil}
-use Rattle.model.proofs.Names.{live-not-free, name-fits, name-starts, found-listed}
+use Rattle.model.proofs.Names.{name-fits, name-starts, found-listed}
 use Rattle.model.proofs.Volumes.{window, layout-of, first-fat, volume-of}
 use Rattle.safety.proofs.Start.{Start}
 use Rattle.safety.proofs.Files.{file-clear}
@@ -37,10 +39,11 @@ use Rattle.safety.proofs.Theorem.{along}
 use Rattle.safety.proofs.Ended.{Ended, ended, same-bears, same-directory, same-locked}
 use Rattle.safety.proofs.Chained.{HasChain, head-is, size-is, empty-then, kept-then}
 use Rattle.safety.proofs.Readings.{Meant, Read, holds-of, holds-read, gone-of, granted-write}
-use Rattle.operations.proofs.Edits.{one-in, one-out, two-first, two-second, two-out}
+use Rattle.operations.proofs.Edits.{one-in, one-out, set-in, edits-out}
 use Rattle.safety.proofs.Slots.{new-size, new-first, new-directory, new-locked, new-bears, named-size, named-first, named-directory, named-bears}
-use Rattle.safety.proofs.Slots.{named-only, deleted-bears, means, means-none, lower-not, bearer}
-use Rattle.safety.proofs.Supplied.{creates-as, renames-as, deletes-as, create-supplies, rename-supplies, delete-supplies, ks}
+use Rattle.safety.proofs.Slots.{named-only, deleted-bears, Dropped, dropped-bears, old-marked, old-kept, old-dropped, means, means-none}
+use Rattle.safety.proofs.Slots.{lower-not, bearer}
+use Rattle.safety.proofs.Supplied.{creates-as, renames-as, deletes-as, create-supplies, rename-supplies, delete-supplies, free-apart, ks}
 use Rattle.safety.proofs.Calls.{left-is}
 use Rattle.safety.proofs.Granted.{Created, create-granted, Renamed, rename-granted, Deleted, delete-granted}
 use Rattle.model.specs.declared.Pending.the-variants as Pending
@@ -131,20 +134,32 @@ module _ {size : ℕ} {c : Card} (st : Start size c) (is : clean (window size c)
     abbrev b : Bytes
     b = set-name (name-of m) (d x)
 
-    apart : z ≡ x → ⊥
-    apart e = live-not-free l c x (g .live) (g .room) (sym e)
+    abbrev named : List Edit
+    named = edit-from x z (λ b. set-name (name-of m) b) ∷ []
+
+    rename-edits : edits (renames-as st x (g .live) m) ≡ marks (name-slots x (long-count d x)) ++ named
+    unfolding edits operation-edits entry-at
+    rename-edits = refl
+
+    stays : (k : ℕ) → (k ≡ z → ⊥) → set-slots named d k ≡ d k
+    stays k other = edits-out named d k (other, tt)
+
+    -- The slots of the old name are marked, the new one has its name, all others are as they were.
+    pub left-slots : (k : ℕ) → OfName x (long-count d x) k → effect (renames-as st x (g .live) m) d k ≡ mark-deleted (d k)
+    left-slots = old-marked d (renames-as st x (g .live) m) x named rename-edits
 
     pub left-slot : effect (renames-as st x (g .live) m) d x ≡ mark-deleted (d x)
-    unfolding edits operation-edits name-slots entry-at
-    left-slot = two-first (renames-as st x (g .live) m) d x z (λ b. mark-deleted b) (λ b. set-name (name-of m) b) refl
+    left-slot = left-slots x (omega arith, omega arith)
 
     pub named-slot : effect (renames-as st x (g .live) m) d z ≡ b
-    unfolding edits operation-edits name-slots entry-at
-    named-slot = two-second (renames-as st x (g .live) m) d x z (λ b. mark-deleted b) (λ b. set-name (name-of m) b) refl apart
+    named-slot = old-kept d (renames-as st x (g .live) m) x named rename-edits z (free-apart st x (g .live) (g .room))
+        ∙ set-in (edit-from x z (λ b. set-name (name-of m) b)) [] d z refl
 
-    pub rest-slot : (k : ℕ) → (k ≡ x → ⊥) → (k ≡ z → ⊥) → effect (renames-as st x (g .live) m) d k ≡ d k
-    unfolding edits operation-edits name-slots entry-at
-    rest-slot k ne other = two-out (renames-as st x (g .live) m) d x z (λ b. mark-deleted b) (λ b. set-name (name-of m) b) refl k ne other
+    pub other-slot : (k : ℕ) → (OfName x (long-count d x) k → ⊥) → (k ≡ z → ⊥) → effect (renames-as st x (g .live) m) d k ≡ d k
+    other-slot k off other = old-kept d (renames-as st x (g .live) m) x named rename-edits k off ∙ stays k other
+
+    pub rest-slot : (k : ℕ) → (k ≡ x → ⊥) → (k ≡ z → ⊥) → Dropped (d k) (effect (renames-as st x (g .live) m) d k)
+    rest-slot k ne other = old-dropped d (renames-as st x (g .live) m) x named rename-edits k ne (stays k other)
 
     x-listed : listed (d x) ≡ true
     unfolding slot-of
@@ -159,7 +174,9 @@ module _ {size : ℕ} {c : Card} (st : Start size c) (is : clean (window size c)
         ∙ deleted-bears (name-of name) (d x)
 
     rest-bears : (name : Span) (k : ℕ) → k < l .entries → (k ≡ x → ⊥) → (k ≡ z → ⊥) → bears (name-of name) (slot-at l t k) ≡ bears (name-of name) (d k)
-    rest-bears name k less ne other = same-bears (slot-at l t k) (d k) (head-is st end k less (d k) (rest-slot k ne other)) (name-of name)
+    rest-bears name k less ne other =
+        let b : Bytes = effect (renames-as st x (g .live) m) d k in
+        same-bears (slot-at l t k) b (head-is st end k less b refl) (name-of name) ∙ dropped-bears (name-of name) (d k) b (rest-slot k ne other)
 
     lower : (j : ℕ) → j < z → bears (name-of m) (slot-at l t j) ≡ false
     lower j less = ⊎-elim (λ e. rw e (x-not m))
@@ -247,13 +264,28 @@ module _ {size : ℕ} {c : Card} (st : Start size c) (is : clean (window size c)
 
   module _ (n : Span) (p : Program) (g : Deleted st is n p) {t : Card}
       (end : Ended size c [] (release (ks st (at n) (g .it .live) (g .it .keeps)) fat) (deletes-as st (at n) (g .it .live) (g .it .keeps)) t) where
-    pub gone-slot : effect (deletes-as st (at n) (g .it .live) (g .it .keeps)) d (at n) ≡ mark-deleted (d (at n))
-    unfolding edits operation-edits name-slots entry-at
-    gone-slot = one-in (deletes-as st (at n) (g .it .live) (g .it .keeps)) d (at n) (λ b. mark-deleted b) refl
+    abbrev gone : Change
+    gone = deletes-as st (at n) (g .it .live) (g .it .keeps)
 
-    pub kept-slot : (k : ℕ) → (k ≡ at n → ⊥) → effect (deletes-as st (at n) (g .it .live) (g .it .keeps)) d k ≡ d k
-    unfolding edits operation-edits name-slots entry-at
-    kept-slot k ne = one-out (deletes-as st (at n) (g .it .live) (g .it .keeps)) d (at n) (λ b. mark-deleted b) refl k ne
+    delete-edits : edits gone ≡ marks (name-slots (at n) (long-count d (at n))) ++ []
+    unfolding edits operation-edits entry-at
+    delete-edits = sym (append-nil (marks (name-slots (at n) (long-count d (at n)))))
+
+    same-slot : (k : ℕ) → set-slots [] d k ≡ d k
+    unfolding set-slots
+    same-slot k = refl
+
+    pub gone-slots : (k : ℕ) → OfName (at n) (long-count d (at n)) k → effect gone d k ≡ mark-deleted (d k)
+    gone-slots = old-marked d gone (at n) [] delete-edits
+
+    pub gone-slot : effect gone d (at n) ≡ mark-deleted (d (at n))
+    gone-slot = gone-slots (at n) (omega arith, omega arith)
+
+    pub spared-slot : (k : ℕ) → (OfName (at n) (long-count d (at n)) k → ⊥) → effect gone d k ≡ d k
+    spared-slot k off = old-kept d gone (at n) [] delete-edits k off ∙ same-slot k
+
+    pub kept-slot : (k : ℕ) → (k ≡ at n → ⊥) → Dropped (d k) (effect gone d k)
+    kept-slot k ne = old-dropped d gone (at n) [] delete-edits k ne (same-slot k)
 
     not-there : bears (name-of n) (slot-at l t (at n)) ≡ false
     not-there = same-bears (slot-at l t (at n)) (mark-deleted (d (at n)))
@@ -273,8 +305,10 @@ module _ {size : ℕ} {c : Card} (st : Start size c) (is : clean (window size c)
             → bears (name-of n) (slot-at l t j) ≡ false
         go j less a (inr f) = f
         go j less (inl e) (inl h) = rw e not-there
-        go j less (inr ne) (inl h) = absurd (ne (alone j less (sym (same-bears (slot-at l t j) (d j) (head-is st end j less (d j) (kept-slot j ne))
-            (name-of n)) ∙ h)))
+        go j less (inr ne) (inl h) =
+            let b : Bytes = effect gone d j in
+            absurd (ne (alone j less (sym (dropped-bears (name-of n) (d j) b (kept-slot j ne))
+            ∙ sym (same-bears (slot-at l t j) b (head-is st end j less b refl) (name-of n)) ∙ h)))
 
   pub delete-end : (n : Span) (p : Program) (g : Deleted st is n p)
       → Ended size c [] (release (ks st (at n) (g .it .live) (g .it .keeps)) fat) (deletes-as st (at n) (g .it .live) (g .it .keeps))

@@ -27,6 +27,7 @@ use Rattle.safety.proofs.Before.{Spared}
 use Rattle.safety.proofs.Files.{SparesFiles, file-used}
 use Rattle.safety.proofs.Theorem.{along}
 use Rattle.safety.proofs.Ended.{Ended, same-is-file}
+use Rattle.safety.proofs.Slots.{Dropped, dropped-back}
 use Rattle.safety.proofs.Chained.{HasChain, slot-is, head-is, kept-then}
 
 -- A spared byte is as it was.
@@ -104,6 +105,10 @@ module _ {size : ℕ} {c : Card} (st : Start size c) (sound : Sound (layout-of c
       -- What a slot of the new card is a file by.
       pub file-by : (s : ℕ) → s < l .entries → (b : Bytes) → effect o d s ≡ b → is-file (slot-at l t s) ≡ true → is-file b ≡ true
       file-by s less b e h = sym (same-is-file (slot-at l t s) b (head-is st end s less b e)) ∙ h
+
+      -- A slot that is as it was or no file's is a file by what it was.
+      pub file-back : (s : ℕ) → s < l .entries → Dropped (d s) (effect o d s) → is-file (slot-at l t s) ≡ true → is-file (d s) ≡ true
+      file-back s less k h = file-by s less (d s) (dropped-back (d s) (effect o d s) k (file-by s less (effect o d s) refl h)) h
 
       pub other-owned : (s : ℕ) → s < l .entries → is-file (d s) ≡ true → (s ≡ x → ⊥) → becomes s ≡ s → Owned s
       other-owned s less file ne stays = owned-by s (chain-of l c s) (other-chain s less file ne) (owned-old becomes y s s less file stays)

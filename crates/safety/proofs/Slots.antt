@@ -2,8 +2,9 @@
 use Prim.Native.Nat.{ℕ, _^_, _≤_, _<_}
 use native.Mathlib.Omega.{arith}
 use mathlib.Core.Path.{_≡_, refl, sym, ap, _∙_}
-use mathlib.Core.List.{[], _∷_}
-use mathlib.Core.Bool.{Bool, true, false, not}
+use mathlib.Core.Logic.{_⊎_, inl, inr, ⊎-elim}
+use mathlib.Core.List.{List, [], _∷_, _++_}
+use mathlib.Core.Bool.{Bool, true, false, not, and-false}
 use lib.Dec.{eqb}
 use borrow.Author.Tests.{eq-eqb, eqb-true}
 use Rattle.model.specs.Bytes.{Bytes, Span, pick, le, byte-of, overlay, patch}
@@ -15,8 +16,11 @@ use Rattle.model.specs.declared.Change.{Change}
 use Rattle.model.specs.declared.Name.{Name}
 use Rattle.model.specs.declared.Volume.{Volume}
 use Rattle.operations.specs.Calls.{slot-of, name-of}
-use Rattle.operations.specs.Finish.{set-name, set-size, set-first, mark-deleted, new-entry, edit, edits, effect}
-use Rattle.model.proofs.Tests.{and-both, and-left, and-right}
+use Rattle.model.specs.Long.{name-slots, long-count}
+use Rattle.operations.specs.Finish.{set-name, set-size, set-first, mark-deleted, new-entry, Edit, edit, set-slots, marks, edits, effect}
+use Rattle.model.proofs.Tests.{and-both, and-left, and-right, clash}
+use Rattle.model.proofs.Long.{OfName, of-name?, of-name, not-of-name}
+use Rattle.model.proofs.Belong.{long-is-label}
 use Rattle.model.proofs.Scan.{first-same, first-is0, first-before0, first-has0, first-above0}
 use Rattle.model.proofs.Overlays.{overlay-below}
 use Rattle.model.proofs.Numbers.{read-back, le-over-below, le-over-above}
@@ -24,7 +28,7 @@ use Rattle.model.proofs.Records.{NameFits}
 use Rattle.model.proofs.Pendings.{starts}
 use Rattle.model.proofs.Names.{vacant-starts}
 use Rattle.model.proofs.Volumes.{layout-of}
-use Rattle.operations.proofs.Edits.{one-in, one-out}
+use Rattle.operations.proofs.Edits.{one-in, one-out, marked-in, marked-out}
 use Rattle.safety.proofs.Ended.{SameHead}
 
 -- ---- a slot with a new size, and a first cluster if a test holds
@@ -131,6 +135,39 @@ deleted-bears n b = refl
 pub deleted-file : (b : Bytes) → is-file (mark-deleted b) ≡ false
 unfolding is-file listed vacant overlay byte-of
 deleted-file b = refl
+
+-- ---- slots that a delete or a rename marks
+
+-- A slot that is as it was, or was a long entry's and is marked as deleted: it bears no name and holds no file, before and after.
+abbrev pub Dropped : Bytes → Bytes → Type 0
+Dropped b r = (r ≡ b) ⊎ ((r ≡ mark-deleted b) × (is-label b ≡ true))
+
+pub dropped-bears : (n : Name) (b r : Bytes) → Dropped b r → bears n r ≡ bears n b
+unfolding bears listed
+dropped-bears n b r (inl e) = ap (bears n) e
+dropped-bears n b r (inr h) = ap (bears n) (h .0) ∙ deleted-bears n b ∙ sym (rw (h .1, and-false))
+
+pub dropped-file : (b r : Bytes) → Dropped b r → is-file b ≡ true → r ≡ b
+unfolding is-file listed
+dropped-file b r (inl e) h = e
+dropped-file b r (inr q) h = clash h (rw (q .1, and-false))
+
+pub dropped-back : (b r : Bytes) → Dropped b r → is-file r ≡ true → r ≡ b
+dropped-back b r (inl e) h = e
+dropped-back b r (inr q) h = clash h (ap is-file (q .0) ∙ deleted-file b)
+
+-- A change that marks the slots of the name in slot s, and then makes other edits.
+module _ (d : Directory) (o : Change) (s : ℕ) (rest : List Edit) (e : edits o ≡ marks (name-slots s (long-count d s)) ++ rest) where
+  pub old-marked : (k : ℕ) → OfName s (long-count d s) k → effect o d k ≡ mark-deleted (d k)
+  old-marked k w = marked-in o d (name-slots s (long-count d s)) rest e k (of-name s (long-count d s) k w)
+
+  pub old-kept : (k : ℕ) → (OfName s (long-count d s) k → ⊥) → effect o d k ≡ set-slots rest d k
+  old-kept k off = marked-out o d (name-slots s (long-count d s)) rest e k (not-of-name s (long-count d s) k off)
+
+  pub old-dropped : (k : ℕ) → (k ≡ s → ⊥) → set-slots rest d k ≡ d k → Dropped (d k) (effect o d k)
+  old-dropped k ne stays = ⊎-elim
+      (λ w. inr (old-marked k w, long-is-label d s k w ne))
+      (λ off. inl (old-kept k off ∙ stays)) (of-name? s (long-count d s) k)
 
 -- ---- names
 

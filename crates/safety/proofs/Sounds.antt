@@ -39,7 +39,7 @@ use Rattle.safety.proofs.Linked.{Off, all-zip, release-other, shorten-o
 use Rattle.safety.proofs.Ended.{Ended, ended, SameHead, same-size, same-directory, same-is-file}
 use Rattle.safety.proofs.Chained.{HasChain, empty-then}
 use Rattle.safety.proofs.Readings.{Read, holds-read, holds-of}
-use Rattle.safety.proofs.Slots.{Resizes, new-first, new-size, deleted-file}
+use Rattle.safety.proofs.Slots.{Resizes, new-first, new-size, deleted-file, dropped-file}
 use Rattle.safety.proofs.Supplied.{creates-as, create-supplies, renames-as, deletes-as, truncates-as, truncate-supplies, cut-fat, updates-as}
 use Rattle.safety.proofs.Supplied.{append-supplies, longer-fat, replaces-as, exchanged-fat, replace-supplies, ks}
 use Rattle.safety.proofs.Granted.{file-at-name, Created, create-granted, Renamed, rename-granted, NamedFile, Deleted, delete-granted, Truncated}
@@ -48,7 +48,7 @@ use Rattle.safety.proofs.Moved.{finish-with, new-slot, old-slot, left-s
 use Rattle.safety.proofs.Cut.{cut-edit, cut-chain}
 use Rattle.safety.proofs.Grown.{grown-edit, grown-chain}
 use Rattle.safety.proofs.Replaced.{replaced-edit, replaced-chain}
-use Rattle.safety.proofs.Others.{file-not-free, Spares, Owner, owned-old, other-same, Owned, owned-by, file-by, other-owned}
+use Rattle.safety.proofs.Others.{file-not-free, Spares, Owner, owned-old, other-same, Owned, owned-by, file-by, file-back, other-owned}
 use Rattle.safety.proofs.Others.{sound-then}
 use Rattle.safety.proofs.Means.{resized-means, create-means, rename-means, delete-means}
 use Rattle.safety.proofs.Saved.{started, volume-is}
@@ -129,7 +129,7 @@ module _ {size : ℕ} {c : Card} (st : Start size c) (is : clean (window size c)
   module _ (n m : Span) (p : Program) (g : Renamed st is n m p) {t : Card} (end : Ended size c [] fat (renames-as st (at n) (g .live) m) t) where
     rename-spares : Spares c [] fat (renames-as st (at n) (g .live) m) (at n)
     rename-spares = record {
-      slot = λ s less file ne. rest-slot st is n m p g end s ne (file-not-free l c s less file (g .room));
+      slot = λ s less file ne. dropped-file (d s) _ (rest-slot st is n m p g end s ne (file-not-free l c s less file (g .room))) file;
       fat = λ s less file ne. same-fat fat (chain-of l c s);
       bytes = no-data st sound;
     }
@@ -151,7 +151,7 @@ module _ {size : ℕ} {c : Card} (st : Start size c) (is : clean (window size c)
         (owned-old st sound moved z z (at n) (g .live .in-root) x-file (ap (λ t. pick t z (at n)) (eq-eqb (at n) (at n) refl))))
     rename-owned s less file (inr ne) (inr other) =
         other-owned st sound rename-spares end moved z s less
-        (file-by st sound rename-spares end moved z s less (d s) (rest-slot st is n m p g end s ne other) file) ne
+        (file-back st sound rename-spares end moved z s less (rest-slot st is n m p g end s ne other) file) ne
         (ap (λ t. pick t z s) (ne-eqb s (at n) ne))
 
     rename-keeps : Keeping v c (renames n m) t
@@ -178,7 +178,7 @@ module _ {size : ℕ} {c : Card} (st : Start size c) (is : clean (window size c)
     delete-spares : Spares c [] (release own fat) (deletes-as st (at n) (g .it .live) (g .it .keeps)) (at n)
     unfolding chain-of clusters-of file-at
     delete-spares = record {
-      slot = λ s less file ne. kept-slot st is n p g end s ne;
+      slot = λ s less file ne. dropped-file (d s) _ (kept-slot st is n p g end s ne) file;
       fat = spared-fat (at n) (release own fat) (g .it .live .in-root) (g .it .file) (λ k u off. release-other own fat k off);
       bytes = no-data st sound;
     }
@@ -189,7 +189,7 @@ module _ {size : ℕ} {c : Card} (st : Start size c) (is : clean (window size c)
         (rw e at file)) (deleted-file (d (at n)))
     delete-owned s less file (inr ne) =
         other-owned st sound delete-spares end (λ r. r) z s less
-        (file-by st sound delete-spares end (λ r. r) z s less (d s) (kept-slot st is n p g end s ne) file) ne refl
+        (file-back st sound delete-spares end (λ r. r) z s less (kept-slot st is n p g end s ne) file) ne refl
 
     delete-keeps : Keeping v c (deletes n) t
     delete-keeps = record {

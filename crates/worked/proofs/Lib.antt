@@ -6,3 +6,4 @@ pub mod SavedK
 pub mod ReplacingRows
 pub mod LockedRows
 pub mod FittingRows
+pub mod LongNameRows

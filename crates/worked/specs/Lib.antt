@@ -3,3 +3,4 @@ pub mod Worked
 pub mod Replacing
 pub mod Locked
 pub mod Fitting
+pub mod LongNames

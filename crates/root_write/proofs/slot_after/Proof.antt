@@ -70,9 +70,11 @@ load-slot-requires-2 : tie.Need-load-slot-requires-2
 load-slot-requires-2 c κs =
     let a = c .before .before .before .before .before .before .before .before .args in
     let pre = c .before .before .before .before .before .before .before .before .pre in
-    let g = c .before .before .before .before .o5 .given in
-    (pre .0 .0, rename-source (a .l .entries) (g .0 .0) (g .0 .1 .0) (g .0 .1 .1 .0) (g .0 .1 .1 .1 .0) (g .0 .1 .1 .1 .1 .0) (g .0 .1 .1 .1 .1 .1 .0)
-    (rw (g .1) at (pre .1)))
+    let g = c .before .before .before .before .o5 .given in (
+      pre .0 .0,
+      rename-source (a .l .entries) (g .0 .0) (g .0 .1 .0) (g .0 .1 .1 .0) (g .0 .1 .1 .1 .0) (g .0 .1 .1 .1 .1 .0) (g .0 .1 .1 .1 .1 .1 .0)
+          (rw (g .1) at (pre .1)),
+    )
 
 returns-6 : tie.Need-returns-6
 unfolding effect edits
