@@ -1,5 +1,6 @@
 //! Long names by hand: the entries before a slot, proper and otherwise. Written apart from the library and from the reference.
 
+use crate::call::Call;
 use crate::cards::Card;
 use crate::random::Random;
 
@@ -72,6 +73,31 @@ impl Card {
         self.put_long_entries(first + count, count);
         Some(first + count)
     }
+}
+
+/// What a delete or rename is about: the slot that has the name.
+pub fn ended_slot(card: &Card, call: &Call) -> Option<usize> {
+    let (Call::Delete(name) | Call::Rename(name, _)) = call else {
+        return None;
+    };
+    let mut slots = 0..usize::from(card.spec.root_entries);
+    slots.find(|&slot| card.slot(slot)[11] & 0x08 == 0 && card.slot(slot).starts_with(name))
+}
+
+/// The root directory after a delete or rename that is granted: the slot and its long entries marked, the new slot filled, and
+/// nothing else changed.
+pub fn root_after(card: &Card, call: &Call) -> Option<Vec<u8>> {
+    let slot = ended_slot(card, call)?;
+    let mut after = card.clone();
+    let mut bytes = card.slot(slot).to_vec();
+    after.mark_deleted(slot - card.long_entries(slot)..=slot);
+    if let Call::Rename(_, new) = call {
+        let mut slots = 0..usize::from(card.spec.root_entries);
+        let free = slots.find(|&slot| matches!(card.slot(slot)[0], 0 | 0xE5))?;
+        bytes[..11].copy_from_slice(new.get(..11)?);
+        after.slot_mut(free).copy_from_slice(&bytes);
+    }
+    Some(after.bytes[512 * card.root()..512 * card.data()].to_vec())
 }
 
 /// A number of long entries: mostly few, now and then as many as there may be, or one more.
