@@ -53,6 +53,17 @@ impl Card {
         (1..=slot.min(20)).find(|&count| is_run(count)).unwrap_or(0)
     }
 
+    /// The long name that a slot's entries hold.
+    pub fn long_name(&self, slot: usize) -> Option<String> {
+        let count = self.long_entries(slot);
+        let characters = (1..=count).flat_map(|number| {
+            let entry = self.slot(slot - number);
+            CHARACTERS.map(|at| u16::from_le_bytes([entry[at], entry[at + 1]]))
+        });
+        let characters: Vec<u16> = characters.take_while(|&character| character != 0).collect();
+        (count > 0).then(|| String::from_utf16_lossy(&characters))
+    }
+
     /// Marks the slots as deleted.
     pub fn mark_deleted(&mut self, slots: impl IntoIterator<Item = usize>) {
         for slot in slots {
