@@ -49,6 +49,7 @@ pub use builder::{card_k, CardSpec};
 pub use geometry::Geometry;
 pub use inspect::{file_bytes, file_chain, free_clusters, is_sound};
 pub use listing::log_listing;
+pub use long_entries::checksum;
 pub use operation::{
     append, create, delete, plan, program, recover, rename, replace, run, truncate, Operation,
 };

@@ -1,6 +1,5 @@
 //! The long entries of a slot: the name that other systems show, in the slots directly before it.
 
-use crate::name::Name;
 use crate::root::{slot, Slot};
 
 /// No slot has more long entries.
@@ -10,8 +9,8 @@ const LONG_NAME: u8 = 0x0F;
 /// In the first byte of the last entry, the one farthest back.
 const LAST: u8 = 0x40;
 
-/// What long entries keep of the short name, at offset 13.
-pub fn checksum(name: &Name) -> u8 {
+/// What long entries keep of their slot's name, at offset 13.
+pub fn checksum(name: &[u8; 11]) -> u8 {
     name.iter()
         .fold(0, |sum: u8, &byte| sum.rotate_right(1).wrapping_add(byte))
 }
