@@ -30,14 +30,14 @@ impl<D: Disk, L: Lists> DiskCard<D, L> {
         read
     }
 
-    /// Removes the file in a slot and frees its clusters.
+    /// Removes the file in a slot, with the entries of its long name, and frees its clusters.
     pub fn delete_slot(&mut self, slot: usize, limit: u32) -> Result<u32, Error> {
         let (name, own) = self.lend_name(slot, &[])?;
         let made = self.save(&[Operation::Delete { name: &name }], limit);
         self.take_back(slot, &own, made)
     }
 
-    /// Gives the file in a slot another name.
+    /// Gives the file in a slot another name; the entries of its long name are removed.
     pub fn rename_slot(&mut self, slot: usize, new: &[u8], limit: u32) -> Result<u32, Error> {
         let (old, own) = self.lend_name(slot, new)?;
         let made = self.save(&[Operation::Rename { old: &old, new }], limit);
