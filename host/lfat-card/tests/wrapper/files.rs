@@ -77,7 +77,7 @@ fn long_names_go_along() {
         assert_eq!(card.list().map(|list| list.len()), Ok(is_rename.into()));
         let first = card.bytes()[33 * 512];
         assert_eq!(first, if is_rename { b'P' } else { 0xE5 });
-        assert_eq!(marked(&window), [0xE5; 3]);
+        assert_eq!(marked(&window), [0xE5; 4]);
     }
 }
 
