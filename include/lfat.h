@@ -148,6 +148,13 @@ static inline const char *lfat_code_name(uint32_t code)
  * A cut in mid-call leaves a card that lfat_recover brings to the state before the call or after it.
  * A file that is marked read-only, as other systems do, is not changed: append, replace, truncate, delete and rename refuse it
  * (LFAT_LOCKED), also where they would store nothing. No call sets the mark or takes it away.
+ *
+ * Long names, as other systems show them, stand in entries of their own before a file's entry. lfat_delete and lfat_rename mark
+ * those that belong to the file as deleted, in the same operation, so that none are left behind. They belong to it if they
+ * stand directly before it, all with attributes 0x0F (the whole byte), order numbers 1, 2, 3 going back, bit 0x40 set on the
+ * last of these only, and at offset 13 the checksum of its 11 name bytes. If any of that fails, or there are over 20, none
+ * belong, and all stay as they are. The other calls leave long names alone: a file that is appended to, replaced or truncated
+ * keeps its own.
  */
 
 /* Finishes what a power cut left behind, or takes it back. Call it at power-up, until it answers LFAT_DONE. */
@@ -171,10 +178,14 @@ uint64_t lfat_replace(uint8_t *card, size_t card_len, const uint8_t *name, size_
 uint64_t lfat_truncate(uint8_t *card, size_t card_len, const uint8_t *name, size_t name_len,
                        uint64_t size, uint32_t limit);
 
-/* Removes a file and frees its clusters. */
+/* Removes a file and frees its clusters. The entries of its long name are removed with it. */
 uint64_t lfat_delete(uint8_t *card, size_t card_len, const uint8_t *name, size_t name_len, uint32_t limit);
 
-/* Gives a file another name. A name that is taken is refused (LFAT_EXISTS), also that of a file marked read-only. */
+/*
+ * Gives a file another name. A name that is taken is refused (LFAT_EXISTS), also that of a file marked read-only. The file then
+ * has its new name only: the entries of its long name are removed. It needs a free slot (LFAT_ROOTFULL) beside those that it
+ * frees.
+ */
 uint64_t lfat_rename(uint8_t *card, size_t card_len, const uint8_t *old_name, size_t old_len,
                      const uint8_t *new_name, size_t new_len, uint32_t limit);
 

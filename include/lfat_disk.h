@@ -104,10 +104,13 @@ uint64_t lfat_disk_replace(lfat_disk *disk, const uint8_t *name, size_t name_len
 /* Shortens a file to a size. One over the file's is refused (LFAT_LENGTH). */
 uint64_t lfat_disk_truncate(lfat_disk *disk, const uint8_t *name, size_t name_len, uint64_t size);
 
-/* Removes a file and frees its clusters. */
+/*
+ * Removes a file and frees its clusters. The entries of its long name, as other systems show it, are removed with it; lfat.h says
+ * which belong to it.
+ */
 uint64_t lfat_disk_delete(lfat_disk *disk, const uint8_t *name, size_t name_len);
 
-/* Gives a file another name. */
+/* Gives a file another name. The file then has that name only: the entries of its long name are removed. */
 uint64_t lfat_disk_rename(lfat_disk *disk, const uint8_t *old_name, size_t old_len, const uint8_t *new_name, size_t new_len);
 
 /* Calls that read. They touch no byte of the buffer but those that they fill. */

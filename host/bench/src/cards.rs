@@ -1,6 +1,7 @@
 //! Cards to measure on.
 
 use reference::CardSpec;
+use testkit::long_names::{checksum, long_entry};
 
 pub const NAME: &[u8; 11] = b"ROUTE   CUT";
 /// Sectors of the log.
@@ -74,6 +75,22 @@ impl Card {
             Layout::Scattered => mixed(card.spread(shape.clusters_of(size))),
         };
         card.put_file(&chain, size);
+        card
+    }
+
+    /// A card with a file of 4 KiB and the most long entries before it, in three root sectors; small files stand before them.
+    pub fn with_long_name(shape: Shape) -> Card {
+        let mut card = Card::with_file(shape, Layout::OnePiece, 4_096);
+        let root = shape.root() * 512;
+        let slots = &mut card.bytes[root..root + 36 * 32];
+        slots.copy_within(..32, 35 * 32);
+        for (slot, bytes) in slots.chunks_exact_mut(32).enumerate().take(35) {
+            match slot {
+                ..15 => bytes[..11].copy_from_slice(format!("F{slot:07}CUT").as_bytes()),
+                _ => bytes.copy_from_slice(&long_entry(35 - slot, slot == 15, checksum(NAME))),
+            }
+        }
+        slots[26..32].fill(0);
         card
     }
 

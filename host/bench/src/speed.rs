@@ -87,6 +87,17 @@ fn rows() -> Vec<(String, Setup)> {
         }),
     );
     row(
+        "rename, 20 long entries".into(),
+        Box::new(move |shape| {
+            let card = Card::with_long_name(shape);
+            (card, Call::Rename(name(), b"PANEL   CUT".to_vec()))
+        }),
+    );
+    row(
+        "delete 4 KiB, 20 long entries".into(),
+        Box::new(move |shape| (Card::with_long_name(shape), Call::Delete(name()))),
+    );
+    row(
         "recover, nothing to do".into(),
         Box::new(|shape| (Card::empty(shape), Call::Recover)),
     );

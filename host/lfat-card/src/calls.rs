@@ -110,12 +110,12 @@ pub fn truncate(card: &mut [u8], name: &[u8], size: u64, limit: u32) -> Answer {
     })
 }
 
-/// Removes a file and frees its clusters, with at most so many stores.
+/// Removes a file, with the entries of its long name, and frees its clusters, with at most so many stores.
 pub fn delete(card: &mut [u8], name: &[u8], limit: u32) -> Answer {
     on_name(raw::lfat_delete, card, name, limit)
 }
 
-/// Gives a file another name, with at most so many stores.
+/// Gives a file another name, with at most so many stores; the entries of its long name are removed.
 pub fn rename(card: &mut [u8], old: &[u8], new: &[u8], limit: u32) -> Answer {
     on_two(raw::lfat_rename, card, old, new, limit)
 }

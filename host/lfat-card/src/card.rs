@@ -7,6 +7,9 @@ use crate::{count, Answer, CardView, Entry, File, Name, Operation, Refusal, NO_L
 /// A file that is marked read-only ([`Entry::is_read_only`]) is read as any other; append, replace, truncate, delete and rename
 /// refuse it with [`Refusal::Locked`]. No method sets the mark or takes it away.
 ///
+/// The long name that other systems show for a file goes with it in delete and rename: its entries before the file's own are
+/// marked as deleted in the same operation. After a rename the file has its new name only. The other methods leave it alone.
+///
 /// ```
 /// use lfat_card::{Card, Name, Refusal};
 ///
@@ -83,12 +86,12 @@ impl<'a> Card<'a> {
         count(self.run(&Operation::Truncate { name, size }, NO_LIMIT))
     }
 
-    /// Removes a file and frees its clusters.
+    /// Removes a file, with the entries of its long name, and frees its clusters.
     pub fn delete(&mut self, name: Name) -> Result<u32, Refusal> {
         count(self.run(&Operation::Delete { name }, NO_LIMIT))
     }
 
-    /// Gives a file another name.
+    /// Gives a file another name; the entries of its long name are removed.
     pub fn rename(&mut self, old: Name, new: Name) -> Result<u32, Refusal> {
         count(self.run(&Operation::Rename { old, new }, NO_LIMIT))
     }

@@ -35,12 +35,12 @@ pub enum Operation<'a> {
         /// Its new size, no more than the present one.
         size: u64,
     },
-    /// Removes a file and frees its clusters.
+    /// Removes a file, with the entries of its long name, and frees its clusters.
     Delete {
         /// The file's name.
         name: Name,
     },
-    /// Gives a file another name.
+    /// Gives a file another name; the entries of its long name are removed.
     Rename {
         /// The present name.
         old: Name,

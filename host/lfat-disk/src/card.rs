@@ -147,12 +147,12 @@ impl<D: Disk, L: Lists> DiskCard<D, L> {
         self.save(&[Operation::Truncate { name, size }], NO_LIMIT)
     }
 
-    /// Removes a file and frees its clusters.
+    /// Removes a file, with the entries of its long name, and frees its clusters. [`crate::InUse`] tells which name that was.
     pub fn delete(&mut self, name: &[u8]) -> Result<u32, Error> {
         self.save(&[Operation::Delete { name }], NO_LIMIT)
     }
 
-    /// Gives a file another name.
+    /// Gives a file another name; the entries of its long name are removed.
     pub fn rename(&mut self, old: &[u8], new: &[u8]) -> Result<u32, Error> {
         self.save(&[Operation::Rename { old, new }], NO_LIMIT)
     }

@@ -20,7 +20,7 @@
 //! - `lists`: the list of stores of a call, held against the library; `writer`: writing it by segments;
 //! - `disk`, `partition`: images, block devices, partitions;
 //! - `window`, `memory`, `areas`: the card in memory, of which only a part is read;
-//! - `layout`, `volume`, `entry`: looking into a card;
+//! - `layout`, `volume`, `entry`, `long_name`: looking into a card;
 //! - `c`: the C interface, `include/lfat_disk.h`.
 
 #![deny(missing_docs)]
@@ -33,6 +33,7 @@ pub mod entry;
 mod error;
 pub mod layout;
 pub mod lists;
+pub mod long_name;
 pub mod memory;
 pub mod partition;
 mod slot;
@@ -45,4 +46,5 @@ pub use card::{DiskCard, Opening};
 pub use disk::{Access, Disk, Wait};
 pub use entry::Entry;
 pub use error::Error;
+pub use long_name::{InUse, LongName};
 pub use reference::{Extent, Operation, Program, Segment};

@@ -2,7 +2,8 @@
 //!
 //! In memory such a slot gets a name that no other has, and the call is made by that name. Reading changes nothing on the disk.
 //! Delete and rename mark the slot as deleted, so that the name does not last; in the log it stands in the record. Recovery goes
-//! by the record's slot and not by its name, so a cut is as safe as that of any other delete or rename.
+//! by the record's slot and not by its name, so a cut is as safe as that of any other delete or rename. The name that is lent has
+//! the checksum of the slot's own, so the long entries before the slot belong to it as before, and go along.
 
 use crate::card::DiskCard;
 use crate::disk::Disk;
@@ -11,7 +12,7 @@ use crate::layout::bytes;
 use crate::lists::Lists;
 use crate::volume::{is_entry, Volume};
 use lfat_card::Refusal;
-use reference::Operation;
+use reference::{checksum, Operation};
 
 const NAME: usize = 11;
 
@@ -29,14 +30,14 @@ impl<D: Disk, L: Lists> DiskCard<D, L> {
         read
     }
 
-    /// Removes the file in a slot and frees its clusters.
+    /// Removes the file in a slot, with the entries of its long name, and frees its clusters.
     pub fn delete_slot(&mut self, slot: usize, limit: u32) -> Result<u32, Error> {
         let (name, own) = self.lend_name(slot, &[])?;
         let made = self.save(&[Operation::Delete { name: &name }], limit);
         self.take_back(slot, &own, made)
     }
 
-    /// Gives the file in a slot another name.
+    /// Gives the file in a slot another name; the entries of its long name are removed.
     pub fn rename_slot(&mut self, slot: usize, new: &[u8], limit: u32) -> Result<u32, Error> {
         let (old, own) = self.lend_name(slot, new)?;
         let made = self.save(&[Operation::Rename { old: &old, new }], limit);
@@ -64,12 +65,9 @@ impl<D: Disk, L: Lists> DiskCard<D, L> {
         let found = found.ok_or(Refusal::Absent)?;
         let mut own = [0; NAME];
         own.copy_from_slice(&found[..NAME]);
-        // There are fewer slots than such names.
-        let names = (0..=999_999).map(|number| format!("LF{number:06}LFT"));
-        let mut names = names.filter(|name| name.as_bytes() != new);
-        let free = names.find(|name| volume.find(name.as_bytes()).is_none());
-        let mut name = [0; NAME];
-        name.copy_from_slice(free.ok_or(Refusal::Rootfull)?.as_bytes());
+        let mut names = spare_names(checksum(&own)).filter(|name| name != new);
+        let name = names.find(|name| volume.find(name).is_none());
+        let name = name.ok_or(Refusal::Rootfull)?;
         self.set_name(slot, &name);
         Ok((name, own))
     }
@@ -82,4 +80,19 @@ impl<D: Disk, L: Lists> DiskCard<D, L> {
         let at = root.start + slot * 32;
         self.memory().window[at..at + NAME].copy_from_slice(name);
     }
+}
+
+/// Names to be lent, all with the given checksum. Of each there are far more than a root directory has slots.
+fn spare_names(sum: u8) -> impl Iterator<Item = [u8; NAME]> {
+    const DIGITS: &[u8; 36] = b"0123456789ABCDEFGHIJKLMNOPQRSTUVWXYZ";
+    let names = (0..36_u32.pow(6)).map(|number| {
+        let mut name = *b"LF000000LFT";
+        let mut left = number as usize;
+        for digit in name[2..8].iter_mut().rev() {
+            *digit = DIGITS[left % 36];
+            left /= 36;
+        }
+        name
+    });
+    names.filter(move |name| checksum(name) == sum)
 }

@@ -28,6 +28,10 @@ const LIMIT: Options = Options {
     valued: &["--limit"],
     plain: &[],
 };
+const LIMIT_JSON: Options = Options {
+    valued: LIMIT.valued,
+    plain: JSON.plain,
+};
 
 pub static COMMANDS: [Command; 13] = [
     Command {
@@ -110,19 +114,19 @@ pub static COMMANDS: [Command; 13] = [
     Command {
         name: "rm",
         words: &["IMAGE", "NAME"],
-        more: "[--limit N]",
-        about: "remove a file",
-        details: help::SLOT,
-        options: LIMIT,
+        more: "[--json] [--limit N]",
+        about: "remove a file, and the long name that other systems show for it",
+        details: help::RM,
+        options: LIMIT_JSON,
         run: writing::rm,
     },
     Command {
         name: "mv",
         words: &["IMAGE", "OLD", "NEW"],
-        more: "[--limit N]",
-        about: "give a file another name, which must not be taken",
-        details: help::SLOT,
-        options: LIMIT,
+        more: "[--json] [--limit N]",
+        about: "give a file another name, which must not be taken; a long name that it has goes",
+        details: help::MV,
+        options: LIMIT_JSON,
         run: writing::mv,
     },
     Command {

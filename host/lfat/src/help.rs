@@ -28,8 +28,16 @@ also needs a free slot in the root directory, which is not asked. A refusal ends
   --json      one JSON object: fits, bytes, clusters, cluster_bytes, up_to_cluster (null for no), free_clusters, free_bytes
 ";
 
-pub const SLOT: &str = "\
-NAME (or OLD) may be slot:N, as ls shows it, for a file whose name no rule allows.
+pub const RM: &str = "\
+NAME may be slot:N, as ls shows it, for a file whose name no rule allows. The entries of a long name, as other systems write
+them before the file's own, are removed with it in the same call, and a line says so.
+  --json      one JSON object: slot, name, new_name (null), long_name (null for none), long_entries, stores
+";
+
+pub const MV: &str = "\
+OLD may be slot:N, as ls shows it, for a file whose name no rule allows. The file then has the name NEW alone: the entries of a
+long name, as other systems write them before the file's own, are removed in the same call, and a line says so.
+  --json      one JSON object: slot, name, new_name, long_name (null for none), long_entries, stores
 ";
 
 pub const PUT: &str = "\

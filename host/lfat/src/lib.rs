@@ -2,12 +2,13 @@
 //!
 //! - `commands`, `help`, `args`, `failure`, `remedy`: the command line itself;
 //! - `target`, `source`, `output`, `progress`, `json`: the card it is given, files of this machine, what is printed;
-//! - `reading`, `fits`, `writing`, `blank`, `listing`: what the commands do;
+//! - `reading`, `fits`, `writing`, `ended`, `blank`, `listing`: what the commands do;
 //! - `rack`: the test rack.
 
 pub mod args;
 pub mod blank;
 pub mod commands;
+mod ended;
 pub mod failure;
 mod fits;
 pub mod help;

@@ -58,6 +58,11 @@ impl Record<'_> {
         printed(&self.bytes[..11])
     }
 
+    /// The long entries that a delete or rename takes along.
+    pub fn long_entries(&self) -> u8 {
+        self.bytes[12]
+    }
+
     fn state(&self) -> &'static str {
         match self.is_pending() {
             true => "pending",
@@ -92,6 +97,7 @@ impl Record<'_> {
             ("operation", &json::text(self.operation())),
             ("state", &json::text(self.state())),
             ("name", &json::text(&self.name())),
+            ("long_entries", &self.long_entries()),
             ("slot", &get16(self.bytes, 18)),
             ("first", &self.first()),
             ("from", &get32(self.bytes, 22)),

@@ -23,10 +23,7 @@ impl Remedy<'_> {
         let other = new.and_then(|new| self.entry(new)).filter(is_locked);
         let advice = match (refusal, own, other) {
             (Refusal::Locked, Some(entry), _) => {
-                let name = match which {
-                    Which::Name(name) => name.to_string(),
-                    Which::Slot(slot) => format!("slot:{slot} ({})", entry.name()),
-                };
+                let name = self.name(which);
                 let clearing = self.clearing(&entry);
                 format!("Nothing was written. To change {name}, clear the mark first: {clearing}")
             }
@@ -38,6 +35,15 @@ impl Remedy<'_> {
             _ => return failure,
         };
         Failure::Refused(refusal, advice)
+    }
+
+    /// What a file is called: its name, beside the slot where that was given.
+    pub fn name(&self, which: Which) -> String {
+        match (which, self.entry(which)) {
+            (Which::Name(name), _) => name.to_string(),
+            (Which::Slot(slot), Some(entry)) => format!("slot:{slot} ({})", entry.name()),
+            (Which::Slot(slot), None) => format!("slot:{slot}"),
+        }
     }
 
     /// What to do where a put, or a new name, meets the name of a file.
@@ -82,7 +88,7 @@ impl Remedy<'_> {
     }
 
     /// The entry that a name or a slot means.
-    fn entry(&self, which: Which) -> Option<Entry> {
+    pub fn entry(&self, which: Which) -> Option<Entry> {
         let mut entries = self.card.list().unwrap_or_default().into_iter();
         entries.find(|entry| match which {
             Which::Name(name) => entry.name_bytes() == name.bytes(),

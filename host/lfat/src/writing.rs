@@ -2,6 +2,7 @@
 
 use crate::args::{number, Args};
 use crate::blank::Blank;
+use crate::ended::Ended;
 use crate::failure::Failure;
 use crate::listing;
 use crate::output::print;
@@ -12,7 +13,7 @@ use crate::target::{name, Target, Which};
 use lfat_card::{Name, Refusal};
 use lfat_disk::layout::bytes;
 use lfat_disk::volume::Volume;
-use lfat_disk::{Access, DiskCard, Error, Operation};
+use lfat_disk::{Access, DiskCard, Error, InUse, Operation};
 use std::path::Path;
 
 /// A card that is open to be changed.
@@ -53,20 +54,43 @@ impl Opened {
     /// Makes a call on a file.
     fn change(&mut self, name: Name, call: Operation) -> Result<(), Failure> {
         let made = self.card.save(&[call], self.limit);
-        self.ended(made, Which::Name(name), None)
+        self.made(made, Which::Name(name), None).map(drop)
     }
 
-    /// How a call on a file has ended. `new` is a name that it was to have.
-    fn ended(
+    /// How many stores a call on a file has made. `new` is a name that it was to have.
+    fn made(
         &self,
         made: Result<u32, Error>,
         which: Which,
         new: Option<Name>,
-    ) -> Result<(), Failure> {
-        made.map(drop).map_err(|error| {
+    ) -> Result<u32, Failure> {
+        made.map_err(|error| {
             let failure = self.target.failure(error);
             self.remedy().explain(failure, which, new)
         })
+    }
+
+    /// Makes a call that ends a file's slot, and tells what went along with it.
+    fn end(
+        mut self,
+        which: Which,
+        new: Option<Name>,
+        as_json: bool,
+        call: impl FnOnce(&mut DiskCard, u32) -> Result<u32, Error>,
+    ) -> Result<(), Failure> {
+        let (shown, entry) = (self.remedy().name(which), self.remedy().entry(which));
+        let before = InUse::of(self.card.window());
+        let made = call(&mut self.card, self.limit);
+        let stores = self.made(made, which, new)?;
+        let long = before.long_name_gone(self.card.window());
+        let ended = Ended {
+            shown,
+            entry,
+            new,
+            long,
+            stores,
+        };
+        ended.tell(as_json)
     }
 }
 
@@ -137,32 +161,33 @@ pub fn truncate(mut args: Args) -> Result<(), Failure> {
 pub fn rm(mut args: Args) -> Result<(), Failure> {
     let target = image(&mut args)?;
     let which = Which::parse(&args.word("NAME")?)?;
-    let mut opened = Opened::new(target, &args)?;
-    let made = match which {
+    let opened = Opened::new(target, &args)?;
+    opened.end(which, None, args.has("--json"), |card, limit| match which {
         Which::Name(name) => {
             let name = name.bytes();
-            let call = Operation::Delete { name };
-            opened.card.save(&[call], opened.limit)
+            card.save(&[Operation::Delete { name }], limit)
         }
-        Which::Slot(slot) => opened.card.delete_slot(slot, opened.limit),
-    };
-    opened.ended(made, which, None)
+        Which::Slot(slot) => card.delete_slot(slot, limit),
+    })
 }
 
 pub fn mv(mut args: Args) -> Result<(), Failure> {
     let target = image(&mut args)?;
     let old = Which::parse(&args.word("OLD")?)?;
     let new = name(&args.word("NEW")?)?;
-    let mut opened = Opened::new(target, &args)?;
-    let made = match old {
-        Which::Name(old) => {
-            let (old, new) = (old.bytes(), new.bytes());
-            let call = Operation::Rename { old, new };
-            opened.card.save(&[call], opened.limit)
-        }
-        Which::Slot(slot) => opened.card.rename_slot(slot, new.bytes(), opened.limit),
-    };
-    opened.ended(made, old, Some(new))
+    let opened = Opened::new(target, &args)?;
+    opened.end(
+        old,
+        Some(new),
+        args.has("--json"),
+        |card, limit| match old {
+            Which::Name(old) => {
+                let (old, new) = (old.bytes(), new.bytes());
+                card.save(&[Operation::Rename { old, new }], limit)
+            }
+            Which::Slot(slot) => card.rename_slot(slot, new.bytes(), limit),
+        },
+    )
 }
 
 pub fn recover(mut args: Args) -> Result<(), Failure> {
@@ -187,7 +212,11 @@ fn pending(card: &DiskCard) -> Option<String> {
     let log = Volume::open(card.window())?.log()?;
     let table = &card.window()[bytes(&log)];
     let record = listing::records(table).find(|record| record.is_pending())?;
-    Some(format!("{} {}", record.operation(), record.name()))
+    let long = match record.long_entries() {
+        0 => "",
+        _ => " with its long name",
+    };
+    Some(format!("{} {}{long}", record.operation(), record.name()))
 }
 
 pub fn blank(mut args: Args) -> Result<(), Failure> {

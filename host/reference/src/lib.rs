@@ -8,6 +8,7 @@
 //! Where to look:
 //! - `check`: grounds 1 to 7, which judge the card;
 //! - `lookup`: grounds 8 to 10, 13 and 16, which judge a name and its file;
+//! - `long_entries`: the entries of a long name that go with its slot;
 //! - `operation`: the six writing operations;
 //! - `data`: the sectors that get new bytes, in append and replace;
 //! - `transaction`, `program`: the order of stores, as a list and in segments;
@@ -30,6 +31,7 @@ mod geometry;
 mod inspect;
 mod journal;
 mod listing;
+mod long_entries;
 mod lookup;
 mod name;
 mod operation;
@@ -47,6 +49,7 @@ pub use builder::{card_k, CardSpec};
 pub use geometry::Geometry;
 pub use inspect::{file_bytes, file_chain, free_clusters, is_sound};
 pub use listing::log_listing;
+pub use long_entries::checksum;
 pub use operation::{
     append, create, delete, plan, program, recover, rename, replace, run, truncate, Operation,
 };

@@ -88,11 +88,20 @@ impl File {
         Record {
             name: self.name,
             attributes: self.attributes,
+            long_entries: 0,
             operation,
             slot: self.slot,
             first_or_last,
             dir_cluster,
             size,
+        }
+    }
+
+    /// The same for an operation that ends the slot: its long entries go along.
+    pub fn ending_record(&self, operation: u8, long_entries: usize) -> Record {
+        Record {
+            long_entries,
+            ..self.record(operation, self.first_cluster, 0, self.size)
         }
     }
 

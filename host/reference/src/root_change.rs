@@ -30,11 +30,15 @@ pub enum RootChange {
         slot: usize,
         size: u32,
     },
+    /// With the slots directly before it, so many.
     Delete {
         slot: usize,
+        long_entries: usize,
     },
+    /// With the slots directly before the old one, so many.
     Rename {
         old_slot: usize,
+        long_entries: usize,
         new_slot: usize,
         new_name: Name,
     },
@@ -77,15 +81,17 @@ impl RootChange {
                 let first_cluster = (size == 0).then_some(0);
                 vec![(slot, resized(root, slot, size, first_cluster))]
             }
-            RootChange::Delete { slot } => vec![(slot, deleted(root, slot))],
+            RootChange::Delete { slot, long_entries } => ended(root, slot, long_entries),
             RootChange::Rename {
                 old_slot,
+                long_entries,
                 new_slot,
                 new_name,
-            } => vec![
-                (old_slot, deleted(root, old_slot)),
-                (new_slot, renamed(root, old_slot, &new_name)),
-            ],
+            } => {
+                let mut slots = ended(root, old_slot, long_entries);
+                slots.push((new_slot, renamed(root, old_slot, &new_name)));
+                slots
+            }
             RootChange::Replace {
                 slot,
                 first_cluster,
@@ -119,6 +125,13 @@ fn resized(root: &[u8], index: usize, size: u32, first_cluster: Option<u16>) -> 
     }
     put32(&mut bytes, 28, size);
     bytes
+}
+
+/// A slot and so many directly before it, marked deleted whatever they hold.
+fn ended(root: &[u8], slot: usize, long_entries: usize) -> Vec<(usize, SlotBytes)> {
+    (slot - long_entries..=slot)
+        .map(|slot| (slot, deleted(root, slot)))
+        .collect()
 }
 
 fn deleted(root: &[u8], index: usize) -> SlotBytes {

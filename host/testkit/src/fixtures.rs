@@ -1,16 +1,20 @@
 //! Cards with more on them than files of the library's own making.
 
 use crate::cards::{random_card, Card};
+use crate::long_names::{damage_long_entries, random_count};
 use crate::random::Random;
-use crate::{Name, OTHER, ROUTE};
+use crate::{Name, OTHER, PANEL, ROUTE};
 use reference::CardSpec;
 
 pub const FOLDER: &Name = b"FOLDER     ";
 /// A file that breaks the chain rule.
 pub const BROKEN: &Name = b"BROKEN     ";
 
+/// Slots of all kinds at the front of a furnished card.
+const FURNISHED: usize = 7;
+
 /// A card with few free clusters and a short log, perhaps with a nearly full root directory, with slots of all kinds at the
-/// front and old bytes in the log and in the data.
+/// front, files with long names after them, and old bytes in the log and in the data.
 pub fn furnished_card(random: &mut Random) -> Card {
     let mut card = random_card(random);
     for at in card.log().start * 512..card.log().end * 512 {
@@ -23,6 +27,7 @@ pub fn furnished_card(random: &mut Random) -> Card {
         }
     }
     furnish_root(&mut card, random);
+    put_long_names(&mut card, random);
     if random.one_in(3) {
         fill_root(&mut card, random);
     }
@@ -39,6 +44,30 @@ fn furnish_root(card: &mut Card, random: &mut Random) {
     put_file(card, 6, random);
     for byte in &mut card.slot_mut(6)[12..26] {
         *byte = random.byte();
+    }
+}
+
+/// Empty files after the others, with long entries before them: proper, damaged or too many, as far as there is room. Those of
+/// the first often begin in the first root sector and end in the second, with deleted slots before them.
+fn put_long_names(card: &mut Card, random: &mut Random) {
+    let mut first = FURNISHED;
+    for name in [PANEL, b"KEEL    CUT"] {
+        let count = random_count(random);
+        if first + count < 16 && card.spec.root_entries > 16 && random.one_in(2) {
+            let last = 15 - random.below(count);
+            card.mark_deleted(first..last);
+            first = last;
+        }
+        let slot = first + count;
+        if random.one_in(4) || slot + 4 > usize::from(card.spec.root_entries) {
+            continue;
+        }
+        card.put_slot(slot, name, 0x20, 0, 0);
+        card.put_long_entries(slot, count);
+        if random.one_in(3) {
+            damage_long_entries(card, slot, random);
+        }
+        first = slot + 1;
     }
 }
 
@@ -81,13 +110,14 @@ fn put_broken(card: &mut Card, slot: usize, random: &mut Random) {
 
 /// Fills the root directory but for a few slots, deleted ones or those at the end.
 fn fill_root(card: &mut Card, random: &mut Random) {
-    card.fill_root(7);
     let entries = usize::from(card.spec.root_entries);
+    let unused = (0..entries).find(|&slot| card.slot(slot)[0] == 0);
+    card.fill_root(unused.unwrap_or(entries));
     for slot in entries - random.below(4)..entries {
         card.slot_mut(slot).fill(0);
     }
     for _ in 0..random.below(3) {
-        let slot = 7 + random.below(entries - 12);
+        let slot = FURNISHED + random.below(entries - 12);
         card.slot_mut(slot)[0] = 0xE5;
     }
 }

@@ -4,6 +4,7 @@ pub mod call;
 pub mod cards;
 pub mod fixtures;
 pub mod judge;
+pub mod long_names;
 pub mod mtools;
 pub mod random;
 pub mod steps;

@@ -3,6 +3,7 @@
 use crate::call::Call;
 use crate::cards::Card;
 use crate::fixtures::{BROKEN, FOLDER};
+use crate::long_names::{damage_long_entries, random_count};
 use crate::random::Random;
 use crate::{Name, OTHER, PANEL, ROUTE};
 
@@ -55,7 +56,17 @@ pub fn random_length(random: &mut Random, cluster_bytes: usize) -> usize {
 /// The files and directories among the first slots.
 fn present_slots(card: &Card) -> Vec<usize> {
     let is_entry = |slot: &[u8]| ![0, 0xE5].contains(&slot[0]) && slot[11] & 0x08 == 0;
-    (0..16).filter(|&slot| is_entry(card.slot(slot))).collect()
+    let first = usize::from(card.spec.root_entries).min(40);
+    (0..first)
+        .filter(|&slot| is_entry(card.slot(slot)))
+        .collect()
+}
+
+/// The files and directories among the first slots that have long entries.
+pub fn long_named(card: &Card) -> Vec<usize> {
+    let mut slots = present_slots(card);
+    slots.retain(|&slot| card.long_entries(slot) > 0);
+    slots
 }
 
 /// The name of a file or directory among the first slots, or any name.
@@ -67,12 +78,34 @@ fn present_name(random: &mut Random, card: &Card) -> Vec<u8> {
     card.slot(random.pick(&present))[..11].to_vec()
 }
 
+/// The name of one that has long entries, where there is such a one, or any name.
+fn long_name(random: &mut Random, card: &Card, any: Vec<u8>) -> Vec<u8> {
+    let long = long_named(card);
+    if long.is_empty() || random.one_in(2) {
+        return any;
+    }
+    card.slot(random.pick(&long))[..11].to_vec()
+}
+
 /// Another machine marks a file or directory read-only, or takes the mark away, which it does twice as often.
 pub fn random_mark(random: &mut Random, card: &mut Card) {
     let present = present_slots(card);
     if !present.is_empty() {
         let slot = random.pick(&present);
         card.mark_read_only(slot, random.one_in(3));
+    }
+}
+
+/// Another machine gives a file or directory a long name, at another place of the root directory, or damages one that is there.
+pub fn random_long_name(random: &mut Random, card: &mut Card) {
+    let long = long_named(card);
+    if !long.is_empty() && random.one_in(3) {
+        return damage_long_entries(card, random.pick(&long), random);
+    }
+    let present = present_slots(card);
+    if !present.is_empty() {
+        let slot = random.pick(&present);
+        card.give_long_name(slot, random_count(random));
     }
 }
 
@@ -85,8 +118,8 @@ pub fn random_call(random: &mut Random, card: &Card) -> Call {
         0..=4 => Call::Create(random_name(random)),
         5..=9 => Call::Append(name, random.bytes(length)),
         10..=12 => Call::Truncate(name, length as u64),
-        13 | 14 => Call::Delete(name),
-        15..=17 => Call::Rename(name, random_name(random)),
+        13 | 14 => Call::Delete(long_name(random, card, name)),
+        15..=17 => Call::Rename(long_name(random, card, name), random_name(random)),
         18 => Call::Recover,
         19..=21 => Call::Read(name, random_offset(random), length),
         22..=25 => Call::Replace(name, random.bytes(length)),

@@ -8,7 +8,7 @@ use testkit::call::Call;
 use testkit::cards::Card;
 use testkit::fixtures::furnished_card;
 use testkit::random::Random;
-use testkit::steps::{random_bytes, random_call, random_mark};
+use testkit::steps::{random_bytes, random_call, random_long_name, random_mark};
 use testkit::{cases, ALL};
 
 /// Changes a few bytes where it matters.
@@ -30,10 +30,11 @@ fn damage(card: &mut Card, random: &mut Random) {
             _ => random.byte(),
         };
     }
-    match random.below(4) {
+    match random.below(6) {
         0 => mark_log(card, random),
         1 => damage_file(card, random),
         2 => damage_slot(card, random),
+        3 | 4 => random_long_name(random, card),
         _ => (),
     }
 }

@@ -4,11 +4,15 @@
 use crate::support::coverage::{assert_seen, Seen};
 use crate::support::twin::Twin;
 use reference::{Answer, CardSpec, Ground};
+use std::collections::BTreeSet;
 use testkit::call::Call;
 use testkit::cards::Card;
 use testkit::fixtures::furnished_card;
+use testkit::long_names::{ended_slot, root_after};
 use testkit::random::Random;
-use testkit::steps::{random_bytes, random_call, random_mark, random_name, random_offset};
+use testkit::steps::{
+    random_bytes, random_call, random_long_name, random_mark, random_name, random_offset,
+};
 use testkit::{cases, ALL, PANEL, ROUTE};
 
 /// Things that a history can come across besides its answers.
@@ -17,6 +21,10 @@ struct Met {
     clearing: bool,
     fragments: bool,
     falling_chain: bool,
+    /// Calls with how many long entries they took along, and over how many borders of root sectors.
+    taken_along: BTreeSet<(&'static str, usize, usize)>,
+    /// Calls on a slot whose long entries are not proper.
+    broken: BTreeSet<&'static str>,
 }
 
 impl Met {
@@ -30,6 +38,21 @@ impl Met {
             let chain = reference::file_chain(&card.bytes, slot).unwrap_or_default();
             self.fragments |= chain.windows(2).any(|pair| pair[1] > pair[0] + 1);
             self.falling_chain |= chain.windows(2).any(|pair| pair[1] < pair[0]);
+        }
+    }
+
+    /// A delete or rename that is done: the root directory is as it was to be.
+    fn look_at_ended(&mut self, before: &Card, call: &Call, after: &Card) {
+        let (Some(slot), Some(root)) = (ended_slot(before, call), root_after(before, call)) else {
+            return;
+        };
+        let got = &after.bytes[512 * after.root()..512 * after.data()];
+        assert!(got == root, "{call:?}");
+        let count = before.long_entries(slot);
+        let borders = slot / 16 - (slot - count) / 16;
+        self.taken_along.insert((call.word(), count, borders));
+        if count == 0 && slot > 0 && before.slot(slot - 1)[11] == 0x0F {
+            self.broken.insert(call.word());
         }
     }
 }
@@ -56,6 +79,9 @@ fn history(seed: u64, met: &mut Met) -> Seen {
         if random.one_in(5) {
             twin.edit(|card| random_mark(&mut random, card));
         }
+        if random.one_in(6) {
+            twin.edit(|card| random_long_name(&mut random, card));
+        }
         let call = random_call(&mut random, &twin.card);
         met.look(&twin.card);
         if call.operation().is_some() && random.one_in(12) && twin.stores(&call) < 80 {
@@ -68,10 +94,18 @@ fn history(seed: u64, met: &mut Met) -> Seen {
             if random.one_in(3) {
                 twin.edit(|card| random_mark(&mut random, card));
             }
+            if random.one_in(3) {
+                twin.edit(|card| random_long_name(&mut random, card));
+            }
             let next = random_call(&mut random, &twin.card);
             twin.call(&next, ALL);
             read_and_recover(&mut twin, &mut random);
             twin.done(&Call::Recover);
+        } else if ended_slot(&twin.card, &call).is_some() {
+            let before = twin.card.clone();
+            if let Answer::Done(_) = twin.call(&call, ALL) {
+                met.look_at_ended(&before, &call, &twin.card);
+            }
         } else {
             twin.call(&call, ALL);
         }
@@ -88,6 +122,16 @@ fn random_histories() {
     }
     assert_seen(&seen, |code| code == 0 || code >= 7);
     assert!(met.clearing && met.fragments && met.falling_chain);
+    for call in ["delete", "rename"] {
+        for few in [(call, 1, 0), (call, 2, 0), (call, 3, 0)] {
+            assert!(met.taken_along.contains(&few), "{few:?}");
+        }
+        let mut all = met.taken_along.iter().filter(|met| met.0 == call);
+        assert!(all.any(|met| met.2 > 0), "{call} over a border");
+        let most = all.map(|met| met.1).max();
+        assert!(most > Some(10), "{call}: {most:?}");
+        assert!(met.broken.contains(call), "{call}");
+    }
 }
 
 /// A card with the given number of free clusters, from the last ones down, every second one.

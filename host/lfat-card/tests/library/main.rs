@@ -1,7 +1,7 @@
 //! The library's ten calls: against the independent implementation, against Debian's FAT tools, and through power cuts.
 //!
 //! All random numbers have fixed seeds. `LFAT_CASES=10 cargo test --release -p lfat-card --test library` runs ten times as many
-//! random cases. `fat_tools` needs the packages dosfstools and mtools.
+//! random cases. `fat_tools` and `long_names` need the packages dosfstools and mtools.
 
 mod support;
 
@@ -13,6 +13,8 @@ mod fits;
 mod grounds;
 mod histories;
 mod locked;
+mod long_entries;
+mod long_names;
 mod names;
 mod parallel;
 mod power_cuts;

@@ -7,8 +7,9 @@ use std::collections::BTreeMap;
 use testkit::call::Call;
 use testkit::fixtures::{furnished_card, largest_fragmented_card, share_cluster};
 use testkit::judge::{has_pending, judge, Judged};
+use testkit::long_names::{ended_slot, root_after};
 use testkit::random::Random;
-use testkit::steps::{random_call, random_mark};
+use testkit::steps::{random_call, random_long_name, random_mark};
 use testkit::{cases, ALL};
 
 fn run(call: &Call, card: &mut [u8], limit: u32) -> Answer {
@@ -94,7 +95,12 @@ fn has_cuts(call: &Call) -> bool {
 }
 
 /// Which operations came up, each accepted and refused, on sound and other cards.
-type Tally = BTreeMap<(&'static str, bool, bool), u32>;
+#[derive(Default)]
+struct Tally {
+    calls: BTreeMap<(&'static str, bool, bool), u32>,
+    /// Of those accepted, the ones that took long entries along, by how many root sectors these reach into before the slot's own.
+    long: BTreeMap<(&'static str, usize), u32>,
+}
 
 fn history(seed: u64, tally: &mut Tally) {
     let mut random = Random::new(40_000 + seed);
@@ -108,21 +114,34 @@ fn history(seed: u64, tally: &mut Tally) {
         if random.one_in(5) {
             random_mark(&mut random, &mut card);
         }
+        if random.one_in(4) {
+            random_long_name(&mut random, &mut card);
+        }
         let call = random_call(&mut random, &card);
         if !has_cuts(&call) {
             run(&call, &mut card.bytes, ALL);
             continue;
         }
         let sound = judge(&card.bytes).files.is_some();
+        let (ended, root) = (ended_slot(&card, &call), root_after(&card, &call));
+        let count = ended.map_or(0, |slot| card.long_entries(slot));
         let answer = every_cut(&mut card.bytes, &call, 2, &mut random);
         let accepted = matches!(answer, Answer::Done(_));
-        *tally.entry((call.word(), accepted, sound)).or_default() += 1;
+        let key = (call.word(), accepted, sound);
+        *tally.calls.entry(key).or_default() += 1;
+        if let (true, Some(slot), Some(root)) = (accepted, ended, root) {
+            assert!(judge(&card.bytes).root == root, "{call:?}");
+            if count > 0 {
+                let key = (call.word(), slot / 16 - (slot - count) / 16);
+                *tally.long.entry(key).or_default() += 1;
+            }
+        }
     }
 }
 
 #[test]
 fn every_cut_in_random_histories() {
-    let mut tally = Tally::new();
+    let mut tally = Tally::default();
     for seed in 0..cases(60) {
         history(seed, &mut tally);
     }
@@ -130,8 +149,14 @@ fn every_cut_in_random_histories() {
         "create", "append", "replace", "truncate", "delete", "rename",
     ] {
         for (accepted, sound) in [(true, true), (true, false), (false, true), (false, false)] {
-            let count = tally.get(&(word, accepted, sound));
+            let count = tally.calls.get(&(word, accepted, sound));
             assert!(count > Some(&2), "{word} {accepted} {sound}: {count:?}");
+        }
+    }
+    for word in ["delete", "rename"] {
+        for borders in [0, 1] {
+            let count = tally.long.get(&(word, borders));
+            assert!(count > Some(&2), "{word} over {borders}: {count:?}");
         }
     }
 }

@@ -8,6 +8,7 @@ use testkit::cards::Card;
 use testkit::random::Random;
 use testkit::{cases, ALL, OTHER, PANEL, ROUTE};
 
+const DELETE: u8 = 3;
 const RENAME: u8 = 5;
 /// Create, update, delete, truncate, rename and replace.
 const OPERATIONS: std::ops::RangeInclusive<u8> = 1..=6;
@@ -94,7 +95,7 @@ fn fields_of_record_0() {
         ] {
             expect(operation, &both(not_judged.0, not_judged.1), true);
         }
-        for judged in [12, 14, 15, 16, 17, 20, 21, 24, 25] {
+        for judged in [14, 15, 16, 17, 20, 21, 24, 25] {
             expect(operation, &both(judged, 1), false);
         }
         expect(operation, &[(0, 1), (5, 0), (10, 0xE5)], true);
@@ -113,6 +114,41 @@ fn fields_of_record_0() {
             expect(operation, &[(18, LIVE as u8)], true);
             expect(operation, &[(13, RENAME)], false);
         }
+    }
+}
+
+/// The long-name count: in delete and rename at most 20 and at most the old slot's number, else 0.
+#[test]
+fn long_name_counts() {
+    for operation in OPERATIONS {
+        for slot in [0, 1, 3, 19, 20, 21, LIVE as u8] {
+            for count in (0..=22).chain([0x40, 0x41, 0x80, 0xFF]) {
+                let most = match operation {
+                    DELETE | RENAME => slot.min(20),
+                    _ => 0,
+                };
+                let mut changes = vec![(12, count), (18, slot)];
+                if operation == RENAME {
+                    // A new slot that is never among those marked.
+                    changes.extend([(44, count), (50, if slot < 30 { 39 } else { 0 })]);
+                }
+                expect(operation, &changes, count <= most);
+            }
+        }
+    }
+}
+
+/// The new slot of a rename is none of those that the count marks, and both records have the count.
+#[test]
+fn new_slots_beside_marked_ones() {
+    for (old, count) in [(30, 0), (30, 1), (30, 20), (20, 20), (17, 3), (1, 1)] {
+        for new in 0..LIVE as u8 {
+            let changes = [(12, count), (44, count), (18, old), (50, new)];
+            expect(RENAME, &changes, new > old || new < old - count);
+        }
+        let other = [(12, count), (44, count + 1), (18, old)];
+        expect(RENAME, &other, false);
+        expect(RENAME, &[(12, count + 1), (44, count), (18, old)], false);
     }
 }
 
@@ -224,7 +260,11 @@ fn random_groups() {
         }
         let slots = usize::from(LIVE) + 3;
         sector[18] = random.below(slots) as u8;
+        if matches!(sector[13], DELETE | RENAME) {
+            sector[12] = random.below(23).min(random.below(45)) as u8;
+        }
         if sector[13] == RENAME {
+            sector[44] = sector[12];
             sector[45] = random.byte();
             sector[50] = random.below(slots) as u8;
         }

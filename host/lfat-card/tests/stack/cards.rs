@@ -6,7 +6,7 @@ use testkit::call::Call;
 use testkit::cards::Card;
 use testkit::fixtures::furnished_card;
 use testkit::random::Random;
-use testkit::steps::random_call;
+use testkit::steps::{random_call, random_long_name};
 use testkit::{cases, ALL, OTHER, PANEL, ROUTE};
 
 const DONE: u64 = 0;
@@ -18,6 +18,9 @@ pub fn drive_random_cards(measure: &mut Measure) {
         let mut random = Random::new(seed);
         let mut card = furnished_card(&mut random);
         for _ in 0..60 {
+            if random.one_in(6) {
+                random_long_name(&mut random, &mut card);
+            }
             let call = random_call(&mut random, &card);
             let few = random.below(40) as u32;
             let limit = random.pick(&[ALL, ALL, 0, few]);
@@ -104,7 +107,8 @@ fn drive_cuts(measure: &mut Measure, place: &str, start: &Card, card: &mut Card,
 }
 
 /// The largest card of one sector per cluster: ROUTE.CUT of 1 MiB and OTHER of 900 bytes lie scattered over all of it, in mixed
-/// order; of the other clusters every eighth is free. The root directory is full but for a slot.
+/// order; of the other clusters every eighth is free. The root directory is full but for a slot. ROUTE.CUT has 20 long entries,
+/// which with its slot and the free one lie in four root sectors; OTHER has one.
 fn scattered_card(full_log: bool) -> Card {
     let mut card = Card::new(CardSpec {
         sectors_per_fat: 256,
@@ -120,10 +124,12 @@ fn scattered_card(full_log: bool) -> Card {
         .collect();
     card.put_chain(&chain, 0xFFFF);
     card.put_chain(&[65_523, 13], 0xFFF8);
-    card.put_slot(0, ROUTE, 0x20, chain[0], (1 << 20) - 100);
+    card.fill_root(0);
+    card.put_slot(51, ROUTE, 0x20, chain[0], (1 << 20) - 100);
+    card.put_long_entries(51, 20);
     card.put_slot(1, OTHER, 0x20, 65_523, 900);
-    card.fill_root(3);
-    card.slot_mut(2)[0] = 0xE5;
+    card.put_long_entries(1, 1);
+    card.mark_deleted([2]);
     if full_log {
         for sector in 0..card.log().len() {
             card.log_sector_mut(sector)

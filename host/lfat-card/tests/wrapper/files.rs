@@ -2,6 +2,7 @@
 
 use crate::{card_with_route, name, points};
 use lfat_card::{Card, CardView, Refusal};
+use reference::CardSpec;
 use std::io::{BufRead, BufReader, Error, ErrorKind, Read, Seek, SeekFrom};
 
 const SIZE: usize = 3_000;
@@ -48,6 +49,35 @@ fn what_fits() {
     for bytes in [0, 1, u64::MAX] {
         assert_eq!(CardView::new(&window).fits(bytes), Err(Refusal::Unclean));
         assert_eq!(CardView::new(&window[..9]).fits(bytes), Err(Refusal::Short));
+    }
+}
+
+/// Delete and rename take the entries of the long name along; they are in no list, before or after.
+#[test]
+fn long_names_go_along() {
+    let mut start = testkit::cards::Card {
+        spec: CardSpec::K,
+        bytes: card_with_route(SIZE),
+    };
+    let slot = start.give_long_name(0, 3).expect("room");
+    let marked = |window: &[u8]| {
+        (1..=slot)
+            .map(|slot| window[33 * 512 + slot * 32])
+            .collect::<Vec<u8>>()
+    };
+    for is_rename in [false, true] {
+        let mut window = start.bytes.clone();
+        let mut card = Card::new(&mut window);
+        assert_eq!(card.list().map(|list| list.len()), Ok(1));
+        let made = match is_rename {
+            true => card.rename(name("ROUTE.CUT"), name("PANEL.CUT")),
+            false => card.delete(name("ROUTE.CUT")),
+        };
+        assert_eq!(made, Ok(if is_rename { 3 } else { 5 }));
+        assert_eq!(card.list().map(|list| list.len()), Ok(is_rename.into()));
+        let first = card.bytes()[33 * 512];
+        assert_eq!(first, if is_rename { b'P' } else { 0xE5 });
+        assert_eq!(marked(&window), [0xE5; 4]);
     }
 }
 

@@ -1,7 +1,7 @@
 //! The C interface: the header as C99 and C++, its codes, and the program `examples/save.c` on images and partitions.
 
 use crate::files::Temporary;
-use crate::support::cards::{points, state, two_files, PANEL, ROUTE};
+use crate::support::cards::{card_over, points, state, two_files, PANEL, ROUTE};
 use std::path::{Path, PathBuf};
 use std::process::{Command, Output};
 
@@ -252,7 +252,8 @@ int main(int argc, char **argv)
     if (bytes[989] != 'x' || bytes[990] != 0)
         wrong = 1;
     DUE(lfat_disk_read(disk, keel, 11, 0, NULL, 0), LFAT_DONE, 0);
-    DUE(lfat_disk_delete(disk, route, 11), LFAT_DONE, 5);
+    /* The entries of its long name begin in the root sector before. */
+    DUE(lfat_disk_delete(disk, route, 11), LFAT_DONE, 6);
     DUE(lfat_disk_rename(disk, keel, 11, route, 11), LFAT_DONE, 3);
     DUE(lfat_disk_list(disk, entries, sizeof entries), LFAT_DONE, 2);
     DUE(lfat_disk_delete(disk, keel, 11), LFAT_ABSENT, 0);
@@ -283,9 +284,13 @@ fn every_call_in_c_and_cpp() {
         std::fs::write(&source, EVERY_CALL).expect("a source");
         let program = build(compiler, standard, &source);
         let _ = std::fs::remove_file(&source);
-        let mut marked = two_files();
-        marked[33 * 512 + 32 + 11] |= 0x01;
-        let card = Temporary::new(&marked);
+        let mut start = card_over(&two_files());
+        start.mark_read_only(1, true);
+        let route = start.slot(0).to_vec();
+        start.slot_mut(17).copy_from_slice(&route);
+        start.put_long_entries(17, 2);
+        start.mark_deleted((0..15).filter(|&slot| slot != 1));
+        let card = Temporary::new(&start.bytes);
         let output = run(&program, &[path(&card)]);
         let text = String::from_utf8_lossy(&output.stdout).into_owned();
         assert_eq!(
@@ -293,5 +298,7 @@ fn every_call_in_c_and_cpp() {
             (Some(0), ""),
             "{compiler}"
         );
+        let left = card_over(&card.bytes());
+        assert!((15..18).all(|slot| left.slot(slot)[0] == 0xE5));
     }
 }

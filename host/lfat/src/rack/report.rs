@@ -46,6 +46,8 @@ pub struct Report<'a> {
     pub operation: Operation<'a>,
     /// How many stores it makes.
     pub stores: usize,
+    /// The long entries that it marks with the file's slot.
+    pub long_entries: usize,
     /// The files' bytes were compared too.
     pub sound: bool,
     pub cuts: Vec<Cut>,
@@ -71,7 +73,12 @@ impl Report<'_> {
             Operation::Rename { old, new } => format!("mv {} to {}", printed(old), printed(new)),
             Operation::Recover => "recover".to_string(),
         };
-        format!("{words}: {} stores", self.stores)
+        let long = match self.long_entries {
+            0 => String::new(),
+            1 => " with 1 long entry".to_string(),
+            count => format!(" with {count} long entries"),
+        };
+        format!("{words}{long}: {} stores", self.stores)
     }
 
     /// The stages, each with its cuts.
@@ -130,6 +137,7 @@ impl Report<'_> {
         json::object(&[
             ("operation", &json::text(&self.title())),
             ("stores", &self.stores),
+            ("long_entries", &self.long_entries),
             ("sound", &self.sound),
             ("rows", &json::array(rows)),
             (

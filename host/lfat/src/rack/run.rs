@@ -20,6 +20,9 @@ use std::ops::Range;
 /// places.
 const LONG: usize = 4_096;
 
+/// Where a log record has its long-name count.
+const LONG_NAME_COUNT: usize = 12;
+
 #[derive(Clone, Copy, Debug)]
 pub struct Settings {
     /// How many recoveries in a row are cut in every place.
@@ -89,6 +92,8 @@ pub fn run<'d, D: Disk, L: Lists>(
         (old, new) = (old.without_files(), new.without_files());
     }
     let stage = |store: &(usize, &[u8])| Stage::of(&areas, store.0, store.1);
+    let record = right.iter().find(|store| stage(store) == Stage::Record);
+    let long_entries = record.map_or(0, |(_, stored)| usize::from(stored[LONG_NAME_COUNT]));
     let mut stores = right;
     if let Some(swap) = settings.swap {
         make_swap(&mut stores, swap);
@@ -127,6 +132,7 @@ pub fn run<'d, D: Disk, L: Lists>(
     Ok(Report {
         operation: *operation,
         stores: count,
+        long_entries,
         sound,
         cuts,
         mismatch,

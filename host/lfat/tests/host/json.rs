@@ -6,7 +6,7 @@ use crate::support::{card_with_route, points, ALL, ROUTE};
 use std::process::Stdio;
 
 /// Has python read the output of a command and look at it.
-fn check(folder: &Folder, output: &[u8], expression: &str) {
+pub fn check(folder: &Folder, output: &[u8], expression: &str) {
     folder.write("output", output);
     let program = format!("import json\nv = json.load(open('output'))\nassert {expression}, v\n");
     folder.write("check.py", program.as_bytes());

@@ -9,6 +9,7 @@ mod layouts;
 mod listing;
 mod loader;
 mod locked;
+mod long_names;
 mod memory;
 mod odd_names;
 mod outputs;

@@ -15,12 +15,13 @@ pub const TRUNCATE: u8 = 4;
 pub const RENAME: u8 = 5;
 pub const REPLACE: u8 = 6;
 
-/// The fields we write. Long-name count, directory cluster and high words are
-/// always 0.
+/// The fields we write. Directory cluster and high words are always 0.
 #[derive(Clone, Debug, PartialEq, Eq)]
 pub struct Record {
     pub name: Name,
     pub attributes: u8,
+    /// The long entries that are marked with the slot, in delete and rename.
+    pub long_entries: usize,
     pub operation: u8,
     pub slot: usize,
     pub first_or_last: u16,
@@ -33,6 +34,7 @@ impl Record {
         let mut bytes = [0; RECORD_BYTES];
         bytes[..11].copy_from_slice(&self.name);
         bytes[11] = self.attributes;
+        bytes[12] = self.long_entries as u8;
         bytes[13] = self.operation;
         put16(&mut bytes, 18, self.slot as u16);
         put32(&mut bytes, 22, u32::from(self.dir_cluster));

@@ -3,6 +3,7 @@
 use super::record::{CREATE, DELETE, RECORD_BYTES, RENAME, REPLACE, TRUNCATE, UPDATE};
 use crate::answer::Ground;
 use crate::bytes::{get16, get32};
+use crate::long_entries;
 use crate::name::name_at_start;
 use crate::root::{DELETED, UNUSED};
 use crate::root_change::RootChange;
@@ -50,12 +51,18 @@ fn judge(sector: &[u8], slots: usize) -> Option<(usize, RootChange)> {
         return None;
     }
     let slot = slot_below(record, slots)?;
+    let long_entries = usize::from(record[12]);
+    if long_entries > most_long_entries(record[13], slot) {
+        return None;
+    }
     if record[13] == RENAME {
         let (part, rest) = rest.split_at(RECORD_BYTES);
         let new_slot = slot_below(part, slots)?;
-        let accepted = is_pending(part) && are_alike(record, part) && slot != new_slot;
+        let ended = slot - long_entries..=slot;
+        let accepted = is_pending(part) && are_alike(record, part) && !ended.contains(&new_slot);
         let change = RootChange::Rename {
             old_slot: slot,
+            long_entries,
             new_slot,
             new_name: name_at_start(part),
         };
@@ -66,13 +73,17 @@ fn judge(sector: &[u8], slots: usize) -> Option<(usize, RootChange)> {
     }
 }
 
-/// Long-name count, directory cluster and high word are 0, and DIR_Cluster
-/// fits 16 bits.
+/// Directory cluster and high word are 0, and DIR_Cluster fits 16 bits.
 fn fixed_fields_are_accepted(record: &[u8]) -> bool {
-    record[12] == 0
-        && get32(record, 14) == 0
-        && get16(record, 20) == 0
-        && get32(record, 22) < 65_536
+    get32(record, 14) == 0 && get16(record, 20) == 0 && get32(record, 22) < 65_536
+}
+
+/// The most that the long-name count may be: delete and rename mark slots before their own, no other operation does.
+fn most_long_entries(operation: u8, slot: usize) -> usize {
+    match operation {
+        DELETE | RENAME => long_entries::MOST.min(slot),
+        _ => 0,
+    }
 }
 
 fn slot_below(record: &[u8], slots: usize) -> Option<usize> {
@@ -107,7 +118,10 @@ fn single_change(record: &[u8], slot: usize) -> Option<RootChange> {
                 first_cluster: was_empty.then_some(dir_cluster),
             })
         }
-        DELETE => Some(RootChange::Delete { slot }),
+        DELETE => Some(RootChange::Delete {
+            slot,
+            long_entries: usize::from(record[12]),
+        }),
         TRUNCATE => Some(RootChange::Truncate { slot, size }),
         REPLACE => Some(RootChange::Replace {
             slot,

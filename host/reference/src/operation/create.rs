@@ -20,6 +20,7 @@ pub fn plan<'a>(card: &'a [u8], name: &[u8]) -> Result<Planned<'a, 'static>, Gro
     let record = Record {
         name,
         attributes: ARCHIVE,
+        long_entries: 0,
         operation: record::CREATE,
         slot,
         first_or_last: 0,

@@ -1,8 +1,9 @@
-//! Delete: the slot is marked and the whole chain freed.
+//! Delete: the slot and its long entries are marked and the whole chain freed.
 
 use crate::answer::Ground;
 use crate::fat_draft::FatDraft;
 use crate::journal::record::DELETE;
+use crate::long_entries;
 use crate::lookup::{open_to_write, Opened};
 use crate::root_change::RootChange;
 use crate::transaction::{Planned, Transaction};
@@ -11,11 +12,15 @@ pub fn plan<'a>(card: &'a [u8], name: &[u8]) -> Result<Planned<'a, 'static>, Gro
     let Opened { card, file, chain } = open_to_write(card, name)?;
     let mut fat = FatDraft::new(card.volume.fat1());
     fat.free_after(&chain, 0);
+    let long_entries = long_entries::belonging_to(card.volume.root(), file.slot);
     let transaction = Transaction {
         data: Vec::new(),
         fat,
-        records: vec![file.record(DELETE, file.first_cluster, 0, file.size)],
-        root: RootChange::Delete { slot: file.slot },
+        records: vec![file.ending_record(DELETE, long_entries)],
+        root: RootChange::Delete {
+            slot: file.slot,
+            long_entries,
+        },
     };
     Ok(transaction.on(card))
 }

@@ -86,12 +86,12 @@ pub fn truncate(card: &mut [u8], name: &[u8], size: u64, limit: u32) -> Answer {
     run(card, &Operation::Truncate { name, size }, limit)
 }
 
-/// Removes a file and frees its clusters.
+/// Removes a file with its long entries and frees its clusters.
 pub fn delete(card: &mut [u8], name: &[u8], limit: u32) -> Answer {
     run(card, &Operation::Delete { name }, limit)
 }
 
-/// Moves a file to a new slot with a new name.
+/// Moves a file to a new slot with a new name, without its long entries.
 pub fn rename(card: &mut [u8], old: &[u8], new: &[u8], limit: u32) -> Answer {
     run(card, &Operation::Rename { old, new }, limit)
 }

@@ -1,9 +1,11 @@
-//! Rename: a new slot with the new name; the old one is marked deleted.
+//! Rename: a new slot with the new name; the old one and its long entries are
+//! marked deleted.
 
 use crate::answer::Ground;
 use crate::check;
 use crate::fat_draft::FatDraft;
 use crate::journal::{record, Record};
+use crate::long_entries;
 use crate::lookup::{File, Found};
 use crate::name::{self, Name};
 use crate::root;
@@ -20,12 +22,14 @@ pub fn plan<'a>(card: &'a [u8], old: &[u8], new: &[u8]) -> Result<Planned<'a, 's
         return Err(Ground::Exists);
     }
     let new_slot = root::lowest_available(volume.root()).ok_or(Ground::Rootfull)?;
+    let long_entries = long_entries::belonging_to(volume.root(), file.slot);
     let transaction = Transaction {
         data: Vec::new(),
         fat: FatDraft::new(volume.fat1()),
-        records: rename_records(&file, new_name, new_slot),
+        records: rename_records(&file, long_entries, new_name, new_slot),
         root: RootChange::Rename {
             old_slot: file.slot,
+            long_entries,
             new_slot,
             new_name,
         },
@@ -34,8 +38,13 @@ pub fn plan<'a>(card: &'a [u8], old: &[u8], new: &[u8]) -> Result<Planned<'a, 's
 }
 
 /// Record 1 is record 0 with the new name, operation 0 and the new slot.
-fn rename_records(file: &File, new_name: Name, new_slot: usize) -> Vec<Record> {
-    let old = file.record(record::RENAME, file.first_cluster, 0, file.size);
+fn rename_records(
+    file: &File,
+    long_entries: usize,
+    new_name: Name,
+    new_slot: usize,
+) -> Vec<Record> {
+    let old = file.ending_record(record::RENAME, long_entries);
     let new = Record {
         name: new_name,
         operation: record::PART,

@@ -55,6 +55,16 @@ fn whole_log_of_card_k() {
     assert_eq!(listing(&card[65 * 512..73 * 512]), expected);
 }
 
+/// A long-name count is not listed.
+#[test]
+fn lines_have_no_long_name_count() {
+    let mut record = record_named(PANEL);
+    record[13] = 3;
+    let without = line(&record);
+    record[12] = 20;
+    assert_eq!(line(&record), without);
+}
+
 #[test]
 fn input_lengths() {
     let bytes = vec![0; 65_536 + 512];

@@ -16,6 +16,8 @@ mod listing;
 mod locked;
 mod locked_slots;
 mod log_area;
+mod long_entries;
+mod long_records;
 mod names;
 mod power_cuts;
 mod records;

@@ -17,6 +17,7 @@ fn run(program: &str, arguments: &[&str]) -> Output {
         .args(arguments)
         .env("PATH", path)
         .env("MTOOLSRC", "/dev/null")
+        .env("LC_ALL", "C.UTF-8")
         .output()
         .unwrap_or_else(|error| panic!("{program} of dosfstools or mtools: {error}"))
 }
@@ -99,15 +100,21 @@ impl Image {
 
     /// fsck.fat prints its version and the summary, and nothing else.
     pub fn check(&self) {
+        let (is_clean, text) = self.checked();
+        assert!(is_clean, "{text}");
+        assert_eq!(text.lines().count(), 2, "{text}");
+    }
+
+    /// Whether fsck.fat ends well, and what it prints.
+    pub fn checked(&self) -> (bool, String) {
         let copy = self.file.with_extension("copy");
         let mut card = self.card.clone();
         mark_log(&mut card, 0xFFF7);
         std::fs::write(&copy, card).expect("the copy");
         let output = run("fsck.fat", &["-n", copy.to_str().expect("plain path")]);
-        let text = String::from_utf8_lossy(&output.stdout);
-        assert!(output.status.success(), "{text}");
-        assert_eq!(text.lines().count(), 2, "{text}");
         std::fs::remove_file(copy).expect("the copy");
+        let text = String::from_utf8_lossy(&output.stdout).into_owned();
+        (output.status.success(), text)
     }
 }
 

@@ -119,14 +119,26 @@ impl Twin {
     /// to what each leaves. The card is put back.
     pub fn all_limits(&mut self, call: &Call, after: impl Fn(&mut Twin)) {
         for limit in (0..=self.stores(call) as u32 + 1).chain([ALL]) {
-            self.undo = Some(Vec::new());
-            self.call(call, limit);
-            after(self);
-            // The two cards are the same, so they are put back alike.
-            for (at, old) in self.undo.take().into_iter().flatten().rev() {
-                self.card.bytes[at..at + 512].copy_from_slice(&old);
-                self.own[MARGIN + at..][..512].copy_from_slice(&old);
-            }
+            self.tried(call, limit, &after);
         }
+    }
+
+    /// Tries the call and does `after` to what it leaves. The card is put back.
+    pub fn tried(&mut self, call: &Call, limit: u32, after: impl FnOnce(&mut Twin)) {
+        self.undo = Some(Vec::new());
+        self.call(call, limit);
+        after(self);
+        // The two cards are the same, so they are put back alike.
+        for (at, old) in self.undo.take().into_iter().flatten().rev() {
+            self.card.bytes[at..at + 512].copy_from_slice(&old);
+            self.own[MARGIN + at..][..512].copy_from_slice(&old);
+        }
+    }
+
+    /// Changes one byte of a root slot on both cards.
+    pub fn set_slot_byte(&mut self, slot: usize, at: usize, byte: u8) {
+        self.card.slot_mut(slot)[at] = byte;
+        let place = self.card.root() * 512 + slot * 32 + at;
+        self.own[MARGIN + place] = byte;
     }
 }

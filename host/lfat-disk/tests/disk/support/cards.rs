@@ -4,6 +4,7 @@ use lfat_disk::lists::Lists;
 use lfat_disk::{Disk, DiskCard, Error, Operation};
 use reference::{card_k, CardSpec};
 use std::fmt;
+use testkit::cards::Card;
 
 pub const ALL: u32 = u32::MAX;
 pub const ROUTE: &[u8; 11] = b"ROUTE   CUT";
@@ -67,6 +68,27 @@ pub fn odd_name() -> Vec<u8> {
     let mut card = two_files();
     card[33 * 512 + 32..][..2].copy_from_slice(&[0x80, 0x81]);
     card
+}
+
+/// The two files moved back and given long names: ROUTE.CUT in slot 17 with 2 entries before it, PANEL.CUT in slot 38 with 20. The
+/// slots before them are deleted, those after them unused.
+pub fn long_names() -> Vec<u8> {
+    let mut card = card_over(&two_files());
+    for (slot, from, count) in [(17, 0, 2), (38, 1, 20)] {
+        let bytes = card.slot(from).to_vec();
+        card.slot_mut(slot).copy_from_slice(&bytes);
+        card.put_long_entries(slot, count);
+    }
+    card.mark_deleted(0..15);
+    card.bytes
+}
+
+/// A card whose areas lie as those of card K.
+pub fn card_over(bytes: &[u8]) -> Card {
+    Card {
+        spec: CardSpec::K,
+        bytes: bytes.to_vec(),
+    }
 }
 
 /// One command on an open card.
@@ -192,7 +214,11 @@ pub fn state(card: &[u8]) -> Result<State, String> {
         .filter(|(_, slot)| ![0, 0xE5].contains(&slot[0]));
     Ok(entries
         .map(|(index, slot)| {
-            let bytes = reference::file_bytes(card, index);
+            let bytes = match slot[11] & 0x08 {
+                0 => reference::file_bytes(card, index),
+                // A label or a long entry has no bytes but these.
+                _ => slot.to_vec(),
+            };
             (index, slot[..11].to_vec(), slot[11], bytes)
         })
         .collect())

@@ -1,6 +1,6 @@
 //! Cuts of a verb after every disk operation, with what each may leave, recovered: old or new, never else.
 
-use super::cards::{state, State, Verb};
+use super::cards::{card_over, state, State, Verb};
 use super::kept::Kept;
 use super::lying::Lying;
 use super::random::Random;
@@ -114,21 +114,30 @@ pub fn states(card: &[u8], verb: &Verb) -> Result<Vec<State>, String> {
         }
         Verb::DeleteSlot(slot) => {
             let mut after = states[0].clone();
-            after.retain(|entry| entry.0 != *slot);
+            let ended = ended(card, *slot);
+            after.retain(|entry| !ended.contains(&entry.0));
             states.push(after);
         }
         Verb::RenameSlot(slot, new) => {
             let mut after = states[0].clone();
-            // The new slot is the lowest free one, after the entries.
-            let lowest = after.len();
+            // The new slot is the lowest free one.
+            let lowest = (0..).find(|slot| after.iter().all(|entry| entry.0 != *slot));
             let at = after.iter().position(|entry| entry.0 == *slot);
-            let mut entry = after.remove(at.ok_or("no such slot")?);
-            (entry.0, entry.1) = (lowest, new.to_vec());
+            let mut entry = after[at.ok_or("no such slot")?].clone();
+            (entry.0, entry.1) = (lowest.ok_or("no free slot")?, new.to_vec());
+            let ended = ended(card, *slot);
+            after.retain(|entry| !ended.contains(&entry.0));
             after.push(entry);
+            after.sort();
             states.push(after);
         }
     }
     Ok(states)
+}
+
+/// A slot and the long entries that belong to it.
+fn ended(card: &[u8], slot: usize) -> std::ops::RangeInclusive<usize> {
+    slot - card_over(card).long_entries(slot)..=slot
 }
 
 /// Cuts a verb after every event, and judges what recoveries make of it. An error in words is what went wrong.

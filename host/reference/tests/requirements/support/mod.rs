@@ -2,6 +2,7 @@
 
 pub mod history;
 pub mod locked;
+pub mod long;
 pub mod worked;
 
 use reference::{plan, run, Answer, Operation};
