@@ -68,6 +68,18 @@ fn every_count_over_a_border() {
     }
 }
 
+/// Without the last entry none belong, also where the entries begin in slot 0.
+#[test]
+fn without_the_last_entry() {
+    for (slot, count) in [(1, 1), (3, 3), (19, 19), (20, 20), (25, 20), (17, 2)] {
+        let mut card = card_with(slot, count);
+        card.slot_mut(slot - count)[0] &= !0x40;
+        let mut twin = Twin::new(card);
+        assert_eq!(marked(&mut twin), [slot]);
+        assert_ended(&mut twin);
+    }
+}
+
 /// Which slots a finished delete marks; the record's count says as many.
 fn marked(twin: &mut Twin) -> Vec<usize> {
     let before: Vec<u8> = (0..512).map(|slot| twin.card.slot(slot)[0]).collect();

@@ -149,6 +149,17 @@ fn recovery_does_not_judge() {
     recovered(pending_rename(60, 0, 1), &[33, 36, 67], 59..=60);
 }
 
+/// Slots that are marked already are concerned all the same: their sector is stored.
+#[test]
+fn slots_marked_already() {
+    let mut card = pending(REMOVE, 17, 2);
+    card.mark_deleted([15, 16, 17]);
+    recovered(card, &[33, 34, 67], 15..=17);
+    let mut card = pending_rename(17, 60, 2);
+    card.mark_deleted([15, 16]);
+    recovered(card, &[33, 34, 36, 67], 15..=17);
+}
+
 /// Neither more than the record says, where proper entries stand before the slot.
 #[test]
 fn proper_entries_that_the_record_does_not_count() {
