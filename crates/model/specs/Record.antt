@@ -69,7 +69,7 @@ record-in b = record {
   size = r-size b;
 }
 
--- A record about an entry. "Directory cluster and high word are 0 here."
+-- A record about an entry. ".. directory cluster and high word are 0 here."
 unfoldable pub record-of : Entry → ℕ → ℕ → ℕ → ℕ → ℕ → Record
 record-of e number count cluster from size = record {
   name = e .name;
