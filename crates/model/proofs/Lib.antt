@@ -1,4 +1,3 @@
-pub mod LongRows
 pub mod Tests
 pub mod Scan
 pub mod All
@@ -27,6 +26,7 @@ pub mod Logs
 pub mod Lookups
 pub mod Pendings
 pub mod Belong
+pub mod LongRows
 pub mod Grounds
 pub mod Volumes
 pub mod Copies
