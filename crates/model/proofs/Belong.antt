@@ -4,13 +4,13 @@ use native.Mathlib.Omega.{arith}
 use mathlib.Core.Path.{_≡_, refl, sym, ap, _∙_, subst}
 use mathlib.Core.Logic.{_⊎_, inl, inr, ⊎-elim}
 use mathlib.Core.Bool.{Bool, true, false, and-false}
-use lib.Dec.{leb, eqb}
+use lib.Dec.{leb}
 use borrow.Author.Tests.{eq-eqb, ne-eqb, eqb-true, le-leb, lt-leb, leb-true}
 use Rattle.model.specs.Bytes.{Bytes, pick}
 use Rattle.model.specs.Scan.{first-from, all-from}
-use Rattle.model.specs.Root.{Directory, attributes, is-label}
+use Rattle.model.specs.Root.{Directory, is-label}
 use Rattle.model.specs.Long.{checksum, is-long, order-byte, belong, most-long, long-count}
-use Rattle.model.proofs.Tests.{told, less?, same?, clash, and-left, and-right, and-both, every-at, every-not}
+use Rattle.model.proofs.Tests.{told, less?, same?, and-left, and-right, and-both, every-at, every-not}
 use Rattle.model.proofs.Scan.{Sofar, all-of, all-at, all-not, first-is, first-none, first-ge, first-has}
 use Rattle.model.proofs.Long.{OfName}
 use Rattle.model.proofs.Pendings.{starts}
@@ -39,7 +39,7 @@ module _ (n i : ℕ) where
   order-inner : (i ≡ n → ⊥) → order-byte n i ≡ i
   order-inner ne = rw (ne-eqb i n ne)
 
-  order-range : ((order-byte n i ≡ 0x40 + i) ⊎ (order-byte n i ≡ i))
+  order-range : (order-byte n i ≡ 0x40 + i) ⊎ (order-byte n i ≡ i)
   order-range = ⊎-elim (λ e. inl (order-last e)) (λ ne. inr (order-inner ne)) (same? i n)
 
 -- ---- those before slot s of a directory

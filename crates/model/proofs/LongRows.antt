@@ -6,7 +6,7 @@ use mathlib.Core.Bool.{Bool, true, false}
 use lib.Dec.{ltb, eqb}
 use lib.ListN.{getD}
 use Rattle.model.specs.Bytes.{Bytes, pick, zeros}
-use Rattle.model.specs.Scan.{every, any, between, walk, first-from, indices-from, all-from, range}
+use Rattle.model.specs.Scan.{every, any, walk, first-from, indices-from, all-from, range}
 use Rattle.model.specs.Root.{Directory}
 use Rattle.model.specs.Long.{name-slots, turned, sum-of, checksum, is-long, belong, long-count}
 use Rattle.model.specs.Record.{record-of, operation-records}

@@ -7,7 +7,7 @@ use mathlib.Core.List.{List, [], _∷_, map}
 use mathlib.Core.Bool.{Bool, true, false, _&&_, _||_, not}
 use lib.Dec.{eqb, ltb, leb}
 use lib.ListN.{length, getD}
-use borrow.Author.Tests.{eq-eqb, eqb-true, lt-ltb, le-ltb, ltb-false, ltb-true, le-leb, leb-true, ne-eqb}
+use borrow.Author.Tests.{eq-eqb, eqb-true, lt-ltb, le-ltb, ltb-false, ltb-true, le-leb, leb-true}
 use Rattle.model.specs.Bytes.{Bytes, zeros, pick, byte-of, overlay}
 use Rattle.model.specs.Scan.{first, every, between, all-from, walk, among}
 use Rattle.model.specs.Sector.{clip}

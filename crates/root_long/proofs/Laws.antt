@@ -1,7 +1,7 @@
 -- A checksum, byte by byte.
 use Prim.Native.Nat.{ℕ, _+_, _%_}
 use native.Mathlib.Numerals.{add-one}
-use mathlib.Core.Path.{_≡_, refl}
+use mathlib.Core.Path.{_≡_}
 use Rattle.model.specs.Bytes.{Bytes}
 use Rattle.model.specs.Long.{turned, sum-of}
 

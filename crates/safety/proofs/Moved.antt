@@ -155,9 +155,6 @@ module _ {size : ℕ} {c : Card} (st : Start size c) (is : clean (window size c)
     named-slot = old-kept d (renames-as st x (g .live) m) x named rename-edits z (free-apart st x (g .live) (g .room))
         ∙ set-in (edit-from x z (λ b. set-name (name-of m) b)) [] d z refl
 
-    pub other-slot : (k : ℕ) → (OfName x (long-count d x) k → ⊥) → (k ≡ z → ⊥) → effect (renames-as st x (g .live) m) d k ≡ d k
-    other-slot k off other = old-kept d (renames-as st x (g .live) m) x named rename-edits k off ∙ stays k other
-
     pub rest-slot : (k : ℕ) → (k ≡ x → ⊥) → (k ≡ z → ⊥) → Dropped (d k) (effect (renames-as st x (g .live) m) d k)
     rest-slot k ne other = old-dropped d (renames-as st x (g .live) m) x named rename-edits k ne (stays k other)
 
@@ -280,9 +277,6 @@ module _ {size : ℕ} {c : Card} (st : Start size c) (is : clean (window size c)
 
     pub gone-slot : effect gone d (at n) ≡ mark-deleted (d (at n))
     gone-slot = gone-slots (at n) (omega arith, omega arith)
-
-    pub spared-slot : (k : ℕ) → (OfName (at n) (long-count d (at n)) k → ⊥) → effect gone d k ≡ d k
-    spared-slot k off = old-kept d gone (at n) [] delete-edits k off ∙ same-slot k
 
     pub kept-slot : (k : ℕ) → (k ≡ at n → ⊥) → Dropped (d k) (effect gone d k)
     kept-slot k ne = old-dropped d gone (at n) [] delete-edits k ne (same-slot k)

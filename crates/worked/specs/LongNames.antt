@@ -4,8 +4,7 @@
 use Prim.Native.Nat.{ℕ, _-_, _%_}
 use mathlib.Core.Path.{_≡_}
 use mathlib.Core.List.{List, [], _∷_, map}
-use mathlib.Core.Bool.{_&&_}
-use lib.Dec.{leb, ltb, eqb}
+use lib.Dec.{ltb, eqb}
 use lib.ListN.{getD}
 use Rattle.model.specs.Bytes.{Bytes, pick, zeros}
 use Rattle.model.specs.Sector.{Card, Window, store, put, after}
@@ -15,7 +14,7 @@ use Rattle.model.specs.Text.{ascii}
 use Rattle.model.specs.Listing.{log-text}
 use Rattle.operations.specs.Program.{Program}
 use Rattle.operations.specs.Calls.{deletes, renames, recovers, plan}
-use Rattle.operations.specs.Outcome.{made, left, largest}
+use Rattle.operations.specs.Outcome.{made, largest}
 use Rattle.worked.specs.CardK.{span, route, letter}
 use Rattle.worked.specs.Worked.{volume-k, k4}
 

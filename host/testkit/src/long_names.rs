@@ -3,6 +3,7 @@
 use crate::call::Call;
 use crate::cards::Card;
 use crate::random::Random;
+use crate::ROUTE;
 
 /// The bytes of a long entry that decide whether it belongs to a slot: order number, attributes, checksum.
 pub const JUDGED: [usize; 3] = [0, 11, 13];
@@ -17,6 +18,20 @@ pub fn checksum(name: &[u8]) -> u8 {
         .iter()
         .fold(0, |sum, &byte| (turned(sum) + u32::from(byte)) % 256);
     sum as u8
+}
+
+/// Files in all slots up to ROUTE.CUT's, which has 700 bytes in clusters 20 and 21 and so many long entries before it. The slots
+/// after it are unused.
+pub fn card_with(slot: usize, count: usize) -> Card {
+    let mut card = Card::k();
+    card.fill_root(0);
+    for unused in slot + 1..512 {
+        card.slot_mut(unused).fill(0);
+    }
+    card.put_slot(slot, ROUTE, 0x20, 20, 700);
+    card.put_chain(&[20, 21], 0xFFFF);
+    card.put_long_entries(slot, count);
+    card
 }
 
 /// An entry as other systems write it, with characters that tell it from others.

@@ -1,6 +1,5 @@
 use borrow.Author.Tests.{eq-eqb, ne-eqb}
 use Rattle.model.specs.Pending.{most-counted}
-use borrow.Author.Needs.{needs}
 use Rattle.log_record.proofs.most_counted.Statement.{statement}
 use Rattle.log_record.proofs.most_counted.Tie as tie
 use Rattle.log_record.proofs.most_counted.Reads as reads

@@ -5,22 +5,9 @@ use crate::support::twin::Twin;
 use reference::{Answer, Ground};
 use testkit::call::Call;
 use testkit::cards::Card;
-use testkit::long_names::{checksum, root_after, JUDGED};
+use testkit::long_names::{card_with, checksum, root_after, JUDGED};
 use testkit::random::Random;
 use testkit::{cases, Name, ALL, OTHER, PANEL, ROUTE};
-
-/// Files up to ROUTE.CUT's slot, which has 700 bytes and so many long entries before it; unused slots after it.
-fn card_with(slot: usize, count: usize) -> Card {
-    let mut card = Card::k();
-    card.fill_root(0);
-    for unused in slot + 1..512 {
-        card.slot_mut(unused).fill(0);
-    }
-    card.put_slot(slot, ROUTE, 0x20, 20, 700);
-    card.put_chain(&[20, 21], 0xFFFF);
-    card.put_long_entries(slot, count);
-    card
-}
 
 fn delete() -> Call {
     Call::Delete(ROUTE.to_vec())

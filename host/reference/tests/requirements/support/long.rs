@@ -3,6 +3,7 @@
 use super::run_done;
 use reference::{Answer, Operation};
 use testkit::cards::Card;
+pub use testkit::long_names::card_with;
 use testkit::{ALL, PANEL, ROUTE};
 
 pub const DELETE: Operation = Operation::Delete { name: ROUTE };
@@ -10,20 +11,6 @@ pub const RENAME: Operation = Operation::Rename {
     old: ROUTE,
     new: PANEL,
 };
-
-/// Files in all slots up to ROUTE.CUT's, which has 700 bytes in clusters 20 and 21 and so many long entries before it. The slots
-/// after it are unused.
-pub fn card_with(slot: usize, count: usize) -> Card {
-    let mut card = Card::k();
-    card.fill_root(0);
-    for unused in slot + 1..512 {
-        card.slot_mut(unused).fill(0);
-    }
-    card.put_slot(slot, ROUTE, 0x20, 20, 700);
-    card.put_chain(&[20, 21], 0xFFFF);
-    card.put_long_entries(slot, count);
-    card
-}
 
 /// The first bytes of all slots that differ between the two, and that no other byte of the root directory does.
 pub fn newly_deleted(before: &Card, after: &Card) -> Vec<usize> {
