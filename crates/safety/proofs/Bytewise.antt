@@ -1,9 +1,7 @@
--- Every call on a window of bytes leaves a window of bytes.
+-- Stores of bytes: what every operation and recovery writes on a card of bytes.
 use Prim.Native.Nat.{ℕ, zero, suc, _+_, _-_, _*_, _/_, _%_, _^_, _≤_, _<_}
 use native.Mathlib.Nat.{mod-lt}
 use native.Mathlib.Omega.{arith}
-use mathlib.Core.Path.{_≡_, refl, sym, ap, _∙_, subst}
-use mathlib.Core.Logic.{inl, inr}
 use mathlib.Core.List.{List, [], _∷_, _++_, map}
 use mathlib.Core.Bool.{Bool, true, _&&_}
 use lib.Dec.{ltb, eqb, leb}
@@ -11,51 +9,39 @@ use lib.ListN.{getD}
 use borrow.Author.Tests.{ltb-true, ltb-false}
 use Rattle.model.specs.Bytes.{Bytes, Span, pick, patch, overlay, byte-of, zeros}
 use Rattle.model.specs.Scan.{range}
-use Rattle.model.specs.Sector.{Card, Window, Store, after, put}
+use Rattle.model.specs.Sector.{Card, Store, after, put}
 use Rattle.model.specs.Fat.{Fat, fat1-of, fat2-of, set-entry, set-wide-entry, link, release}
 use Rattle.model.specs.Chain.{file-sector}
 use Rattle.model.specs.Root.{Directory, slot-at}
 use Rattle.model.specs.Record.{record-bytes, records, lay, encode, committed, commit, group-in}
 use Rattle.model.specs.declared.Record.{Record}
-use Rattle.model.specs.Ground.{Answer, refused, granted}
-use Rattle.model.specs.Volume.{clean, examine}
 use Rattle.model.specs.declared.Group.{Group}
 use Rattle.model.specs.declared.Layout.{Layout}
 use Rattle.model.specs.declared.Change.{Change}
 use Rattle.model.specs.declared.Pending.{Pending}
 use Rattle.model.specs.declared.Volume.{Volume}
-use Rattle.operations.specs.Program.{Program, stores, ending}
+use Rattle.operations.specs.Program.{stores}
 use Rattle.operations.specs.Finish.{Edit, set-slots, edits, effect, root-sector, finish, redo}
 use Rattle.operations.specs.Plan.{prepare, group-store, operate, journal, new-group, last-of, extend, shorten, exchange, appended, append-sector, data-stores}
 use Rattle.operations.specs.Plan.{recover-stores}
-use Rattle.operations.specs.Calls.{Call, plan, creates, appends, truncates, deletes, renames, replaces, recovers, recover}
-use Rattle.operations.specs.Outcome.{left, made}
-use Rattle.safety.specs.Demand3.{Genuine, recoveries}
-use Rattle.safety.specs.Saved.{OfBytes, StaysGenuine}
-use Rattle.safety.specs.Restored.{RecoveryGenuine, GenuineAgain}
 use Rattle.model.proofs.Tests.{by-pick}
-use Rattle.model.proofs.All.{All, all-append, all-image, all-take, all-map}
+use Rattle.model.proofs.All.{All, all-append, all-image, all-map}
 use Rattle.model.proofs.Indices.{indices-all}
 use Rattle.model.proofs.Cards.{put-case}
 use Rattle.model.proofs.Fats.{write-all}
-use Rattle.model.proofs.Grounds.{bound}
 use Rattle.model.proofs.Changes.{Clipped, Keeps, after-keeps, put-clipped}
-use Rattle.model.proofs.Volumes.{window, layout-of, first-fat, volume-of, cleaned}
 use Rattle.operations.proofs.Edits.{Laid, laid-small, Bears, again}
-use Rattle.safety.proofs.Start.{Start}
-use Rattle.safety.proofs.Before.{start-rests}
 use Rattle.safety.proofs.Steps.{prepare-all, finish-all}
-use Rattle.safety.proofs.Granted.{create-granted, rename-granted, delete-granted, truncate-granted, append-granted, replace-granted, Unless}
 use Rattle.model.specs.declared.Pending.the-variants as Pending
 
 -- Bytes are below 256: of a run, of a store, of a card, of a FAT.
 abbrev Small : Bytes → Type 0
 Small b = (j : ℕ) → b j < 256
 
-abbrev SmallStore : Store → Type 0
+abbrev pub SmallStore : Store → Type 0
 SmallStore s = Small (s .bytes)
 
-abbrev SmallCard : Card → Type 0
+abbrev pub SmallCard : Card → Type 0
 SmallCard x = (n : ℕ) → Small (x n)
 
 -- ---- runs
@@ -124,21 +110,21 @@ link-small [] f h = h
 link-small (k ∷ []) f h = entry-small k 0xFFFF f h
 link-small (k ∷ (j ∷ r)) f h = link-small (j ∷ r) (set-entry k j f) (entry-small k j f h)
 
-release-small : (ks : List ℕ) (f : Fat) → SmallCard f → SmallCard (release ks f)
+pub release-small : (ks : List ℕ) (f : Fat) → SmallCard f → SmallCard (release ks f)
 unfolding release
 release-small [] f h = h
 release-small (k ∷ ks) f h = release-small ks (set-entry k 0 f) (entry-small k 0 f h)
 
-extend-small : (old new : List ℕ) (f : Fat) → SmallCard f → SmallCard (extend old new f)
+pub extend-small : (old new : List ℕ) (f : Fat) → SmallCard f → SmallCard (extend old new f)
 unfolding extend
 extend-small old [] f h = h
 extend-small old (k ∷ ks) f h = link-small (last-of old ++ (k ∷ ks)) f h
 
-exchange-small : (old new : List ℕ) (f : Fat) → SmallCard f → SmallCard (exchange old new f)
+pub exchange-small : (old new : List ℕ) (f : Fat) → SmallCard f → SmallCard (exchange old new f)
 unfolding exchange
 exchange-small old new f h = release-small old (link new f) (link-small new f h)
 
-shorten-small : (kept freed : List ℕ) (f : Fat) → SmallCard f → SmallCard (shorten kept freed f)
+pub shorten-small : (kept freed : List ℕ) (f : Fat) → SmallCard f → SmallCard (shorten kept freed f)
 unfolding shorten exchange
 shorten-small kept [] f h = h
 shorten-small kept (k ∷ ks) f h = exchange-small (k ∷ ks) (last-of kept) f h
@@ -148,17 +134,17 @@ shorten-small kept (k ∷ ks) f h = exchange-small (k ∷ ks) (last-of kept) f h
 put-small : (s : Store) → SmallStore s → Keeps SmallCard s
 put-small s h x k n = put-case Small x s n (λ _ j. h (j % 512)) (λ _. k n)
 
-after-small : (ss : List Store) (x : Card) → All SmallStore ss → SmallCard x → SmallCard (after ss x)
+pub after-small : (ss : List Store) (x : Card) → All SmallStore ss → SmallCard x → SmallCard (after ss x)
 after-small ss x a h = after-keeps SmallCard ss (all-map SmallStore (Keeps SmallCard) put-small ss a) x h
 
-after-clipped : (ss : List Store) (x : Card) → Clipped x → Clipped (after ss x)
+pub after-clipped : (ss : List Store) (x : Card) → Clipped x → Clipped (after ss x)
 after-clipped ss x h = after-keeps Clipped ss (each ss) x h
   where
     each : (ss : List Store) → All (Keeps Clipped) ss
     each [] = tt
     each (s ∷ ss) = (λ x. put-clipped x s, each ss)
 
-data-small : (l : Layout) (c : Card) (ks : List ℕ) (old : ℕ) (d : Span) → SmallCard c → ((i : ℕ) → i < d .size → d .byte i < 256)
+pub data-small : (l : Layout) (c : Card) (ks : List ℕ) (old : ℕ) (d : Span) → SmallCard c → ((i : ℕ) → i < d .size → d .byte i < 256)
     → All SmallStore (data-stores l c ks old d)
 unfolding data-stores append-sector appended
 data-small l c ks old d h small =
@@ -173,7 +159,7 @@ data-small l c ks old d h small =
         (λ f. let low : old ≤ i = ltb-false i old e in let high : i < old + d .size = ltb-true i (old + d .size) f in small (i - old) (omega arith))
         (λ _. omega arith))
 
-operate-small : (v : Volume) (c : Card) (ds : List Store) (f : Fat) (o : Change) → SmallCard c → All SmallStore ds → SmallCard f
+pub operate-small : (v : Volume) (c : Card) (ds : List Store) (f : Fat) (o : Change) → SmallCard c → All SmallStore ds → SmallCard f
     → All SmallStore (stores (operate v c ds f o))
 unfolding operate journal redo new-group group-store commit root-sector slot-at
 operate-small v c ds f o h own fat =
@@ -189,60 +175,9 @@ operate-small v c ds f o h own fat =
     let mark : SmallStore (commit u g) = λ j. committed-small (g .records) (u (g .sector)) (small (g .sector)) (j % 512) in
     all-append SmallStore prep _ before (group, all-append SmallStore (finish l o u) _ rest (mark, tt))
 
--- ---- calls
-
-module _ {size : ℕ} {c : Card} (st : Start size c) (is : clean (window size c) ≡ granted (volume-of c Pending.Nothing)) where
-  abbrev w : Window
-  w = window size c
-
-  abbrev v : Volume
-  v = volume-of c Pending.Nothing
-
-  abbrev Fine : Program → Type 0
-  Fine p = All SmallStore (stores p)
-
-  old-small : SmallCard (first-fat c)
-  old-small s = st .small (layout-of c .fat1 + s)
-
-  fine : (ds : List Store) (f : Fat) (o : Change) → All SmallStore ds → SmallCard f → Fine (operate v c ds f o)
-  fine ds f o own fat = operate-small v c ds f o (st .small) own fat
-
-  unless-fine : (n : ℕ) (q p : Program) → Unless st is n q p → Fine q → Fine p
-  unless-fine n q p (inl a) h = rw (a .1) tt
-  unless-fine n q p (inr a) h = subst Fine (a .1) h
-
-  granted-fine : (k : Call) (p : Program) → OfBytes k → plan k w ≡ granted p → Fine p
-  granted-fine (creates n) p b h = subst Fine (create-granted st is n p h .same) (fine [] (first-fat c) _ tt old-small)
-  granted-fine (renames n m) p b h = subst Fine (rename-granted st is n m p h .same) (fine [] (first-fat c) _ tt old-small)
-  granted-fine (deletes n) p b h = subst Fine (delete-granted st is n p h .same) (fine [] _ _ tt (release-small _ (first-fat c) old-small))
-  granted-fine (truncates n m) p b h = unless-fine _ _ p (truncate-granted st is n m p h .same) (fine [] _ _ tt (shorten-small _ _ (first-fat c) old-small))
-  granted-fine (appends n d) p b h =
-      unless-fine _ _ p (append-granted st is n d p h .same)
-      (fine _ _ _ (data-small (layout-of c) c _ _ d (st .small) b) (extend-small _ _ (first-fat c) old-small))
-  granted-fine (replaces n d) p b h = subst Fine (replace-granted st is n d p h .same)
-      (fine _ _ _ (data-small (layout-of c) c _ _ d (st .small) b) (exchange-small _ _ (first-fat c) old-small))
-  granted-fine recovers p b h = let e : granted (ending []) ≡ granted p = sym (start-rests st) ∙ h in let same : ending [] ≡ p = cc in subst Fine same tt
-
-  made-fine : (k : Call) (limit : ℕ) (a : Answer Program) → OfBytes k → plan k w ≡ a → All SmallStore (made limit a)
-  unfolding made
-  made-fine k limit (refused g) b h = tt
-  made-fine k limit (granted p) b h = all-take SmallStore limit (stores p) (granted-fine k p b h)
-
-pub stays-genuine : StaysGenuine
-unfolding left
-stays-genuine k w v real is b limit =
-    let h = cleaned (w .size) (w .card) v is in
-    let st : Start (w .size) (w .card) = record { clean = h .0; clipped = real .sectors; small = real .bytes } in
-    let fine : All SmallStore (made limit (plan k w)) = made-fine st (is ∙ ap granted (h .1)) k limit (plan k w) b refl in
-    record {
-      sectors = after-clipped (made limit (plan k w)) (w .card) (real .sectors);
-      bytes = after-small (made limit (plan k w)) (w .card) fine
-          (real .bytes);
-    }
-
 -- ---- recovery, on any card of bytes
 
-recover-small : (l : Layout) (x : Card) (p : Pending) → SmallCard x → All SmallStore (stores (recover-stores l x p))
+pub recover-small : (l : Layout) (x : Card) (p : Pending) → SmallCard x → All SmallStore (stores (recover-stores l x p))
 unfolding recover-stores redo commit root-sector slot-at
 recover-small l x Pending.Nothing h = write-all l (l .fat2) (fat1-of l x) (fat2-of l x) SmallStore (λ s less j. h (l .fat1 + s) (j % 512))
 recover-small l x Pending.Broken h = tt
@@ -252,26 +187,3 @@ recover-small l x (Pending.Held n) h =
     (λ r less j. effect-small (g .change) (slot-at l x) (λ k i. h _ (32 * (k % 16) + i)) (16 * r + j % 512 / 32) (j % 512 % 32)) in
     let mark : SmallStore (commit x g) = λ j. committed-small (g .records) (x (g .sector)) (h (g .sector)) (j % 512) in
     all-append SmallStore (finish l (g .change) x) _ rest (mark, tt)
-
-recovery-small : (w : Window) (a : Answer Program) → plan recovers w ≡ a → SmallCard (w .card) → (limit : ℕ) → All SmallStore (made limit a)
-unfolding made plan recover
-recovery-small w (refused g) e h limit = tt
-recovery-small w (granted p) e h limit =
-    let b = bound (examine w) _ p e in
-    let same : granted (recover-stores (b .0 .layout) (w .card) (b .0 .pending)) ≡ granted p = b .2 in
-    let is : recover-stores (b .0 .layout) (w .card) (b .0 .pending) ≡ p = cc in
-    all-take SmallStore limit (stores p) (subst (λ p. All SmallStore (stores p)) is (recover-small (b .0 .layout) (w .card) (b .0 .pending) h))
-
-pub recovery-genuine : RecoveryGenuine
-unfolding left
-recovery-genuine w real limit = record {
-  sectors = after-clipped (made limit (plan recovers w)) (w .card) (real .sectors);
-  bytes = after-small (made limit (plan recovers w)) (w .card) (recovery-small w (plan recovers w) refl (real .bytes) limit) (real .bytes);
-}
-
-recoveries-genuine : (limits : List ℕ) (w : Window) → Genuine w → Genuine (recoveries limits w)
-recoveries-genuine [] w real = real
-recoveries-genuine (limit ∷ limits) w real = recoveries-genuine limits (left limit recovers w) (recovery-genuine w real limit)
-
-pub genuine-again : GenuineAgain
-genuine-again k w v real is b limit limits = recoveries-genuine limits (left limit k w) (stays-genuine k w v real is b limit)

@@ -3,7 +3,7 @@ use Prim.Native.Nat.{ℕ, _/_, _<_}
 use native.Mathlib.Omega.{arith}
 use mathlib.Core.Path.{_≡_, refl, sym, ap, _∙_, subst}
 use mathlib.Core.Logic.{_⊎_, inl, inr, ⊎-elim}
-use mathlib.Core.List.{List, [], _∷_, map, append-nil}
+use mathlib.Core.List.{List, [], _∷_, map}
 use mathlib.Core.Bool.{Bool, true, false}
 use lib.Dec.{eqb}
 use borrow.Author.Tests.{eqb-false}
@@ -11,8 +11,8 @@ use Rattle.model.specs.Bytes.{Span}
 use Rattle.model.specs.Scan.{any, among}
 use Rattle.model.specs.Sector.{Card, Window, Store, after}
 use Rattle.model.specs.Fat.{Fat}
-use Rattle.model.specs.Root.{Directory, slot-at, entry-at}
-use Rattle.model.specs.Long.{name-slots, long-count}
+use Rattle.model.specs.Root.{Directory, slot-at}
+use Rattle.model.specs.Long.{long-count}
 use Rattle.model.specs.Ground.{Answer, refused, granted}
 use Rattle.model.specs.Volume.{clean}
 use Rattle.model.specs.declared.Change.{Change}
@@ -21,25 +21,22 @@ use Rattle.model.specs.declared.Pending.{Pending}
 use Rattle.model.specs.declared.Volume.{Volume}
 use Rattle.model.specs.declared.Pending.the-variants as Pending
 use Rattle.operations.specs.Program.{Program, ending}
-use Rattle.operations.specs.Finish.{Edit, edit-from, set-name, mark-deleted, marks, operation-edits, edits, effect}
-use Rattle.operations.specs.Calls.{Call, creates, appends, truncates, deletes, renames, replaces, recovers, plan, slot-of, name-of, old-slots, changed-by}
+use Rattle.operations.specs.Finish.{Edit, mark-deleted, marks, edits, effect}
+use Rattle.operations.specs.Calls.{Call, deletes, renames, recovers, plan, slot-of, old-slots, changed-by}
 use Rattle.operations.specs.Outcome.{left, made, largest}
-use Rattle.safety.specs.Demand3.{Genuine, finished, recoveries, settles-as, group-stored, SameTables}
+use Rattle.safety.specs.Demand3.{finished, recoveries, settles-as, group-stored, SameTables}
 use Rattle.safety.specs.Changed.{Slotwise, SlotsStay, Removes, OldMarked, AllOrNone}
 use Rattle.model.proofs.Tests.{or-false, clash}
 use Rattle.model.proofs.All.{All}
 use Rattle.model.proofs.Long.{OfName, of-name?, not-of-name}
-use Rattle.model.proofs.Volumes.{window, layout-of, first-fat, volume-of}
-use Rattle.operations.proofs.Edits.{edits-out, marks-slots}
+use Rattle.model.proofs.Volumes.{window, layout-of, volume-of}
+use Rattle.operations.proofs.Edits.{edits-out}
 use Rattle.operations.proofs.Roots.{slot-same}
 use Rattle.safety.proofs.Start.{Start, shape-of}
-use Rattle.safety.proofs.Before.{start-rests}
 use Rattle.safety.proofs.Theorem.{demand3}
 use Rattle.safety.proofs.Ended.{Ended, ended}
-use Rattle.safety.proofs.Supplied.{creates-as, create-supplies, truncates-as, truncate-supplies, updates-as, append-supplies, replaces-as}
-use Rattle.safety.proofs.Supplied.{replace-supplies}
-use Rattle.safety.proofs.Granted.{Created, create-granted, Renamed, rename-granted, Deleted, delete-granted, NamedFile, Truncated, truncate-granted}
-use Rattle.safety.proofs.Granted.{Appended, append-granted, Replaced, replace-granted}
+use Rattle.safety.proofs.Granted.{Renamed, rename-granted, Deleted, delete-granted}
+use Rattle.safety.proofs.Operated.{Operated, operated}
 use Rattle.safety.proofs.Moved.{finish-with, left-slots, rename-end, gone-slots, delete-end}
 use Rattle.safety.proofs.Saved.{started, volume-is}
 
@@ -84,51 +81,15 @@ module _ {size : ℕ} {c : Card} (st : Start size c) (is : clean (window size c)
   ended-stays {ds} {f} {o} {t} end ks same s less off j small =
       end .slots s less j small ∙ (λ i. edits-out (edits o) d s (none-among (edits o) s (ap (λ ks. among ks s) same ∙ off)) i j)
 
-  granted-stays : (k : Call) (p : Program) → plan k w ≡ granted p → Stays k (left largest k w)
-  unfolding changed-by old-slots edits operation-edits entry-at
-  granted-stays (creates n) p h =
-      let g : Created st is n p = create-granted st is n p h in
-      finish-with st is (Stays (creates n)) (creates n) p _ h (g .same)
-      (ended-stays (ended st [] (first-fat c) (creates-as st n) (create-supplies st n (g .ok) (g .room))) _ refl)
-  granted-stays (renames n m) p h =
-      let g : Renamed st is n m p = rename-granted st is n m p h in
-      finish-with st is (Stays (renames n m)) (renames n m) p _ h (g .same)
-      (ended-stays (rename-end st is n m p g) _ (marks-slots (edit-from (at n) _ (λ b. set-name (name-of m) b) ∷ []) (name-slots (at n) (long-count d (at n)))))
-  granted-stays (deletes n) p h =
-      let g : Deleted st is n p = delete-granted st is n p h in
-      let ks : List ℕ = name-slots (at n) (long-count d (at n)) in
-      finish-with st is (Stays (deletes n)) (deletes n) p _ h (g .same)
-      (ended-stays (delete-end st is n p g) ks (ap (map (λ e. e .slot)) (sym (append-nil (marks ks))) ∙ marks-slots [] ks ∙ append-nil ks))
-  granted-stays (truncates n m) p h =
-      let g : Truncated st is n m p = truncate-granted st is n m p h in
-      let f : NamedFile st is n = g .it in
-      ⊎-elim
-      (λ a. finish-with st is (Stays (truncates n m)) (truncates n m) p (ending []) h (sym (a .1)) (none-stays (truncates n m)))
-      (λ a. finish-with st is (Stays (truncates n m)) (truncates n m) p _ h (a .1)
-      (ended-stays (ended st [] _ (truncates-as st (at n) (f .live) (f .keeps) m) (truncate-supplies st (at n) (f .live) (f .keeps) m (g .less))) _ refl))
-      (g .same)
-  granted-stays (appends n b) p h =
-      let g : Appended st is n b p = append-granted st is n b p h in
-      let f : NamedFile st is n = g .it in
-      ⊎-elim
-      (λ a. finish-with st is (Stays (appends n b)) (appends n b) p (ending []) h (sym (a .1)) (none-stays (appends n b)))
-      (λ a. finish-with st is (Stays (appends n b)) (appends n b) p _ h (a .1)
-      (ended-stays (ended st _ _ (updates-as st (at n) (f .live) (f .keeps) (g .extent)) (append-supplies st (at n) (f .live) (f .keeps) (g .extent))) _ refl))
-      (g .same)
-  granted-stays (replaces n b) p h =
-      let g : Replaced st is n b p = replace-granted st is n b p h in
-      let f : NamedFile st is n = g .it in
-      finish-with st is (Stays (replaces n b)) (replaces n b) p _ h (g .same)
-      (ended-stays (ended st _ _ (replaces-as st (at n) (f .live) (f .keeps) (g .extent)) (replace-supplies st (at n) (f .live) (f .keeps) (g .extent))) _ refl)
-  granted-stays recovers p h =
-      let e : granted (ending []) ≡ granted p = sym (start-rests st) ∙ h in
-      let same : ending [] ≡ p = cc in
-      finish-with st is (Stays recovers) recovers p (ending []) h same (none-stays recovers)
+  operated-stays : (k : Call) (p : Program) → plan k w ≡ granted p → Operated c k p → Stays k (left largest k w)
+  operated-stays k p h (Operated.idles e) = finish-with st is (Stays k) k p (ending []) h e (none-stays k)
+  operated-stays k p h (Operated.operates ds f o given own fat slots same) =
+      finish-with st is (Stays k) k p _ h same (ended-stays (ended st ds f o given) _ slots)
 
   call-stays : (k : Call) (a : Answer Program) → plan k w ≡ a → Stays k (left largest k w)
   unfolding left made
   call-stays k (refused g) h = rw h (none-stays k)
-  call-stays k (granted p) h = granted-stays k p h
+  call-stays k (granted p) h = operated-stays k p h (operated st is k p h)
 
   -- ---- a name that is taken away
 

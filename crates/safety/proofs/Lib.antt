@@ -22,6 +22,8 @@ pub mod Slots
 pub mod Supplied
 pub mod Granted
 pub mod Bytewise
+pub mod Operated
+pub mod Genuine
 pub mod Moved
 pub mod Means
 pub mod Cut

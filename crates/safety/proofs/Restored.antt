@@ -25,7 +25,7 @@ use Rattle.safety.proofs.Start.{Table}
 use Rattle.safety.proofs.Before.{Wanted}
 use Rattle.safety.proofs.Theorem.{by-limits, ends-done, ends-at-last, Kind, all-made, most-finishes, volume, the-start, fair, good-files, after-calls}
 use Rattle.safety.proofs.Sounds.{all-keep}
-use Rattle.safety.proofs.Bytewise.{recovery-genuine, genuine-again}
+use Rattle.safety.proofs.Genuine.{recovery-genuine, genuine-again}
 use Rattle.safety.proofs.Same.{clean-kept, sound-kept, reads-kept}
 use Rattle.model.specs.declared.Pending.the-variants as Pending
 

@@ -17,7 +17,7 @@ use Rattle.safety.specs.Saved.{Holds, AllSaves, PathSaved}
 use Rattle.model.proofs.Volumes.{cleaned, volume-of}
 use Rattle.safety.proofs.Start.{Start}
 use Rattle.safety.proofs.Theorem.{after-calls}
-use Rattle.safety.proofs.Bytewise.{stays-genuine}
+use Rattle.safety.proofs.Genuine.{stays-genuine}
 use Rattle.safety.proofs.Moved.{create-holds, rename-holds, rename-leaves, rename-absent, delete-leaves, delete-absent}
 use Rattle.safety.proofs.Cut.{truncate-holds}
 use Rattle.safety.proofs.Grown.{append-holds}
