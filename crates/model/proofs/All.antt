@@ -10,6 +10,10 @@ module _ {ℓ} {A : Type ℓ} (P : A → Type 0) where
   all-append [] ys h k = k
   all-append (x ∷ xs) ys h k = (h .0, all-append xs ys (h .1) k)
 
+  pub all-left : (xs ys : List A) → All P (xs ++ ys) → All P xs
+  all-left [] ys h = tt
+  all-left (x ∷ xs) ys h = (h .0, all-left xs ys (h .1))
+
   pub all-later : (xs ys : List A) → All P (xs ++ ys) → All P ys
   all-later [] ys h = h
   all-later (x ∷ xs) ys h = all-later xs ys (h .1)

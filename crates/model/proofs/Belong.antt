@@ -33,13 +33,13 @@ unfolding is-long
 long-other sum i j b h ne = every-not _ 0 (ne-eqb (b 0) j (λ e. ne (sym (long-first sum i b h) ∙ e)))
 
 module _ (n i : ℕ) where
-  order-last : i ≡ n → order-byte n i ≡ 0x40 + i
+  pub order-last : i ≡ n → order-byte n i ≡ 0x40 + i
   order-last e = rw (eq-eqb i n e)
 
-  order-inner : (i ≡ n → ⊥) → order-byte n i ≡ i
+  pub order-inner : (i ≡ n → ⊥) → order-byte n i ≡ i
   order-inner ne = rw (ne-eqb i n ne)
 
-  order-range : (order-byte n i ≡ 0x40 + i) ⊎ (order-byte n i ≡ i)
+  pub order-range : (order-byte n i ≡ 0x40 + i) ⊎ (order-byte n i ≡ i)
   order-range = ⊎-elim (λ e. inl (order-last e)) (λ ne. inr (order-inner ne)) (same? i n)
 
 -- ---- those before slot s of a directory

@@ -11,6 +11,11 @@ pub passed : {A : Type 0} (g : Ground) (b : Bool) (k : Answer A) → b ≡ false
 unfolding _when_ _>>_
 passed g b k e = rw e
 
+-- One that holds.
+pub barred : {A : Type 0} (g : Ground) (b : Bool) (k : Answer A) → b ≡ true → ((g when b) >> k) ≡ refused g
+unfolding _when_ _>>_
+barred g b k e = rw e
+
 -- A granted answer has passed each of its grounds.
 pub asked : {A : Type 0} (g : Ground) (b : Bool) (k : Answer A) (a : A) → ((g when b) >> k) ≡ granted a → (b ≡ false) × (k ≡ granted a)
 unfolding _when_ _>>_

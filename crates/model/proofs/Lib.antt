@@ -21,12 +21,17 @@ pub mod Root
 pub mod Long
 pub mod Order
 pub mod Names
+pub mod FreeRuns
 pub mod Records
+pub mod Texts
 pub mod Logs
 pub mod Lookups
 pub mod Pendings
 pub mod Belong
+pub mod LongEntries
+pub mod ReadBack
 pub mod LongRows
+pub mod SpellRows
 pub mod Grounds
 pub mod Volumes
 pub mod Copies

@@ -1,11 +1,12 @@
 -- Lists that are filled from the front, and lists of which a part was lent.
-use mathlib.Core.Path.{_≡_, refl, sym, ap, _∙_}
+use mathlib.Core.Path.{_≡_, refl, sym, ap, _∙_, fun-ext}
 use mathlib.Core.Logic.{⊎-elim}
 use mathlib.Core.List.{List, [], _∷_, _++_}
 use Prim.Native.Nat.{ℕ, zero, suc, _+_, _<_, _≤_}
 use native.Mathlib.Omega.{arith}
 use lib.ListN.{length, getD, set, replicate, take, drop, List·getD-append}
 use lib.Seq.{getD-set-same, getD-set-other, length-take-le, getD-append-add, getD-take, getD-drop}
+use Rattle.model.specs.Bytes.{bytes-of, zeros}
 use Rattle.model.proofs.Tests.{same?}
 
 -- an array of zeros has no other byte
@@ -13,6 +14,9 @@ pub zero-at : (n i : ℕ) → _≡_ {A = ℕ} (getD (replicate n 0) i 0) 0
 zero-at zero i = refl
 zero-at (suc n) zero = refl
 zero-at (suc n) (suc i) = zero-at n i
+
+pub all-zero : (n : ℕ) → bytes-of (replicate n 0) ≡ zeros
+all-zero n = fun-ext (λ i. zero-at n i)
 
 -- a store at j, after stores below j
 pub copied-more : (f : ℕ → ℕ) (l : List ℕ) (j : ℕ) → j < length l → ((m : ℕ) → m < j → getD l m 0 ≡ f m) → (m : ℕ) → m < j + 1 → getD (set l j (f j)) m 0 ≡ f m

@@ -40,7 +40,8 @@ module _ (n : ℕ) (g h : Log) (same : (s : ℕ) → s < n → g s ≡ h s) wher
   accepted-same entries z i less = rw (same (i / 16) (omega arith), alone-same i (group-size (record-at (h (i / 16)))))
 
 -- The scan depends on the log table alone: what a part of the window that holds the log's sectors shows is what the card does.
-pub pending-same : (entries z : ℕ) (a : Area) (g h : Log) → ((s : ℕ) → s < a .sectors → g s ≡ h s) → pending-in entries z a g ≡ pending-in entries z a h
+pub pending-same : (entries : ℕ) (z : Bytes → ℕ) (a : Area) (g h : Log) → ((s : ℕ) → s < a .sectors → g s ≡ h s)
+    → pending-in entries z a g ≡ pending-in entries z a h
 unfolding pending-in
 pending-same entries z a g h same = rw (first-pending-same (a .sectors) g h same) (go (told (ltb i (16 * a .sectors))))
   where
@@ -48,11 +49,11 @@ pending-same entries z a g h same = rw (first-pending-same (a .sectors) g h same
     i = first-pending (a .sectors) h
 
     held : Log → Pending
-    held x = pick (accepted entries z (a .sectors) x i) (Pending.Held (a .sector + i / 16)) Pending.Broken
+    held x = pick (accepted entries (z (x (i / 16))) (a .sectors) x i) (Pending.Held (a .sector + i / 16)) Pending.Broken
 
     go : (ltb i (16 * a .sectors) ≡ true) ⊎ (ltb i (16 * a .sectors) ≡ false)
         → pick (ltb i (16 * a .sectors)) (held g) Pending.Nothing ≡ pick (ltb i (16 * a .sectors)) (held h) Pending.Nothing
     go (inl e) =
         let less : i < 16 * a .sectors = ltb-true i (16 * a .sectors) e in
-        rw (e, accepted-same (a .sectors) g h same entries z i less)
+        rw (e, same (i / 16) (omega arith), accepted-same (a .sectors) g h same entries (z (h (i / 16))) i less)
     go (inr e) = rw e

@@ -3,13 +3,13 @@ use Prim.Native.Nat.{ℕ, zero, suc, _-_, _≤_, _<_}
 use native.Mathlib.Omega.{arith}
 use mathlib.Core.Path.{_≡_, refl, sym, ap, _∙_}
 use mathlib.Core.Logic.{_⊎_, inl, inr, ⊎-elim}
-use mathlib.Core.List.{List, [], _∷_, map}
-use mathlib.Core.Bool.{Bool, true, false}
+use mathlib.Core.List.{List, [], _∷_, _++_, map}
+use mathlib.Core.Bool.{Bool, true, false, _||_}
 use lib.Dec.{leb, eqb}
-use borrow.Author.Tests.{eq-eqb, ne-eqb, lt-leb, le-leb}
+use borrow.Author.Tests.{eq-eqb, ne-eqb, eqb-true, lt-leb, le-leb}
 use Rattle.model.specs.Scan.{any, among}
 use Rattle.model.specs.Long.{name-slots}
-use Rattle.model.proofs.Tests.{same?, less?, or-left, or-right}
+use Rattle.model.proofs.Tests.{told, same?, less?, clash, or-left, or-right, or-assoc}
 use Rattle.model.proofs.All.{All, all-map}
 
 -- Slot k is one of the n before slot s, or s.
@@ -48,6 +48,34 @@ of-name s n k w = some-slot (eqb k) s n k w (eq-eqb k k refl)
 
 pub not-of-name : (s n k : ℕ) → (OfName s n k → ⊥) → among (name-slots s n) k ≡ false
 not-of-name s n k ne = no-slot (eqb k) s n (λ i w. ne-eqb k i (λ e. ne (omega (arith, w), omega (arith, w))))
+
+pub low-named : (s n k : ℕ) → among (name-slots s n) k ≡ true → k ≤ s
+low-named s n k h = ⊎-elim (λ less. clash h (not-of-name s n k (λ w. omega (arith, w .0)))) (λ low. low) (less? s k)
+
+-- A test of them need not be asked of slot s again.
+pub own-tested : (q : ℕ → Bool) (s n : ℕ) → any (map q (name-slots s n)) ≡ (any (map q (name-slots s n)) || q s)
+own-tested q s n = go (any (map q (name-slots s n))) (q s) (some-slot q s n s (omega arith, omega arith))
+  where
+    go : (a b : Bool) → (b ≡ true → a ≡ true) → a ≡ (a || b)
+    go true b h = refl
+    go false true h = h refl
+    go false false h = refl
+
+-- A test of a list with one more number; a number of it is of the list or is that one.
+pub any-end : (q : ℕ → Bool) (ks : List ℕ) (j : ℕ) → any (map q (ks ++ (j ∷ []))) ≡ (any (map q ks) || q j)
+unfolding any
+any-end q [] j = go (q j)
+  where
+    go : (t : Bool) → (t || false) ≡ t
+    go true = refl
+    go false = refl
+any-end q (i ∷ ks) j = ap (λ t. q i || t) (any-end q ks j) ∙ sym (or-assoc (q i) (any (map q ks)) (q j))
+
+pub among-end : (ks : List ℕ) (j k : ℕ) → among (ks ++ (j ∷ [])) k ≡ (among ks k || eqb k j)
+among-end ks j k = any-end (eqb k) ks j
+
+pub either-among : (ks : List ℕ) (j k : ℕ) → among (ks ++ (j ∷ [])) k ≡ true → (among ks k ≡ true) ⊎ (k ≡ j)
+either-among ks j k h = ⊎-elim (λ on. inl on) (λ off. inr (eqb-true k j (sym (rw off at (among-end ks j k)) ∙ h))) (told (among ks k))
 
 -- So two comparisons tell whether a slot is one of them.
 pub slot-test : (s n k : ℕ) → k ≤ s → leb (s - k) n ≡ among (name-slots s n) k

@@ -97,15 +97,15 @@ module _ (name : Name) where
   abbrev counted : ℕ → ℕ → ℕ → Bool
   counted n s k = count-ok (record-of (entry s) n k 0 0 0)
 
-  -- One entry before slot 5, in each operation: delete and rename alone.
-  operation-counts : map (λ n. counted n 5 1) (1 ∷ 2 ∷ 3 ∷ 4 ∷ 5 ∷ 6 ∷ []) ≡ false ∷ false ∷ true ∷ false ∷ true ∷ false ∷ []
+  -- One entry before slot 5, in each operation: create, delete and rename alone.
+  operation-counts : map (λ n. counted n 5 1) (1 ∷ 2 ∷ 3 ∷ 4 ∷ 5 ∷ 6 ∷ []) ≡ true ∷ false ∷ true ∷ false ∷ true ∷ false ∷ []
   unfolding count-ok most-counted record-of
   operation-counts = refl
 
-  -- At most 20, and not above the slot.
+  -- At most 20, of a create 16, and not above the slot.
   most-counts : map (counted 3 30) (0 ∷ 20 ∷ 21 ∷ []) ++ map (counted 5 20) (20 ∷ 21 ∷ []) ++ map (counted 3 19) (19 ∷ 20 ∷ [])
-      ++ map (counted 5 0) (0 ∷ 1 ∷ [])
-      ≡ true ∷ true ∷ false ∷ true ∷ false ∷ true ∷ false ∷ true ∷ false ∷ []
+      ++ map (counted 5 0) (0 ∷ 1 ∷ []) ++ map (counted 1 30) (0 ∷ 16 ∷ 17 ∷ []) ++ map (counted 1 16) (16 ∷ []) ++ map (counted 1 15) (15 ∷ 16 ∷ [])
+      ≡ true ∷ true ∷ false ∷ true ∷ false ∷ true ∷ false ∷ true ∷ false ∷ true ∷ true ∷ false ∷ true ∷ true ∷ false ∷ []
   unfolding count-ok most-counted record-of
   most-counts = refl
 
@@ -123,12 +123,12 @@ module _ (name : Name) where
   unfolding part-ok alike slot-ok record-of name-slots every any all-from walk
   other-counts = refl
 
-  -- A delete's record, and both of a rename, have the count; the others have none.
+  -- A create's and a delete's record, and both of a rename, have the count; the others have none.
   abbrev counts : List Record → List ℕ
   counts rs = map (λ r. r .count) rs
 
   record-counts : counts (operation-records (Delete (entry 9) 3 0 0)) ∷ counts (operation-records (Rename (entry 9) 3 0 0 1 name))
-      ∷ counts (operation-records (Create (entry 9))) ∷ counts (operation-records (Replace (entry 9) 0 0 0)) ∷ []
-      ≡ (3 ∷ []) ∷ (3 ∷ 3 ∷ []) ∷ (0 ∷ []) ∷ (0 ∷ []) ∷ []
+      ∷ counts (operation-records (Create (entry 9) 2)) ∷ counts (operation-records (Replace (entry 9) 0 0 0)) ∷ []
+      ≡ (3 ∷ []) ∷ (3 ∷ 3 ∷ []) ∷ (2 ∷ []) ∷ (0 ∷ []) ∷ []
   unfolding operation-records record-of
   record-counts = refl

@@ -1,12 +1,15 @@
 -- Laws of little-endian numbers of n bytes: how they are made up, what they depend on, and that what is written is read back.
 use Prim.Native.Nat.{ℕ, zero, suc, _+_, _-_, _*_, _/_, _%_, _^_, _<_, _≤_}
 use native.Mathlib.Nat.{add-zero, zero-add, suc-add, mul-assoc, mul-comm, one-mul, pow-suc, pow-zero, mod-one, div-one, mod-eq-of-lt, div-div-eq-div-mul}
-use native.Mathlib.Nat.{zero-lt-suc, one-le-pow}
+use native.Mathlib.Nat.{zero-lt-suc, one-le-pow, mod-lt}
 use native.Mathlib.Numerals.{add-one}
 use native.Mathlib.Omega.{arith}
 use lib.Arith.{mod-mul}
+use lib.Dec.{leb, ltb}
 use mathlib.Core.Path.{_≡_, refl, sym, ap, _∙_}
+use mathlib.Core.Bool.{_&&_}
 use Rattle.model.specs.Bytes.{Bytes, le, byte-of, overlay, patch}
+use Rattle.model.proofs.Tests.{by-pick}
 use Rattle.model.proofs.Overlays.{overlay-in, overlay-below, overlay-above}
 
 pub le-suc : (n : ℕ) (c : Bytes) (at : ℕ) → le (suc n) c at ≡ c at + 256 * le n c (at + 1)
@@ -48,6 +51,26 @@ le-shift (suc n) b d i j h =
     (λ k l. let e : i + 1 + k ≡ i + suc k = omega arith in let f : j + 1 + k ≡ j + suc k = omega arith in rw (e, f) (h (suc k) (omega arith))) in
     rw (le-suc n b, le-suc n d, here, rest)
 
+-- Bytes are told by the number that they make.
+first-tells : (a b x y : ℕ) → a < 256 → b < 256 → a + 256 * x ≡ b + 256 * y → (a ≡ b) × (x ≡ y)
+first-tells a b x y small little e = (omega arith, omega arith)
+
+pub le-tells : (n : ℕ) (b d : Bytes) (i j : ℕ) → ((k : ℕ) → k < n → b (i + k) < 256) → ((k : ℕ) → k < n → d (j + k) < 256)
+    → le n b i ≡ le n d j → (k : ℕ) → k < n → b (i + k) ≡ d (j + k)
+le-tells zero b d i j small little e k less = absurd (omega arith)
+le-tells (suc n) b d i j small little e k less =
+    let both : (b i ≡ d j) × (le n b (i + 1) ≡ le n d (j + 1)) = first-tells (b i) (d j) _ _
+    (rw (add-zero i) at (small 0 (omega arith))) (rw (add-zero j) at (little 0 (omega arith))) (sym (le-suc n b i) ∙ e ∙ le-suc n d j) in
+    go (both .0) (le-tells n b d (i + 1) (j + 1) (λ k less. rw (next i k) (small (suc k) (omega arith)))
+    (λ k less. rw (next j k) (little (suc k) (omega arith))) (both .1)) k less
+  where
+    next : (i k : ℕ) → i + 1 + k ≡ i + suc k
+    next i k = omega arith
+
+    go : b i ≡ d j → ((k : ℕ) → k < n → b (i + 1 + k) ≡ d (j + 1 + k)) → (k : ℕ) → k < suc n → b (i + k) ≡ d (j + k)
+    go here rest zero less = rw (add-zero i, add-zero j) here
+    go here rest (suc k) less = rw (← next i k, ← next j k) (rest k (omega arith))
+
 -- ---- bytes laid over others
 
 pub le-over-below : (m n at i : ℕ) (p b : Bytes) → i + m ≤ at → le m (overlay n p at b) i ≡ le m b i
@@ -55,6 +78,15 @@ le-over-below m n at i p b h = le-local m (overlay n p at b) b i (λ k lo hi. ov
 
 pub le-over-above : (m n at i : ℕ) (p b : Bytes) → at + n ≤ i → le m (overlay n p at b) i ≡ le m b i
 le-over-above m n at i p b h = le-local m (overlay n p at b) b i (λ k lo hi. overlay-above p at b n k (omega arith))
+
+-- Numbers are written in bytes: each below 256.
+abbrev pub Small : Bytes → Type 0
+Small b = (j : ℕ) → b j < 256
+
+pub patched : (n v at : ℕ) (b : Bytes) → Small b → Small (patch n v at b)
+unfolding overlay byte-of
+patched n v at b h j = by-pick (λ x. x < 256) (leb at j && ltb j (at + n)) (v / 256 ^ (j - at) % 256) (b j)
+    (λ _. mod-lt (v / 256 ^ (j - at)) (omega arith)) (λ _. h j)
 
 -- ---- what is written is read back
 

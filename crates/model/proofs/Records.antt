@@ -1,24 +1,28 @@
 -- Laws of log records: what is written into a group's sector is read from it.
-use Prim.Native.Nat.{ℕ, zero, suc, _+_, _*_, _/_, _%_, _^_, _≤_, _<_}
+use Prim.Native.Nat.{ℕ, zero, suc, _+_, _-_, _*_, _/_, _%_, _^_, _≤_, _<_}
 use native.Mathlib.Omega.{arith}
 use native.Mathlib.Nat.{div-one, mod-eq-of-lt}
 use mathlib.Core.Path.{_≡_, refl, sym, ap, _∙_, fun-ext}
-use mathlib.Core.Logic.{_⊎_, inl, inr}
+use mathlib.Core.Logic.{_⊎_, inl, inr, ⊎-elim}
 use mathlib.Core.List.{List, [], _∷_, map}
 use lib.ListN.{length, getD, length-map, List·getD-eq-default}
 use Rattle.model.specs.Bytes.{Bytes, le, overlay, byte-of, part, patch, zeros}
 use Rattle.model.specs.Sector.{clip}
 use Rattle.model.specs.Record.{record-bytes, record-in, record-of, operation-records, records, lay, encode, record-at, operation-of}
-use Rattle.model.specs.Record.{plain, change-of, group-size}
+use Rattle.model.specs.Record.{text-length, group-size}
+use Rattle.model.specs.Scan.{first-from, walk}
+use Rattle.model.specs.LongName.{most-characters}
+use Rattle.model.specs.Pending.{fills}
 use Rattle.model.specs.declared.Name.{Name}
 use Rattle.model.specs.declared.Entry.{Entry}
 use Rattle.model.specs.declared.Record.{Record}
-use Rattle.model.specs.declared.Change.{Change}
+use Rattle.model.specs.Record.{Change}
 use Rattle.model.specs.declared.Operation.{Operation}
 use Rattle.model.specs.declared.Operation.the-variants.{Create, Update, Delete, Truncate, Rename, Replace}
 use lib.Dec.{eqb}
 use borrow.Author.Tests.{lt-ltb, le-ltb}
 use Rattle.model.proofs.Tests.{less?, by-pick}
+use Rattle.model.proofs.Cards.{clip-at}
 use Rattle.model.proofs.All.{All}
 use Rattle.model.proofs.Numbers.{read-back, le-local}
 
@@ -138,35 +142,90 @@ records-back rs few h k = go (less? k 16)
         λ i. getD (map record-bytes rs) (row i) zeros (col i))
         ∙ one-back rs h k)
 
--- A change that a group can hold: its records fit a sector and their fields, and they tell of it.
+-- After the records their sector is zero.
+pub zero-after : (rs : List Bytes) (j : ℕ) → 32 * length rs ≤ j → lay rs j ≡ 0
+unfolding lay
+zero-after rs j h = ap (λ (b : Bytes). b (j % 32)) (List·getD-eq-default rs zeros {n = j / 32} (omega arith))
+
+-- ---- the sector of a change
+
+-- A change that writes a long name: a create, whose name does not begin 0; its text ends with its characters.
+pub record Spells (x : Change) : Type 0 where
+  pub entry : Entry
+  pub count : ℕ
+  pub is : x .operation ≡ Create entry count
+  pub some : 1 ≤ count
+  pub begins : byte-of (entry .name .stem) 0 ≡ 0 → ⊥
+  pub few : text-length (x .text) ≤ most-characters
+  pub after : (i : ℕ) → 2 * text-length (x .text) ≤ i → x .text i ≡ 0
+
+-- One that writes none.
+abbrev pub Silent : Change → Type 0
+Silent x = (x .text ≡ zeros) × (fills (x .operation) ≡ 0)
+
+-- A change that a group can hold: its records fit a sector and their fields, and its text too.
 pub record ChangeFits (x : Change) : Type 0 where
   pub few : length (records x) ≤ 16
   pub fields : All RecordFits (records x)
-  pub told : change-of (listed (records x)) ≡ x
+  pub text : Silent x ⊎ Spells x
 
--- An operation's records tell of it, and so of a change that is told by its operation alone.
-operation-told : (o : Operation) → operation-of (listed (operation-records o)) ≡ o
-unfolding operation-of operation-records record-of
-operation-told (Create e) = refl
-operation-told (Update e last from size) = refl
-operation-told (Delete e count first size) = refl
-operation-told (Truncate e first from size) = refl
-operation-told (Rename e count first size to renamed) = refl
-operation-told (Replace e first from size) = refl
+pub zeros-length : text-length zeros ≡ 0
+unfolding text-length first-from walk le
+zeros-length = refl
 
-pub plain-told : (o : Operation) → change-of (listed (records (plain o))) ≡ plain o
-unfolding change-of records
-plain-told o = ap plain (operation-told o)
-
-pub encode-back : (x : Change) → ChangeFits x → record-at (clip (encode x)) ≡ listed (records x)
+-- The records that tell the operation stand first, in both.
+pub before-text : (x : Change) (j : ℕ) → j < 32 * length (records x) → encode x j ≡ lay (map record-bytes (records x)) j
 unfolding encode
-encode-back x h = fun-ext (λ k. records-back (records x) (h .few) (h .fields) k)
+before-text x j less = rw (lt-ltb j (32 * length (records x)) less)
 
-pub size-back : (x : Change) → ChangeFits x → group-size (listed (records x)) ≡ length (records x)
-unfolding group-size
-size-back x h = ap (λ (y : Change). length (records y)) (h .told)
+pub in-text : (x : Change) (j : ℕ) → 32 * length (records x) ≤ j → encode x j ≡ x .text (j - 32 * length (records x))
+unfolding encode
+in-text x j more = rw (le-ltb j (32 * length (records x)) more)
 
--- The slots of the change that records tell are theirs.
+-- Without a text the sector holds these records alone.
+pub silent-encode : (x : Change) → Silent x → encode x ≡ lay (map record-bytes (records x))
+silent-encode x h = fun-ext (λ j. ⊎-elim (before-text x j)
+    (λ more. in-text x j more ∙ (λ i. h .0 i (j - 32 * length (records x)))
+    ∙ sym (zero-after (map record-bytes (records x)) j (omega (arith, length-map (records x) record-bytes))))
+    (less? j (32 * length (records x))))
+
+-- So each of these records is read from it.
+pub record-read : (x : Change) → ChangeFits x → (k : ℕ) → k < length (records x) → record-at (clip (encode x)) k ≡ listed (records x) k
+record-read x h k less =
+    let few : length (records x) ≤ 16 = h .few in
+    rw (lt-ltb k 16 (omega arith))
+    (record-local (part (clip (encode x)) (32 * k)) (part (clip (lay (map record-bytes (records x)))) (32 * k))
+    (λ j small. clip-at (encode x) (32 * k + j) (omega arith) ∙ before-text x (32 * k + j) (omega arith)
+    ∙ sym (clip-at (lay (map record-bytes (records x))) (32 * k + j) (omega arith)))
+    ∙ (rw (lt-ltb k 16 (omega arith)) at (records-back (records x) (h .few) (h .fields) k)))
+
+-- Records that begin as an operation's do tell of it.
+pair : Record → Record → ℕ → Record
+pair r d zero = r
+pair r d (suc k) = d
+
+abbrev Tells : Operation → (ℕ → Record) → Type 0
+Tells o rs = (k : ℕ) → k < length (operation-records o) → rs k ≡ listed (operation-records o) k
+
+pub operation-back : (o : Operation) (rs : ℕ → Record) → Tells o rs → operation-of rs ≡ o
+unfolding operation-of operation-records record-of pair
+operation-back (Create e count) rs h = λ i. operation-of (pair (h 0 (omega arith) i) (rs 1))
+operation-back (Update e last from size) rs h = λ i. operation-of (pair (h 0 (omega arith) i) (rs 1))
+operation-back (Delete e count first size) rs h = λ i. operation-of (pair (h 0 (omega arith) i) (rs 1))
+operation-back (Truncate e first from size) rs h = λ i. operation-of (pair (h 0 (omega arith) i) (rs 1))
+operation-back (Rename e count first size to renamed) rs h = λ i. operation-of (pair (h 0 (omega arith) i) (h 1 (omega arith) i))
+operation-back (Replace e first from size) rs h = λ i. operation-of (pair (h 0 (omega arith) i) (rs 1))
+
+module _ (x : Change) (h : ChangeFits x) where
+  pub operation-read : operation-of (record-at (clip (encode x))) ≡ x .operation
+  unfolding records
+  operation-read = operation-back (x .operation) (record-at (clip (encode x))) (record-read x h)
+
+  pub size-read : group-size (record-at (clip (encode x))) ≡ length (records x)
+  unfolding group-size records
+  size-read = ap (λ (o : Operation). length (operation-records o)) operation-read
+
+-- The slots of the operation that records tell are theirs.
 abbrev Reads : (ℕ → Record) → Operation → Type 0
 Reads rs o = (k : ℕ) → k < length (operation-records o) → listed (operation-records o) k .slot ≡ rs k .slot
 
@@ -180,8 +239,8 @@ two-read rs r d e f zero less = e
 two-read rs r d e f (suc zero) less = f
 two-read rs r d e f (suc (suc k)) less = absurd (omega arith)
 
-pub told-slot : (rs : ℕ → Record) (k : ℕ) → k < group-size rs → listed (records (change-of rs)) k .slot ≡ rs k .slot
-unfolding group-size change-of records operation-of operation-records record-of
+pub told-slot : (rs : ℕ → Record) (k : ℕ) → k < group-size rs → listed (operation-records (operation-of rs)) k .slot ≡ rs k .slot
+unfolding group-size operation-of operation-records record-of
 told-slot rs =
     let n = rs 0 .number in
     by-pick (Reads rs) (eqb n 1) _ _ (λ _. one-read rs _ refl) (λ _.
@@ -189,12 +248,3 @@ told-slot rs =
     by-pick (Reads rs) (eqb n 3) _ _ (λ _. one-read rs _ refl) (λ _.
     by-pick (Reads rs) (eqb n 4) _ _ (λ _. one-read rs _ refl) (λ _.
     by-pick (Reads rs) (eqb n 5) _ _ (λ _. two-read rs _ _ refl refl) (λ _. one-read rs _ refl)))))
-
--- After the records their sector is zero.
-pub zero-after : (rs : List Bytes) (j : ℕ) → 32 * length rs ≤ j → lay rs j ≡ 0
-unfolding lay
-zero-after rs j h = ap (λ (b : Bytes). b (j % 32)) (List·getD-eq-default rs zeros {n = j / 32} (omega arith))
-
-pub encode-after : (o : Change) (j : ℕ) → 32 * length (records o) ≤ j → encode o j ≡ 0
-unfolding encode
-encode-after o j h = zero-after (map record-bytes (records o)) j (omega (arith, length-map (records o) record-bytes))

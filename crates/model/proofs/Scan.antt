@@ -235,6 +235,9 @@ module _ (p : ℕ → Bool) (n : ℕ) where
   pub first-before0 : (j : ℕ) → j < first-from p 0 n → p j ≡ false
   first-before0 j less = first-before p 0 n j (omega arith) less
 
+  pub first-upto0 : (k : ℕ) → p k ≡ true → first-from p 0 n ≤ k
+  first-upto0 k h = ⊎-elim (λ less. clash h (first-before0 k less)) (λ le. le) (less? k (first-from p 0 n))
+
   pub first-has0 : first-from p 0 n < n → p (first-from p 0 n) ≡ true
   first-has0 h = first-has p 0 n (omega arith)
 

@@ -22,6 +22,7 @@ ground-number Ground.Chain = 13
 ground-number Ground.Length = 14
 ground-number Ground.Nospace = 15
 ground-number Ground.Locked = 16
+ground-number Ground.Longname = 17
 
 -- An answer, or the ground on which there is none.
 pub data Answer (A : Type 0) : Type 0 where

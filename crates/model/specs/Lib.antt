@@ -6,6 +6,7 @@ pub mod Fat
 pub mod Chain
 pub mod Root
 pub mod Long
+pub mod LongName
 pub mod Log
 pub mod Record
 pub mod Pending

@@ -8,7 +8,9 @@ use lib.ListN.{length, take}
 use lib.Dec.{leb}
 use Rattle.model.specs.Bytes.{Bytes, le}
 use Rattle.model.specs.Sector.{card-of, Store, after}
+use Rattle.model.specs.Record.{operation-records}
 use Rattle.model.specs.declared.Layout.{Layout}
+use Rattle.model.specs.declared.Operation.{Operation}
 
 -- What holds of all of a list.
 abbrev pub All {ℓ} : {A : Type ℓ} → (A → Type 0) → List A → Type 0
@@ -52,6 +54,14 @@ pub record Ran (limit : ℕ) (ss : List Store) (entry exit : List ℕ) (made : �
   pub stores : made ≡ min limit (length ss)
   pub all : whole ≡ leb (length ss) limit
   pub card : card-of exit ≡ after (take limit ss) (card-of entry)
+
+-- A text in whole characters, no more than a sector has room for after its main record; the group of an operation has room for it.
+pub record Texted (xs : List ℕ) : Type 0 where
+  pub even : length xs % 2 ≡ 0
+  pub short : length xs ≤ 480
+
+abbrev pub Room : Operation → List ℕ → Type 0
+Room o xs = 32 * length (operation-records o) + length xs ≤ 512
 
 -- The lists st 0, st 1, .. below n, one after the other.
 unfoldable pub up-to : (ℕ → List Store) → ℕ → List Store

@@ -1,16 +1,17 @@
 -- Log records: the group of an operation as records in a sector, and the operation that such a sector tells of.
-use Prim.Native.Nat.{ℕ, _*_, _/_, _%_}
+use Prim.Native.Nat.{ℕ, _+_, _-_, _*_, _/_, _%_}
 use mathlib.Core.List.{List, [], _∷_, map}
-use mathlib.Core.Bool.{Bool, _&&_, not}
-use lib.Dec.{ltb, eqb}
+use mathlib.Core.Bool.{Bool, _&&_, _||_, not}
+use lib.Dec.{leb, ltb, eqb}
 use lib.ListN.{getD, length}
 use Rattle.model.specs.Bytes.{Bytes, pick, le, part, patch, zeros}
+use Rattle.model.specs.Scan.{every, first}
 use Rattle.model.specs.Sector.{Card, Store, store}
 use Rattle.model.specs.Root.{name-in, attributes}
+use Rattle.model.specs.LongName.{character}
 use Rattle.model.specs.declared.Entry.{Entry}
 use Rattle.model.specs.declared.Record.{Record}
-use Rattle.model.specs.declared.Change.{Change}
-use Rattle.model.specs.declared.Group.{Group}
+use Rattle.model.specs.declared.Plan.{Plan}
 use Rattle.model.specs.declared.Operation.{Operation}
 use Rattle.model.specs.declared.Operation.the-variants.{Create, Update, Delete, Truncate, Rename, Replace}
 
@@ -91,9 +92,10 @@ last-number = 6
 -- "First/last: create 0; update, the last cluster before; others, the first cluster." "DIR_Cluster: update and truncate; others 0."
 -- "Size: 0 for create." "Rename's record 1 is record 0 with the new name, operation 0 and the new slot." Replace: "The record has
 -- operation 6, the old first cluster in first/last, the new first cluster (0 for no bytes) in DIR_Cluster, and the new size." Delete and
--- rename: "The record's long-name count holds how many there are"; in all others it is 0.
+-- rename: "The record's long-name count holds how many there are"; create: "the count field holds the number of long slots"; in all others
+-- it is 0.
 unfoldable pub operation-records : Operation → List Record
-operation-records (Create e) = record-of e 1 0 0 0 0 ∷ []
+operation-records (Create e count) = record-of e 1 count 0 0 0 ∷ []
 operation-records (Update e last from size) = record-of e 2 0 last from size ∷ []
 operation-records (Delete e count first size) = record-of e 3 count first 0 size ∷ []
 operation-records (Truncate e first from size) = record-of e 4 0 first from size ∷ []
@@ -102,19 +104,35 @@ operation-records (Rename e count first size to renamed) =
     ∷ record-of (record { slot = to; name = renamed; attributes = e .attributes }) 0 count first 0 size ∷ []
 operation-records (Replace e first from size) = record-of e 6 0 first from size ∷ []
 
+-- What a group of records tells: an operation, and the characters of the long name that it writes, two bytes each, with zeros after them;
+-- the operation alone, where it writes none.
+pub record Change : Type 0 where
+  pub operation : Operation
+  pub text : Bytes
+
+abbrev pub with-text : Operation → Bytes → Change
+with-text o t = record { operation = o; text = t }
+
+abbrev pub plain : Operation → Change
+plain o = with-text o zeros
+
+-- The records that tell the operation.
 unfoldable pub records : Change → List Record
 records x = operation-records (x .operation)
 
--- A change that is told by its operation alone.
-abbrev pub plain : Operation → Change
-plain o = record { operation = o }
+-- How many characters a text has, "before the first zero", of the 240 for which a sector has room after its main record.
+unfoldable pub text-length : Bytes → ℕ
+text-length t = first (λ q. eqb (character t q) 0) 240
 
--- Records from record 0 of a sector on; "the rest of the sector is zero".
+-- Records from record 0 of a sector on; "the rest of the sector is zero". "They go into records of 16 each after the main record, the last
+-- filled with zeros": the characters stand one after the other, 32 bytes to a record.
 unfoldable pub lay : List Bytes → Bytes
 lay rs j = getD rs (j / 32) zeros (j % 32)
 
 unfoldable pub encode : Change → Bytes
-encode x = lay (map record-bytes (records x))
+encode x j =
+    let m = 32 * length (records x) in
+    pick (ltb j m) (lay (map record-bytes (records x)) j) (x .text (j - m))
 
 -- Record k of a sector, which has 16, and no record but zeros after them; the entry that a record is about.
 abbrev pub record-at : Bytes → ℕ → Record
@@ -128,33 +146,53 @@ unfoldable pub operation-of : (ℕ → Record) → Operation
 operation-of rs =
     let r = rs 0 in
     let e = entry-in r in
-    pick (eqb (r .number) 1) (Create e)
+    pick (eqb (r .number) 1) (Create e (r .count))
     (pick (eqb (r .number) 2) (Update e (r .cluster) (r .from) (r .size))
     (pick (eqb (r .number) 3) (Delete e (r .count) (r .cluster) (r .size))
     (pick (eqb (r .number) 4) (Truncate e (r .cluster) (r .from) (r .size))
     (pick (eqb (r .number) 5) (Rename e (r .count) (r .cluster) (r .size) (rs 1 .slot) (rs 1 .name))
     (Replace e (r .cluster) (r .from) (r .size))))))
 
--- The change that they tell.
-unfoldable pub change-of : (ℕ → Record) → Change
-change-of rs = plain (operation-of rs)
-
--- How many records the group in a sector has: as many as the change that they tell, so "record 0 of a sector, with record 1 for a
--- rename".
+-- How many of a sector's records tell the operation: "record 0 of a sector, with record 1 for a rename".
 unfoldable pub group-size : (ℕ → Record) → ℕ
-group-size rs = length (records (change-of rs))
+group-size rs = length (operation-records (operation-of rs))
 
--- The group of a change in a log sector, and the group that stands in one.
+-- "a sector whose record 0 does not begin 0 and is a create with a count above 0"
+unfoldable pub leads : Bytes → Bool
+leads b = every (not (eqb (b 0) 0) ∷ eqb (r-number b) 1 ∷ leb 1 (r-count b) ∷ [])
+
+-- The characters in such a sector run from the record after the main one to its end; another has none.
+unfoldable pub text-in : Bytes → Bytes
+text-in b i = pick (leads b && ltb i 480) (b (32 + i)) 0
+
+-- The change that a sector tells.
+unfoldable pub change-of : Bytes → Change
+change-of b = record { operation = operation-of (record-at b); text = text-in b }
+
+-- A group: the log sector that it stands in, how many records it has, those of characters included, and what they tell. The group of a
+-- change, the one that stands in a sector, and that of a plan with a text.
+pub record Group : Type 0 where
+  pub sector : ℕ
+  pub records : ℕ
+  pub change : Change
+
+unfoldable pub group-records : Change → ℕ
+group-records x = length (records x) + (text-length (x .text) + 15) / 16
+
 abbrev pub group-of : ℕ → Change → Group
-group-of s x = record { sector = s; records = length (records x); change = x }
+group-of s x = record { sector = s; records = group-records x; change = x }
 
 unfoldable pub group-in : ℕ → Bytes → Group
-group-in s b = group-of s (change-of (record-at b))
+group-in s b = group-of s (change-of b)
 
--- "First byte 0 is an unused record, 0xE5 a committed one, anything else pending." Record r of a sector tells something; it is
+abbrev pub planned : Plan → Bytes → Group
+planned p t = record { sector = p .sector; records = p .records; change = with-text (p .operation) t }
+
+-- "First byte 0 is an unused record, 0xE5 a committed one, anything else pending." "In a sector whose record 0 does not begin 0 and is a
+-- create with a count above 0, only that record tells what is pending, and only it is listed." Record r of a sector tells something; it is
 -- pending.
 unfoldable pub tells : Bytes → ℕ → Bool
-tells b r = not (eqb (b (32 * r)) 0)
+tells b r = not (eqb (b (32 * r)) 0) && (eqb r 0 || not (leads b))
 
 unfoldable pub pends : Bytes → ℕ → Bool
 pends b r = tells b r && not (eqb (b (32 * r)) 0xE5)
@@ -163,5 +201,8 @@ pends b r = tells b r && not (eqb (b (32 * r)) 0xE5)
 unfoldable pub committed : ℕ → Bytes → Bytes
 committed n b j = pick (eqb (j % 32) 0 && ltb j (32 * n)) 0xE5 (b j)
 
+abbrev pub mark-committed : Card → ℕ → ℕ → Store
+mark-committed c s n = store s (committed n (c s))
+
 unfoldable pub commit : Card → Group → Store
-commit c g = store (g .sector) (committed (g .records) (c (g .sector)))
+commit c g = mark-committed c (g .sector) (g .records)

@@ -78,10 +78,11 @@ pub enum Access {
 }
 
 // The operations that the log can hold, each with its own fields. `from` is DIR_Cluster, `count` how many entries of a long name stand
-// directly before the slot.
+// directly before the slot, or are to stand there.
 pub enum Operation {
     Create {
         entry: Entry,
+        count: u32,
     },
     Update {
         entry: Entry,
@@ -132,17 +133,12 @@ pub struct Record {
     pub size: u32,
 }
 
-// What a group of records tells: the operation. An array that an operation needs stands here, beside the enum.
-pub struct Change {
-    pub operation: Operation,
-}
-
-// A group of log records, and so the plan of what recovery redoes: the log sector that it stands in, how many records it
-// has, and what they tell.
-pub struct Group {
+// The plan of what is done once a group of log records stands in its sector, and of what recovery redoes: that sector, how many records
+// the group has, and the operation that they tell of. The characters of a long name stand beside it, in a slice of bytes.
+pub struct Plan {
     pub sector: u32,
     pub records: u32,
-    pub change: Change,
+    pub operation: Operation,
 }
 
 // What is pending in the log: nothing, records that are no group, or the group in a sector.
@@ -177,6 +173,7 @@ pub enum Ground {
     Length,
     Nospace,
     Locked,
+    Longname,
 }
 
 // How a call ends: refused; done, with its count (of stores, of bytes read, of entries) or the cluster that it gives; a no;

@@ -22,16 +22,22 @@ unfolding ones onesIn
     Rattle.model.specs.Root.slot-holds Rattle.model.specs.Root.lookup Rattle.model.specs.Long.name-slots
     Rattle.model.specs.Long.turned Rattle.model.specs.Long.sum-of Rattle.model.specs.Long.is-long Rattle.model.specs.Long.belong
     Rattle.model.specs.Long.long-count
+    Rattle.model.specs.LongName.forbidden Rattle.model.specs.LongName.all-allowed Rattle.model.specs.LongName.text-ok
+    Rattle.model.specs.LongName.spelled Rattle.model.specs.LongName.fill Rattle.model.specs.LongName.long-entry
+    Rattle.model.specs.LongName.name-entry Rattle.model.specs.LongName.long-length Rattle.model.specs.LongName.has-text
+    Rattle.model.specs.LongName.find-text
     Rattle.model.specs.Log.run Rattle.model.specs.Log.run-ok Rattle.model.specs.Log.area Rattle.model.specs.Log.unused
     Rattle.model.specs.Record.record-bytes Rattle.model.specs.Record.record-of Rattle.model.specs.Record.operation-records Rattle.model.specs.Record.records
     Rattle.model.specs.Record.lay Rattle.model.specs.Record.encode Rattle.model.specs.Record.operation-of Rattle.model.specs.Record.change-of
     Rattle.model.specs.Record.group-size Rattle.model.specs.Record.tells Rattle.model.specs.Record.pends Rattle.model.specs.Record.committed
-    Rattle.model.specs.Record.commit
+    Rattle.model.specs.Record.commit Rattle.model.specs.Record.text-length Rattle.model.specs.Record.leads Rattle.model.specs.Record.text-in
+    Rattle.model.specs.Record.group-records
     Rattle.model.specs.Pending.first-pending Rattle.model.specs.Pending.slot-ok Rattle.model.specs.Pending.record-ok Rattle.model.specs.Pending.alike
     Rattle.model.specs.Pending.most-counted Rattle.model.specs.Pending.count-ok
     Rattle.model.specs.Pending.part-ok Rattle.model.specs.Pending.records-ok Rattle.model.specs.Pending.empty-from Rattle.model.specs.Pending.group-ok
     Rattle.model.specs.Pending.alone Rattle.model.specs.Pending.accepted Rattle.model.specs.Record.group-in Rattle.model.specs.Pending.pending-in
-    Rattle.model.specs.Pending.pending
+    Rattle.model.specs.Pending.pending Rattle.model.specs.Pending.characters-ok Rattle.model.specs.Pending.named-slots
+    Rattle.model.specs.Pending.end-past
     Rattle.model.specs.Ground._>>=_ Rattle.model.specs.Ground._when_ Rattle.model.specs.Ground._>>_
     Rattle.model.specs.Volume.mount Rattle.model.specs.Volume.locate Rattle.model.specs.Volume.inspect Rattle.model.specs.Volume.examine
     Rattle.model.specs.Volume.settled Rattle.model.specs.Volume.clean
@@ -43,7 +49,7 @@ unfolding ones onesIn
     Rattle.operations.specs.Finish.set-slots Rattle.operations.specs.Finish.new-entry Rattle.operations.specs.Finish.operation-edits
     Rattle.operations.specs.Finish.edits Rattle.operations.specs.Finish.effect Rattle.operations.specs.Finish.root-sector
     Rattle.operations.specs.Finish.concerns Rattle.operations.specs.Finish.root-stores Rattle.operations.specs.Finish.finish
-    Rattle.operations.specs.Finish.redo
+    Rattle.operations.specs.Finish.redo Rattle.operations.specs.Finish.rising Rattle.operations.specs.Finish.name-slot
     Rattle.operations.specs.Plan.clear-all Rattle.operations.specs.Plan.clearing Rattle.operations.specs.Plan.group-sector
     Rattle.operations.specs.Plan.new-group Rattle.operations.specs.Plan.group-store Rattle.operations.specs.Plan.prepare
     Rattle.operations.specs.Plan.journal Rattle.operations.specs.Plan.operate Rattle.operations.specs.Plan.create-stores
@@ -58,6 +64,8 @@ unfolding ones onesIn
     Rattle.operations.specs.Calls.slot-of Rattle.operations.specs.Calls.admit Rattle.operations.specs.Calls.file-named
     Rattle.operations.specs.Calls.whole
     Rattle.operations.specs.Calls.taken Rattle.operations.specs.Calls.root-full Rattle.operations.specs.Calls.new-slot
+    Rattle.operations.specs.Calls.text-taken Rattle.operations.specs.Calls.create-as Rattle.operations.specs.Calls.create-long-on
+    Rattle.operations.specs.Calls.create-long Rattle.operations.specs.Calls.new-slots
     Rattle.operations.specs.Calls.file-of Rattle.operations.specs.Calls.create-on Rattle.operations.specs.Calls.unless-none
     Rattle.operations.specs.Calls.append-to Rattle.operations.specs.Calls.append-on Rattle.operations.specs.Calls.replace-file
     Rattle.operations.specs.Calls.replace-on Rattle.operations.specs.Calls.truncate-as Rattle.operations.specs.Calls.truncate-on
@@ -71,6 +79,8 @@ unfolding ones onesIn
     Rattle.operations.specs.Reading.file-byte Rattle.operations.specs.Reading.reading Rattle.operations.specs.Reading.read-on
     Rattle.operations.specs.Reading.read
     Rattle.operations.specs.Reading.shown Rattle.operations.specs.Reading.directory-listing Rattle.operations.specs.Reading.list
+    Rattle.operations.specs.Reading.long-reading Rattle.operations.specs.Reading.long-name-on
+    Rattle.operations.specs.Reading.long-name
     Rattle.operations.specs.Reading.buffer-after Rattle.operations.specs.Reading.filled-outcome
     Rattle.operations.specs.Fitting.fit Rattle.operations.specs.Fitting.fits-on Rattle.operations.specs.Fitting.fits
     Rattle.operations.specs.Fitting.fit-outcome

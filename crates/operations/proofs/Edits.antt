@@ -1,28 +1,31 @@
 -- Edits of the root directory may be begun, cut and begun again: made of a mixture of the old directory and the new one they make the
 -- new one. So the code may store root sectors one by one, and read slots that it has stored already.
-use Prim.Native.Nat.{ℕ, _+_, _-_, _*_, _/_, _%_, _^_, _≤_, _<_}
+use Prim.Native.Nat.{ℕ, zero, suc, _+_, _-_, _*_, _/_, _%_, _^_, _≤_, _<_}
 use native.Mathlib.Omega.{arith}
 use native.Mathlib.Nat.{mod-lt}
 use mathlib.Core.Path.{_≡_, refl, sym, ap, _∙_, subst}
 use mathlib.Core.Logic.{_⊎_, inl, inr, ⊎-elim}
 use mathlib.Core.List.{List, [], _∷_, _++_, map, append-nil}
-use mathlib.Core.Bool.{Bool, true, false, _&&_, _||_}
+use mathlib.Core.Bool.{Bool, true, false, _&&_}
 use lib.Dec.{leb, ltb, eqb}
 use borrow.Author.Tests.{eq-eqb, ne-eqb, eqb-false}
 use Rattle.model.specs.Bytes.{Bytes, overlay, pick, byte-of, patch, zeros}
 use Rattle.model.specs.Scan.{any, among}
 use Rattle.model.specs.Sector.{Card, clip}
 use Rattle.model.specs.Root.{Directory, root-place, slot-at}
-use Rattle.model.specs.Long.{name-slots}
+use Rattle.model.specs.Long.{name-slots, checksum}
+use Rattle.model.specs.LongName.{place, fill, long-entry, name-entry}
+use Rattle.model.specs.Record.{text-length}
+use Rattle.model.specs.declared.Entry.{Entry}
 use Rattle.model.specs.declared.Layout.{Layout}
 use Rattle.model.specs.declared.Name.{Name}
-use Rattle.model.specs.declared.Change.{Change}
+use Rattle.model.specs.Record.{Change}
 use Rattle.model.specs.declared.Operation.{Operation}
 use Rattle.model.specs.declared.Operation.the-variants.{Create, Update, Delete, Truncate, Rename, Replace}
-use Rattle.operations.specs.Finish.{set-size, set-first, mark-deleted, set-name, new-entry, Edit, edit, edit-from, set-slots, marks}
+use Rattle.operations.specs.Finish.{set-size, set-first, mark-deleted, set-name, new-entry, name-slot, Edit, edit, edit-from, set-slots, each, marks}
 use Rattle.operations.specs.Finish.{operation-edits, edits}
 use Rattle.operations.specs.Finish.{effect, Slots, root-sector, concerns}
-use Rattle.model.proofs.Tests.{told, less?, same?, or-false, or-assoc, clash}
+use Rattle.model.proofs.Tests.{told, less?, same?, or-false, clash}
 use Rattle.model.proofs.All.{All, all-append, all-image, all-map}
 use Rattle.model.proofs.Long.{of-name, each-among}
 use Rattle.model.proofs.Cards.{clip-at}
@@ -96,6 +99,30 @@ laid-new n j =
     (laid-then (λ b. patch 2 0x21 16 b) _ j (laid-patch 2 0x21 16 j)
     (laid-then (λ b. patch 2 0x21 18 b) _ j (laid-patch 2 0x21 18 j)
     (laid-then (λ b. patch 2 0x21 24 b) (λ b. zeros) j (laid-patch 2 0x21 24 j) (laid-zeros j)))))
+
+-- A slot of a new name, whatever stood there.
+laid-fill : (f : ℕ → ℕ) (h : Bytes → Bytes) (n j : ℕ) → Laid h j → Laid (λ b. fill f (h b) n) j
+unfolding fill
+laid-fill f h zero j k = k
+laid-fill f h (suc n) j k = laid-then (λ b. patch 2 (f n) (place n) b) (λ b. fill f (h b) n) j (laid-patch 2 (f n) (place n) j) (laid-fill f h n j k)
+
+laid-entry : (sum order : ℕ) (f : ℕ → ℕ) (j : ℕ) → Laid (λ b. long-entry sum order f) j
+unfolding long-entry
+laid-entry sum order f j =
+    laid-fill f (λ b. patch 1 order 0 (patch 1 0x0F 11 (patch 1 sum 13 zeros))) 13 j
+    (laid-then (λ b. patch 1 order 0 b) _ j (laid-patch 1 order 0 j)
+    (laid-then (λ b. patch 1 0x0F 11 b) _ j (laid-patch 1 0x0F 11 j)
+    (laid-then (λ b. patch 1 sum 13 b) (λ b. zeros) j (laid-patch 1 sum 13 j) (laid-zeros j))))
+
+laid-either : (t : Bool) (g h : Bytes → Bytes) (j : ℕ) → Laid g j → Laid h j → Laid (λ b. pick t (g b) (h b)) j
+laid-either true g h j k m = k
+laid-either false g h j k m = m
+
+pub laid-name-slot : (e : Entry) (t : Bytes) (k j : ℕ) → Laid (λ b. name-slot e t k) j
+unfolding name-slot name-entry
+laid-name-slot e t k j =
+    laid-either (eqb k (e .slot)) (λ b. new-entry (e .name)) (λ b. name-entry (checksum (new-entry (e .name))) t (text-length t) (e .slot - k)) j
+    (laid-new (e .name) j) (laid-entry _ _ _ j)
 
 -- A name covers the mark of a deleted slot.
 name-over : (n : Name) (j : ℕ) → Over (λ b. set-name n b) (λ b. mark-deleted b) j
@@ -184,46 +211,55 @@ all-same n whole [] d x j near w a = tt
 all-same n whole (e ∷ es) d x j near w a =
     (reads-same whole e d x j (a .0 .0) (a .0 .1) (near (e .source) (w .0 .1)), all-same n whole es d x j near (w .1) (a .1))
 
--- ---- slots marked as deleted, and other edits after them
+-- ---- each slot of a list given a change of its own, and other edits after them
 
-module _ (rest : List Edit) where
-  -- A slot that is marked, and one that is not.
-  pub marks-in : (ks : List ℕ) (d : Directory) (k : ℕ) → among ks k ≡ true → set-slots (marks ks ++ rest) d k ≡ mark-deleted (d k)
+module _ (f : ℕ → Bytes → Bytes) (rest : List Edit) where
+  -- A slot of the list, and one that is none.
+  pub each-in : (ks : List ℕ) (d : Directory) (k : ℕ) → among ks k ≡ true → set-slots (each f ks ++ rest) d k ≡ f k (d k)
   unfolding any
-  marks-in [] d k h = clash h refl
-  marks-in (i ∷ ks) d k h = ⊎-elim
-      (λ e. set-in (edit i (λ b. mark-deleted b)) (marks ks ++ rest) d k e ∙ ap (λ (i : ℕ). mark-deleted (d i)) (sym e))
-      (λ ne. set-out (edit i (λ b. mark-deleted b)) (marks ks ++ rest) d k ne ∙ marks-in ks d k (rw (ne-eqb k i ne) at h)) (same? k i)
+  each-in [] d k h = clash h refl
+  each-in (i ∷ ks) d k h = ⊎-elim
+      (λ e. set-in (edit i (f i)) (each f ks ++ rest) d k e ∙ ap (λ (i : ℕ). f i (d i)) (sym e))
+      (λ ne. set-out (edit i (f i)) (each f ks ++ rest) d k ne ∙ each-in ks d k (rw (ne-eqb k i ne) at h)) (same? k i)
 
-  pub marks-out : (ks : List ℕ) (d : Directory) (k : ℕ) → among ks k ≡ false → set-slots (marks ks ++ rest) d k ≡ set-slots rest d k
+  pub each-out : (ks : List ℕ) (d : Directory) (k : ℕ) → among ks k ≡ false → set-slots (each f ks ++ rest) d k ≡ set-slots rest d k
   unfolding any
-  marks-out [] d k h = refl
-  marks-out (i ∷ ks) d k h =
+  each-out [] d k h = refl
+  each-out (i ∷ ks) d k h =
       let r = or-false (eqb k i) (among ks k) h in
-      set-out (edit i (λ b. mark-deleted b)) (marks ks ++ rest) d k (eqb-false k i (r .0)) ∙ marks-out ks d k (r .1)
+      set-out (edit i (f i)) (each f ks ++ rest) d k (eqb-false k i (r .0)) ∙ each-out ks d k (r .1)
 
   -- The slots, and a test of them.
-  pub marks-slots : (ks : List ℕ) → map (λ e. e .slot) (marks ks ++ rest) ≡ ks ++ map (λ e. e .slot) rest
-  marks-slots [] = refl
-  marks-slots (k ∷ ks) = ap (λ js. k ∷ js) (marks-slots ks)
+  pub each-slots : (ks : List ℕ) → map (λ e. e .slot) (each f ks ++ rest) ≡ ks ++ map (λ e. e .slot) rest
+  each-slots [] = refl
+  each-slots (k ∷ ks) = ap (λ js. k ∷ js) (each-slots ks)
 
-  pub marks-any : (q : ℕ → Bool) (ks : List ℕ) → any (map (λ e. q (e .slot)) (marks ks ++ rest)) ≡ (any (map q ks) || any (map (λ e. q (e .slot)) rest))
+  -- An edit made of a slot of the list, which makes the same of it whether that is changed or not.
+  each-bear : (ks : List ℕ) (e : Edit) (j : ℕ) → among ks (e .source) ≡ true → ((i : ℕ) → e .source ≡ i → Over (e .change) (f i) j)
+      → Bears (each f ks ++ rest) e j
   unfolding any
-  marks-any q [] = refl
-  marks-any q (k ∷ ks) = ap (λ t. q k || t) (marks-any q ks) ∙ sym (or-assoc (q k) (any (map q ks)) _)
+  each-bear [] e j h over = clash h refl
+  each-bear (i ∷ ks) e j h over = ((λ q. (sym q, over i q)), λ ne. each-bear ks e j (rw (ne-eqb (e .source) i ne) at h) over)
 
-  -- An edit made of a marked slot, which makes the same of it whether it is marked or not.
-  marks-bear : (ks : List ℕ) (e : Edit) (j : ℕ) → among ks (e .source) ≡ true → Over (e .change) (λ b. mark-deleted b) j → Bears (marks ks ++ rest) e j
-  unfolding any
-  marks-bear [] e j h over = clash h refl
-  marks-bear (i ∷ ks) e j h over = ((λ q. (sym q, over)), λ ne. marks-bear ks e j (rw (ne-eqb (e .source) i ne) at h) over)
+  each-again : (ks : List ℕ) (j : ℕ) → ((k : ℕ) → Laid (f k) j) → All (λ e. Laid (e .change) j × Bears (each f ks ++ rest) e j) rest
+      → Again (each f ks ++ rest) j
+  each-again ks j own a =
+      all-append (λ e. Laid (e .change) j × Bears (each f ks ++ rest) e j) (each f ks) rest
+      (all-image (λ e. Laid (e .change) j × Bears (each f ks ++ rest) e j) (λ k. edit k (f k)) ks
+      (all-map (λ k. among ks k ≡ true) (λ k. Laid (f k) j × Bears (each f ks ++ rest) (edit k (f k)) j)
+      (λ k h. (own k, each-bear ks (edit k (f k)) j h (λ i e. subst (λ (i : ℕ). Over (f k) (f i) j) e (laid-again (f k) j (own k))))) ks (each-among ks))) a
 
-  marks-again : (ks : List ℕ) (j : ℕ) → All (λ e. Laid (e .change) j × Bears (marks ks ++ rest) e j) rest → Again (marks ks ++ rest) j
-  marks-again ks j a =
-      all-append (λ e. Laid (e .change) j × Bears (marks ks ++ rest) e j) (marks ks) rest
-      (all-image (λ e. Laid (e .change) j × Bears (marks ks ++ rest) e j) (λ k. edit k (λ b. mark-deleted b)) ks
-      (all-map (λ k. among ks k ≡ true) (λ k. Laid (λ b. mark-deleted b) j × Bears (marks ks ++ rest) (edit k (λ b. mark-deleted b)) j)
-      (λ k h. (laid-mark j, marks-bear ks (edit k (λ b. mark-deleted b)) j h (laid-again (λ b. mark-deleted b) j (laid-mark j)))) ks (each-among ks))) a
+-- Where nothing follows them.
+module _ (f : ℕ → Bytes → Bytes) (ks : List ℕ) where
+  each-alone : (j : ℕ) → ((k : ℕ) → Laid (f k) j) → Again (each f ks) j
+  each-alone j own = subst (λ es. Again es j) (append-nil (each f ks)) (each-again f [] ks j own tt)
+
+  pub only-in : (d : Directory) (k : ℕ) → among ks k ≡ true → set-slots (each f ks) d k ≡ f k (d k)
+  only-in d k h = ap (λ es. set-slots es d k) (sym (append-nil (each f ks))) ∙ each-in f [] ks d k h
+
+  pub only-out : (d : Directory) (k : ℕ) → among ks k ≡ false → set-slots (each f ks) d k ≡ d k
+  unfolding set-slots
+  only-out d k h = ap (λ es. set-slots es d k) (sym (append-nil (each f ks))) ∙ each-out f [] ks d k h
 
 -- ---- operations
 
@@ -231,25 +267,30 @@ module _ (rest : List Edit) where
 own-again : (s : ℕ) (f : Bytes → Bytes) (j : ℕ) → Laid f j → Again (edit s f ∷ []) j
 own-again s f j k = ((k, ((λ _. (refl, laid-again f j k)), λ _. tt)), tt)
 
-operation-again : (o : Operation) (j : ℕ) → Again (operation-edits o) j
+operation-again : (o : Operation) (t : Bytes) (j : ℕ) → Again (operation-edits o t) j
 unfolding operation-edits
-operation-again (Create e) j = own-again (e .slot) (λ b. new-entry (e .name)) j (laid-new (e .name) j)
-operation-again (Update e last from size) j =
+operation-again (Create e count) t j = each-alone (λ k b. name-slot e t k) (name-slots (e .slot) count) j (λ k. laid-name-slot e t k j)
+operation-again (Update e last from size) t j =
     own-again (e .slot) (λ b. set-size size (pick (eqb last 0) (set-first from b) b)) j (laid-resized (eqb last 0) from size j)
-operation-again (Delete e count first size) j =
-    subst (λ es. Again es j) (append-nil (marks (name-slots (e .slot) count))) (marks-again [] (name-slots (e .slot) count) j tt)
-operation-again (Truncate e first from size) j =
+operation-again (Delete e count first size) t j = each-alone (λ k b. mark-deleted b) (name-slots (e .slot) count) j (λ k. laid-mark j)
+operation-again (Truncate e first from size) t j =
     own-again (e .slot) (λ b. set-size size (pick (eqb size 0) (set-first 0 b) b)) j (laid-resized (eqb size 0) 0 size j)
-operation-again (Rename e count first size to renamed) j =
+operation-again (Rename e count first size to renamed) t j =
     let ks : List ℕ = name-slots (e .slot) count in
     let named : Edit = edit-from (e .slot) to (λ b. set-name renamed b) in
-    marks-again (named ∷ []) ks j
-    ((laid-name renamed j, marks-bear (named ∷ []) ks named j (of-name (e .slot) count (e .slot) (omega arith, omega arith)) (name-over renamed j)), tt)
-operation-again (Replace e first from size) j = own-again (e .slot) (λ b. set-size size (set-first from b)) j (laid-resized true from size j)
+    each-again (λ k b. mark-deleted b) (named ∷ []) ks j (λ k. laid-mark j) (
+      (
+        laid-name renamed j,
+        each-bear (λ k b. mark-deleted b) (named ∷ []) ks named j (of-name (e .slot) count (e .slot) (omega arith, omega arith))
+            (λ i q. name-over renamed j),
+      ),
+      tt,
+    )
+operation-again (Replace e first from size) t j = own-again (e .slot) (λ b. set-size size (set-first from b)) j (laid-resized true from size j)
 
 pub again : (o : Change) (j : ℕ) → Again (edits o) j
 unfolding edits
-again o j = operation-again (o .operation) j
+again o j = operation-again (o .operation) (o .text) j
 
 -- From a mixture the effect makes the new directory.
 pub effect-mix : (n : ℕ) (o : Change) (d x : Directory) → Slots n o → (j : ℕ) → ((k : ℕ) → k < n → Near d (effect o d) x k j)
@@ -270,11 +311,11 @@ module _ (o : Change) (d : Directory) where
   module _ (ks : List ℕ) (rest : List Edit) (e : edits o ≡ marks ks ++ rest) where
     pub marked-in : (k : ℕ) → among ks k ≡ true → effect o d k ≡ mark-deleted (d k)
     unfolding effect
-    marked-in k h = ap (λ es. set-slots es d k) e ∙ marks-in rest ks d k h
+    marked-in k h = ap (λ es. set-slots es d k) e ∙ each-in (λ k b. mark-deleted b) rest ks d k h
 
     pub marked-out : (k : ℕ) → among ks k ≡ false → effect o d k ≡ set-slots rest d k
     unfolding effect
-    marked-out k h = ap (λ es. set-slots es d k) e ∙ marks-out rest ks d k h
+    marked-out k h = ap (λ es. set-slots es d k) e ∙ each-out (λ k b. mark-deleted b) rest ks d k h
 
 -- A slot in a root sector that is not concerned keeps its bytes.
 edits-apart : (es : List Edit) (d : Directory) (k : ℕ) → any (map (λ e. eqb (e .slot / 16) (k / 16)) es) ≡ false → set-slots es d k ≡ d k

@@ -1,6 +1,7 @@
 pub mod Compute
 pub mod Small
 pub mod LongRows
+pub mod SpellRows
 pub mod Locked
 pub mod FitRows
 pub mod Admitted
@@ -9,6 +10,7 @@ pub mod Clearing
 pub mod Roots
 pub mod Edits
 pub mod Seats
+pub mod Spelled
 pub mod Lasts
 pub mod Added
 pub mod Fits

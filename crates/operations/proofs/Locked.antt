@@ -11,7 +11,7 @@ use Rattle.model.specs.declared.Outcome.{Outcome}
 use Rattle.model.specs.declared.Outcome.the-variants.{Refused, Done}
 use Rattle.model.specs.declared.Ground.the-variants as Ground
 use Rattle.operations.specs.Program.{Program, stores}
-use Rattle.operations.specs.Plan.{create-stores}
+use Rattle.operations.specs.Plan.{no-text, create-stores}
 use Rattle.operations.specs.Calls.{create-on, append-on, replace-on, truncate-on, delete-on, rename-on}
 use Rattle.operations.specs.Outcome.{outcome, largest}
 use Rattle.operations.specs.Reading.{read-on, filled-outcome}
@@ -30,7 +30,7 @@ b = letter 66
 
 -- A has 600 bytes in slot 0, B none in slot 1; the attributes of A are x.
 abbrev both : Bytes → Card
-both d = after (stores (create-stores v (appended d) 1 two)) (appended d)
+both d = after (stores (create-stores v (appended d) 1 two no-text)) (appended d)
 
 abbrev with : ℕ → Bytes → Card
 with x d = put (both d) (store 3 (patch 1 x 11 (both d 3)))

@@ -27,13 +27,13 @@ use Rattle.operations.specs.Calls.{creates, appends, deletes, renames, r
 use Rattle.operations.specs.Outcome.{made}
 use Rattle.operations.proofs.Compute.{compute}
 
-abbrev l : Layout
+abbrev pub l : Layout
 l = record { factor = 1; fatsize = 1; fat1 = 1; fat2 = 2; root = 3; entries = 64; start = 7; total = 15; clusters = 8 }
 
-abbrev log : Area
+abbrev pub log : Area
 log = record { sector = 7; sectors = 2 }
 
-abbrev v : Volume
+abbrev pub v : Volume
 v = record { layout = l; log = log; pending = Pending.Nothing }
 
 -- Clusters 2 and 3 are the log, 4 leads to 5, which ends a chain.
@@ -41,23 +41,23 @@ abbrev fat : Bytes
 fat j = getD (0 ∷ 0 ∷ 0 ∷ 0 ∷ 0xF6 ∷ 0xFF ∷ 0xF6 ∷ 0xFF ∷ 5 ∷ 0 ∷ 0xFF ∷ 0xFF ∷ []) j 0
 
 -- A name of one letter; A is a file of 600 bytes from cluster 4 on, and its checksum is 128.
-abbrev letter : ℕ → Bytes
+abbrev pub letter : ℕ → Bytes
 letter b j = pick (eqb j 0) b (pick (ltb j 12) 32 0)
 
 abbrev file : Bytes
 file = patch 2 4 26 (patch 4 600 28 (letter 65))
 
-abbrev name : ℕ → Name
+abbrev pub name : ℕ → Name
 name b = name-in (letter b)
 
-abbrev span : ℕ → Span
+abbrev pub span : ℕ → Span
 span b = record { size = 11; byte = letter b }
 
 abbrev long : ℕ → Bytes
 long order j = pick (eqb j 0) order (pick (eqb j 11) 0x0F (pick (eqb j 13) 128 0xFF))
 
 -- A card with a directory.
-abbrev with-root : Directory → Card
+abbrev pub with-root : Directory → Card
 with-root d s =
     pick (eqb s 1 || eqb s 2) fat
     (pick (leb 3 s && ltb s 7) (λ j. d (16 * (s - 3) + j / 32) (j % 32)) (pick (leb 9 s) (λ j. 0xAA) zeros))
@@ -81,10 +81,10 @@ deletion = delete-stores v two A
 abbrev renaming : Program
 renaming = rename-stores v two A 18 (name 66)
 
-abbrev sectors : List Store → List ℕ
+abbrev pub sectors : List Store → List ℕ
 sectors ss = map (λ s. s .sector) ss
 
-abbrev bytes-at : List Store → ℕ → Bytes
+abbrev pub bytes-at : List Store → ℕ → Bytes
 bytes-at ss i = getD ss i (store 0 zeros) .bytes
 
 -- Operation, long-name count and slot of a record.
@@ -95,7 +95,7 @@ told b = r-number b ∷ r-count b ∷ r-slot b ∷ []
 abbrev begins : Card → List ℕ
 begins c = map (λ k. slot-at l c k 0) (range 14 5)
 
-abbrev finished : Program → Card → Card
+abbrev pub finished : Program → Card → Card
 finished p c = after (stores p) c
 
 -- FAT2, group, FAT1, both root sectors, commit. The record tells of two entries. All three slots are marked, and no other byte changes.
@@ -118,7 +118,7 @@ renaming-row = (refl, refl, refl, refl, refl)
 abbrev cut : ℕ → Program → Card
 cut limit p = after (made limit (granted p)) two
 
-abbrev recovery : Card → Program
+abbrev pub recovery : Card → Program
 recovery c = recover-stores l c (pending l log c)
 
 abbrev recovered : Card → List ℕ

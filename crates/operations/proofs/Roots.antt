@@ -1,17 +1,22 @@
--- Laws of root stores: what they read and leave alone.
+-- Laws of root stores: what they read and leave alone; the stores of steps 4 to 6.
 use Prim.Native.Nat.{ℕ, _+_, _*_, _/_, _%_, _<_, _≤_}
 use native.Mathlib.Omega.{arith}
-use mathlib.Core.Path.{_≡_, ap}
-use mathlib.Core.List.{List, [], _∷_}
+use mathlib.Core.Path.{_≡_, refl, sym, ap, _∙_}
+use mathlib.Core.List.{List, [], _∷_, _++_, append-assoc}
+use lib.Dec.{ltb}
 use Rattle.model.specs.Bytes.{Bytes, part}
 use Rattle.model.specs.Sector.{Card, Store, store}
 use Rattle.model.specs.Root.{Directory, root-place, slot-at}
 use Rattle.model.specs.declared.Layout.{Layout}
-use Rattle.model.specs.declared.Change.{Change}
+use Rattle.model.specs.Fat.{fat1-of, fat2-of, write-fat}
+use Rattle.model.specs.Record.{Change, Group, commit}
+use Rattle.model.specs.Pending.{fills}
+use Rattle.model.proofs.Tests.{by-pick}
 use Rattle.model.proofs.All.{All}
 use Rattle.model.proofs.Cards.{Away, store-same}
 use Rattle.model.proofs.Turns.{map-away, map-same}
-use Rattle.operations.specs.Finish.{Edit, set-slots, edits, effect, Slots, root-sector, concerns, root-stores}
+use Rattle.operations.specs.Finish.{Edit, set-slots, edits, effect, Slots, root-sector, concerns, root-stores, finish, rising, redo}
+use Rattle.operations.specs.Program.{stores}
 
 -- Directories with the same slots below n have them also after the same edits of such.
 set-slots-same : (n : ℕ) (es : List Edit) (d f : Directory) → ((k : ℕ) → k < n → d k ≡ f k) → All (λ e. (e .slot < n) × (e .source < n)) es
@@ -51,3 +56,18 @@ unfolding root-stores
 root-stores-away l o c s out =
     map-away (λ r. store (root-place l r) (root-sector (effect o (slot-at l c)) r)) (concerns o) (l .entries / 16) s
     (λ k less e. out (omega arith) (omega arith))
+
+-- ---- steps 4 to 6 as one list
+
+rising-stores : (ys rs : List Store) (m : Store) → stores (rising ys rs m) ≡ ys ++ (rs ++ (m ∷ []))
+unfolding rising
+rising-stores ys [] m = refl
+rising-stores ys (r ∷ rs) m = ap (λ ss. ys ++ (r ∷ ss)) (rising-stores [] rs m)
+
+pub redo-stores : (l : Layout) (g : Group) (c : Card) → stores (redo l g c) ≡ finish l (g .change) c ++ (commit c g ∷ [])
+unfolding redo finish
+redo-stores l g c =
+    let fats : List Store = write-fat l (l .fat1) (fat2-of l c) (fat1-of l c) in
+    let roots : List Store = root-stores l (g .change) c in
+    by-pick (λ q. stores q ≡ (fats ++ roots) ++ (commit c g ∷ [])) (ltb 0 (fills (g .change .operation))) _ _
+    (λ _. rising-stores fats roots (commit c g) ∙ sym (append-assoc fats roots (commit c g ∷ []))) (λ _. refl)

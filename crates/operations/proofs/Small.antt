@@ -22,7 +22,7 @@ use Rattle.model.specs.declared.Outcome.the-variants.{Done, Stopped}
 use Rattle.model.specs.declared.Pending.the-variants as Pending
 use Rattle.model.specs.declared.Ground.the-variants as Ground
 use Rattle.operations.specs.Program.{Program, stores}
-use Rattle.operations.specs.Plan.{create-stores, append-stores, truncate-stores, delete-stores, rename-stores, replace-stores, recover-stores}
+use Rattle.operations.specs.Plan.{no-text, create-stores, append-stores, truncate-stores, delete-stores, rename-stores, replace-stores, recover-stores}
 use Rattle.operations.specs.Plan.{clusters-of}
 use Rattle.operations.specs.Calls.{whole}
 use Rattle.operations.specs.Outcome.{made, outcome}
@@ -57,7 +57,7 @@ span n b = record { size = n; byte = b }
 -- ---- the programs: create, append 600 bytes, append 100, truncate to 512, rename, delete, each after the ones before it
 
 abbrev creation : Program
-creation = create-stores v blank 0 one
+creation = create-stores v blank 0 one no-text
 
 abbrev created : Card
 created = after (stores creation) blank

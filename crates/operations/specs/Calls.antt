@@ -1,19 +1,21 @@
 -- The calls that store: their grounds, in checking order, and what each then does.
-use Prim.Native.Nat.{ℕ, _-_}
+use Prim.Native.Nat.{ℕ, _+_, _-_}
 use mathlib.Core.List.{List, [], _∷_, _++_}
-use mathlib.Core.Bool.{Bool, _&&_, not}
+use mathlib.Core.Bool.{Bool, _&&_, _||_, not}
 use lib.Dec.{ltb, eqb}
 use lib.ListN.{drop, length}
 use Rattle.model.specs.Bytes.{Span, pick}
 use Rattle.model.specs.Sector.{Card, Window}
 use Rattle.model.specs.Fat.{entry, free-clusters}
 use Rattle.model.specs.Chain.{keeps-chain, needed}
-use Rattle.model.specs.Root.{slot-at, name-ok, name-in, find, free-slot, file-at, lookup}
+use Rattle.model.specs.Root.{slot-at, name-ok, name-in, find, free-run, file-at, lookup}
 use Rattle.model.specs.Long.{name-slots, long-count}
+use Rattle.model.specs.LongName.{text-ok, find-text}
 use Rattle.model.specs.Ground.{Answer, refused, granted, _when_, _>>=_, _>>_}
 use Rattle.model.specs.Volume.{examine, clean}
 use Rattle.model.specs.declared.Name.{Name}
 use Rattle.model.specs.declared.File.{File}
+use Rattle.model.specs.declared.Layout.{Layout}
 use Rattle.model.specs.declared.Volume.{Volume}
 use Rattle.model.specs.declared.Ground.the-variants as Ground
 use Rattle.model.specs.declared.Lookup.{Lookup}
@@ -21,7 +23,8 @@ use Rattle.model.specs.declared.Lookup.the-variants as Lookup
 use Rattle.model.specs.declared.Access.{Access}
 use Rattle.model.specs.declared.Access.the-variants as Access
 use Rattle.operations.specs.Program.{Program, ending}
-use Rattle.operations.specs.Plan.{clusters-of, old-fat, added, new-clusters, create-stores, append-stores, truncate-stores, delete-stores}
+use Rattle.operations.specs.Plan.{no-text, slots-for, clusters-of, old-fat, added}
+use Rattle.operations.specs.Plan.{new-clusters, create-stores, append-stores, truncate-stores, delete-stores}
 use Rattle.operations.specs.Plan.{rename-stores, fresh-clusters, replace-stores, recover-stores}
 
 -- The name in a span of 11 bytes, and the slot that it means.
@@ -57,27 +60,46 @@ file-of a v c n = do
   Ground.Name when not (name-ok n)
   file-named a v c n >>= whole v c
 
--- "11. EXISTS: the new name is taken." "12. ROOTFULL: no slot begins 0 or 0xE5."
+-- "11. EXISTS: the new name is taken." It "also covers a live slot without bit 0x08 whose long name, as read back, has the same characters;
+-- short names are not compared with them".
 unfoldable pub taken : Volume → Card → Span → Bool
 taken v c n = ltb (slot-of v c n) (v .layout .entries)
 
-unfoldable pub root-full : Volume → Card → Bool
-root-full v c = not (ltb (free-slot (v .layout) c) (v .layout .entries))
+unfoldable pub text-taken : Volume → Card → Span → Bool
+text-taken v c t = ltb 0 (t .size) && ltb (find-text (v .layout) c t) (v .layout .entries)
 
--- The slot for a new name: "the lowest beginning 0 or 0xE5".
-unfoldable pub new-slot : Volume → Card → Span → Answer ℕ
-new-slot v c n = do
-  Ground.Exists when taken v c n
-  Ground.Rootfull when root-full v c
-  granted (free-slot (v .layout) c)
+-- "ROOTFULL now means that no run is long enough": of m slots.
+unfoldable pub root-full : Volume → Card → ℕ → Bool
+root-full v c m = not (ltb (free-run (v .layout) c m) (v .layout .entries + 1 - m))
+
+-- The slot for a new name with a text: "The slots, the short one last, are the lowest long enough run of free ones."
+abbrev pub run-end : Layout → Card → Span → ℕ
+run-end l c t = free-run l c (slots-for t + 1) + slots-for t
+
+unfoldable pub new-slot : Volume → Card → Span → Span → Answer ℕ
+new-slot v c n t = do
+  Ground.Exists when (taken v c n || text-taken v c t)
+  Ground.Rootfull when root-full v c (slots-for t + 1)
+  granted (run-end (v .layout) c t)
 
 -- ---- each call on a clean card: what is asked after grounds 1 to 7
+
+unfoldable pub create-as : Volume → Card → Span → Span → Answer Program
+create-as v c n t = do
+  s ← new-slot v c n t
+  granted (create-stores v c s (name-of n) t)
 
 unfoldable pub create-on : Volume → Card → Span → Answer Program
 create-on v c n = do
   Ground.Name when not (name-ok n)
-  s ← new-slot v c n
-  granted (create-stores v c s (name-of n))
+  create-as v c n no-text
+
+-- "Create gains a form with a short name and 1 to 208 characters of 16 bits." "17 LONGNAME, .., asked right after NAME".
+unfoldable pub create-long-on : Volume → Card → Span → Span → Answer Program
+create-long-on v c n t = do
+  Ground.Name when not (name-ok n)
+  Ground.Longname when not (text-ok t)
+  create-as v c n t
 
 -- "Appending 0 bytes or truncating to the present size makes no store."
 unfoldable pub unless-none : ℕ → Program → Program
@@ -117,7 +139,7 @@ delete-on v c n = file-of Access.Write v c n >>= λ f. granted (delete-stores v 
 -- "a rename to itself too" is EXISTS. No CHAIN is asked.
 unfoldable pub rename-as : Volume → Card → File → Span → Answer Program
 rename-as v c f m = do
-  s ← new-slot v c m
+  s ← new-slot v c m no-text
   granted (rename-stores v c f s (name-of m))
 
 unfoldable pub rename-on : Volume → Card → Span → Span → Answer Program
@@ -132,6 +154,11 @@ unfoldable pub create : Window → Span → Answer Program
 create w n = do
   v ← clean w
   create-on v (w .card) n
+
+unfoldable pub create-long : Window → Span → Span → Answer Program
+create-long w n t = do
+  v ← clean w
+  create-long-on v (w .card) n t
 
 unfoldable pub append : Window → Span → Span → Answer Program
 append w n d = do
@@ -167,6 +194,7 @@ recover w = do
 -- The writing calls and recovery, with what each is given besides the window and the limit.
 pub data Call : Type 0 where
   creates : (name : Span) → Call
+  creates-long : (name text : Span) → Call
   appends : (name bytes : Span) → Call
   truncates : (name : Span) (size : ℕ) → Call
   deletes : (name : Span) → Call
@@ -177,6 +205,7 @@ pub data Call : Type 0 where
 -- What a call would store on a window, or its refusal.
 unfoldable pub plan : Call → Window → Answer Program
 plan (creates n) w = create w n
+plan (creates-long n t) w = create-long w n t
 plan (appends n d) w = append w n d
 plan (truncates n size) w = truncate w n size
 plan (deletes n) w = delete w n
@@ -191,6 +220,7 @@ named-file v c n = file-at (v .layout) c (slot-of v c n)
 
 unfoldable pub taken-by : Volume → Card → Call → List ℕ
 taken-by v c (creates n) = []
+taken-by v c (creates-long n t) = []
 taken-by v c (appends n d) = new-clusters v c (named-file v c n) (d .size)
 taken-by v c (truncates n size) = []
 taken-by v c (deletes n) = []
@@ -200,6 +230,7 @@ taken-by v c recovers = []
 
 unfoldable pub released-by : Volume → Card → Call → List ℕ
 released-by v c (creates n) = []
+released-by v c (creates-long n t) = []
 released-by v c (appends n d) = []
 released-by v c (truncates n size) = drop (needed (v .layout) size) (clusters-of (v .layout) (old-fat v c) (named-file v c n))
 released-by v c (deletes n) = clusters-of (v .layout) (old-fat v c) (named-file v c n)
@@ -211,12 +242,17 @@ released-by v c recovers = []
 unfoldable pub old-slots : Volume → Card → Span → List ℕ
 old-slots v c n = name-slots (slot-of v c n) (long-count (slot-at (v .layout) c) (slot-of v c n))
 
+-- Those of a new name with a text.
+unfoldable pub new-slots : Layout → Card → Span → List ℕ
+new-slots l c t = name-slots (run-end l c t) (slots-for t)
+
 -- The slots that a call changes, if it is not refused.
 unfoldable pub changed-by : Volume → Card → Call → List ℕ
-changed-by v c (creates n) = free-slot (v .layout) c ∷ []
+changed-by v c (creates n) = new-slots (v .layout) c no-text
+changed-by v c (creates-long n t) = new-slots (v .layout) c t
 changed-by v c (appends n d) = slot-of v c n ∷ []
 changed-by v c (truncates n size) = slot-of v c n ∷ []
 changed-by v c (deletes n) = old-slots v c n
-changed-by v c (renames n m) = old-slots v c n ++ (free-slot (v .layout) c ∷ [])
+changed-by v c (renames n m) = old-slots v c n ++ new-slots (v .layout) c no-text
 changed-by v c (replaces n d) = slot-of v c n ∷ []
 changed-by v c recovers = []

@@ -1,20 +1,21 @@
 -- Steps 4 to 6: what is left of an operation once its group is on the card. An operation and the recovery of its group share it.
-use Prim.Native.Nat.{ℕ, _+_, _*_, _/_, _%_, _<_}
+use Prim.Native.Nat.{ℕ, _+_, _-_, _*_, _/_, _%_, _<_}
 use mathlib.Core.List.{List, [], _∷_, _++_, map}
 use mathlib.Core.Bool.{Bool}
-use lib.Dec.{eqb}
+use lib.Dec.{ltb, eqb}
 use Rattle.model.specs.Bytes.{Bytes, pick, patch, zeros}
 use Rattle.model.specs.Scan.{any, indices}
 use Rattle.model.specs.Promises.{All}
 use Rattle.model.specs.Sector.{Card, Store, store}
 use Rattle.model.specs.Fat.{fat1-of, fat2-of, write-fat}
 use Rattle.model.specs.Root.{Directory, root-place, slot-at}
-use Rattle.model.specs.Long.{name-slots}
-use Rattle.model.specs.Record.{commit}
+use Rattle.model.specs.Long.{name-slots, checksum}
+use Rattle.model.specs.LongName.{name-entry}
+use Rattle.model.specs.Record.{Change, Group, text-length, commit}
+use Rattle.model.specs.Pending.{fills}
 use Rattle.model.specs.declared.Layout.{Layout}
 use Rattle.model.specs.declared.Name.{Name}
-use Rattle.model.specs.declared.Change.{Change}
-use Rattle.model.specs.declared.Group.{Group}
+use Rattle.model.specs.declared.Entry.{Entry}
 use Rattle.model.specs.declared.Operation.{Operation}
 use Rattle.model.specs.declared.Operation.the-variants.{Create, Update, Delete, Truncate, Rename, Replace}
 use Rattle.operations.specs.Program.{Program, ending, segment}
@@ -49,29 +50,37 @@ set-size n b = patch 4 n 28 b
 abbrev pub mark-deleted : Bytes → Bytes
 mark-deleted b = patch 1 0xE5 0 b
 
--- Slots marked as deleted.
+-- Each slot of a list given what f makes of its number and its bytes; slots marked as deleted.
+abbrev pub each : (ℕ → Bytes → Bytes) → List ℕ → List Edit
+each f ks = map (λ k. edit k (f k)) ks
+
 abbrev pub marks : List ℕ → List Edit
-marks ks = map (λ k. edit k (λ b. mark-deleted b)) ks
+marks ks = each (λ k b. mark-deleted b) ks
 
 -- "attributes 0x20, the three dates 0x0021, all else 0 but the name"
 unfoldable pub new-entry : Name → Bytes
 new-entry n = set-name n (patch 1 0x20 11 (patch 2 0x21 16 (patch 2 0x21 18 (patch 2 0x21 24 zeros))))
 
+-- A slot of a new name, whose long name is a text: its entries, counted back from the short one, which is its last.
+unfoldable pub name-slot : Entry → Bytes → ℕ → Bytes
+name-slot e t k =
+    pick (eqb k (e .slot)) (new-entry (e .name)) (name-entry (checksum (new-entry (e .name))) t (text-length t) (e .slot - k))
+
 -- "Root effect. Create: a new slot .. Update: size; first cluster becomes DIR_Cluster if the last was 0. Truncate: size; first
 -- cluster 0 if size is 0. Delete: first byte 0xE5. Rename: the new slot gets the new name and bytes 11 to 31 of the old, the old
 -- gets 0xE5." Delete and rename "also mark the old name's long entries with 0xE5", as many as the record's count says. Replace: "The root
--- slot gets that first cluster and size", those of the record.
-unfoldable pub operation-edits : Operation → List Edit
-operation-edits (Create e) = edit (e .slot) (λ b. new-entry (e .name)) ∷ []
-operation-edits (Update e last from size) = edit (e .slot) (λ b. set-size size (pick (eqb last 0) (set-first from b) b)) ∷ []
-operation-edits (Delete e count first size) = marks (name-slots (e .slot) count)
-operation-edits (Truncate e first from size) = edit (e .slot) (λ b. set-size size (pick (eqb size 0) (set-first 0 b) b)) ∷ []
-operation-edits (Rename e count first size to renamed) =
+-- slot gets that first cluster and size", those of the record. A create fills as many slots before its own as its count says.
+unfoldable pub operation-edits : Operation → Bytes → List Edit
+operation-edits (Create e count) t = each (λ k b. name-slot e t k) (name-slots (e .slot) count)
+operation-edits (Update e last from size) t = edit (e .slot) (λ b. set-size size (pick (eqb last 0) (set-first from b) b)) ∷ []
+operation-edits (Delete e count first size) t = marks (name-slots (e .slot) count)
+operation-edits (Truncate e first from size) t = edit (e .slot) (λ b. set-size size (pick (eqb size 0) (set-first 0 b) b)) ∷ []
+operation-edits (Rename e count first size to renamed) t =
     marks (name-slots (e .slot) count) ++ (edit-from (e .slot) to (λ b. set-name renamed b) ∷ [])
-operation-edits (Replace e first from size) = edit (e .slot) (λ b. set-size size (set-first from b)) ∷ []
+operation-edits (Replace e first from size) t = edit (e .slot) (λ b. set-size size (set-first from b)) ∷ []
 
 unfoldable pub edits : Change → List Edit
-edits x = operation-edits (x .operation)
+edits x = operation-edits (x .operation) (x .text)
 
 unfoldable pub effect : Change → Directory → Directory
 effect x d = set-slots (edits x) d
@@ -96,6 +105,15 @@ root-stores l x c =
 unfoldable pub finish : Layout → Change → Card → List Store
 finish l x c = write-fat l (l .fat1) (fat2-of l c) (fat1-of l c) ++ root-stores l x c
 
--- Steps 4 and 5, then 6: "the log sector again, each record of the group starting 0xE5".
+-- Stores of which each is on the card before the next is made, after others and before a last one.
+unfoldable pub rising : List Store → List Store → Store → Program
+rising ys [] m = segment ys m (ending [])
+rising ys (r ∷ rs) m = segment ys r (rising [] rs m)
+
+-- Steps 4 and 5, then 6: "the log sector again, each record of the group starting 0xE5". The slots of a long name are filled from the lowest
+-- on, each root sector before the next, so that none that begins 0 stays before one that is filled.
 unfoldable pub redo : Layout → Group → Card → Program
-redo l g c = segment (finish l (g .change) c) (commit c g) (ending [])
+redo l g c =
+    pick (ltb 0 (fills (g .change .operation)))
+    (rising (write-fat l (l .fat1) (fat2-of l c) (fat1-of l c)) (root-stores l (g .change) c) (commit c g))
+    (segment (finish l (g .change) c) (commit c g) (ending []))

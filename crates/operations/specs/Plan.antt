@@ -11,13 +11,12 @@ use Rattle.model.specs.Chain.{needed, chain, file-sector}
 use Rattle.model.specs.Root.{slot-at}
 use Rattle.model.specs.Long.{long-count}
 use Rattle.model.specs.Log.{Log, log-of, unused}
-use Rattle.model.specs.Record.{plain, encode, group-of, group-in}
+use Rattle.model.specs.LongName.{long-slots}
+use Rattle.model.specs.Record.{Change, Group, plain, encode, group-of, group-in}
 use Rattle.model.specs.declared.Layout.{Layout}
 use Rattle.model.specs.declared.Area.{Area}
 use Rattle.model.specs.declared.Name.{Name}
 use Rattle.model.specs.declared.File.{File}
-use Rattle.model.specs.declared.Change.{Change}
-use Rattle.model.specs.declared.Group.{Group}
 use Rattle.model.specs.declared.Volume.{Volume}
 use Rattle.model.specs.declared.Operation.the-variants.{Create, Update, Delete, Truncate, Rename, Replace}
 use Rattle.model.specs.declared.Pending.{Pending}
@@ -58,8 +57,21 @@ operate v c data-stores f x = journal (v .layout) c (new-group (v .log) c x) (pr
 abbrev pub old-fat : Volume → Card → Fat
 old-fat v c = fat1-of (v .layout) c
 
-unfoldable pub create-stores : Volume → Card → ℕ → Name → Program
-create-stores v c s name = operate v c [] (old-fat v c) (plain (Create (record { slot = s; name = name; attributes = 0x20 })))
+-- The characters that a call is given, with zeros after them; none.
+abbrev pub text-of : Span → Bytes
+text-of t i = pick (ltb i (t .size)) (t .byte i) 0
+
+abbrev pub no-text : Span
+no-text = record { size = 0; byte = zeros }
+
+-- How many long slots they need.
+abbrev pub slots-for : Span → ℕ
+slots-for t = long-slots (t .size / 2)
+
+unfoldable pub create-stores : Volume → Card → ℕ → Name → Span → Program
+create-stores v c s name t =
+    operate v c [] (old-fat v c)
+    (record { operation = Create (record { slot = s; name = name; attributes = 0x20 }) (slots-for t); text = text-of t })
 
 -- The clusters of a file.
 unfoldable pub clusters-of : Layout → Fat → File → List ℕ

@@ -1,4 +1,5 @@
--- What a call stores, in segments. A segment ends in a barrier, a store that none passes: the group's store and the commit mark.
+-- What a call stores, in segments. A segment ends in a barrier, a store that none passes: the group's store and the commit mark, and where
+-- a long name is written each root sector's.
 use mathlib.Core.List.{List, _∷_, _++_}
 use Rattle.model.specs.Sector.{Store}
 

@@ -3,7 +3,7 @@ use Prim.Native.Nat.{ℕ, _+_, _-_, _*_, _/_, _%_, _≤_, _<_}
 use native.Mathlib.Omega.{arith}
 use mathlib.Core.Path.{_≡_, refl, sym, ap, _∙_, subst, fun-ext}
 use mathlib.Core.Logic.{_⊎_, inl, inr, ⊎-elim}
-use mathlib.Core.Bool.{false}
+use mathlib.Core.Bool.{true, false}
 use Rattle.model.specs.Bytes.{Bytes}
 use Rattle.model.specs.Sector.{Card, clip, Store, after}
 use Rattle.model.specs.Fat.{fat2-of, same}
@@ -11,10 +11,10 @@ use Rattle.model.specs.Root.{end-slot, first-bytes, slot-at, Directory, root-pl
 use Rattle.model.specs.Log.{log-of}
 use Rattle.model.specs.Promises.{Shape}
 use Rattle.model.specs.declared.Area.{Area}
-use Rattle.model.specs.declared.Group.{Group}
+use Rattle.model.specs.Scan.{among}
+use Rattle.model.specs.Record.{Change, Group, group-of}
 use Rattle.model.specs.declared.Layout.{Layout}
-use Rattle.model.specs.Record.{group-of}
-use Rattle.model.specs.declared.Change.{Change}
+use Rattle.model.specs.Pending.{fills, named-slots, end-past}
 use Rattle.operations.specs.Finish.{root-sector, effect, concerns, finish}
 use Rattle.model.proofs.Tests.{less?, told}
 use Rattle.model.proofs.All.{All, all-map}
@@ -27,11 +27,19 @@ use Rattle.safety.proofs.Start.{Fixed, Start, shape-of}
 use Rattle.operations.proofs.Edits.{Near, unconcerned, sector-mix}
 use Rattle.operations.proofs.Edits as Edits
 use Rattle.safety.proofs.Effect.{Lives, recorded-slots}
-use Rattle.safety.proofs.Steps.{finish-all, finish-fat, finish-root}
+use Rattle.safety.proofs.Steps.{root-store, finish-all, finish-fat, finish-root}
 
 -- The lowest slot beginning 0 of a card.
 abbrev pub last-slot : Card → ℕ
 last-slot c = end-slot (layout-of c .entries) (first-bytes (layout-of c) c)
+
+-- The same, read for the group of a change: as if the slots that it names began 0xE5.
+abbrev pub past-slot : Card → Change → ℕ
+past-slot c o = end-past (o .operation) (layout-of c .entries) (first-bytes (layout-of c) c)
+
+-- A change whose root sectors may reach the card in any order: no slot that it names is above the lowest that begins 0.
+abbrev pub LowSlots : Card → Change → Type 0
+LowSlots c o = (k : ℕ) → k < layout-of c .entries → among (named-slots (o .operation)) k ≡ true → k ≤ last-slot c
 
 -- Card u has the group of operation o in log sector i and the change of the FATs in FAT2, and is else as c in what a recovery looks at.
 pub record Entered (c u : Card) (i : ℕ) (o : Change) : Type 0 where
@@ -40,8 +48,9 @@ pub record Entered (c u : Card) (i : ℕ) (o : Change) : Type 0 where
   pub marks : SameMarks (layout-of c) (fat2-of (layout-of c) u) (first-fat c)
   pub stored : Stored (area-of c .sectors) (log-of (area-of c) u) i o
   pub fits : ChangeFits o
-  pub recorded : Recorded (layout-of c .entries) (last-slot c) o
+  pub recorded : Recorded (layout-of c .entries) (past-slot c o) o
   pub lives : Lives (slot-at (layout-of c) c) o
+  pub lined : (0 < fills (o .operation)) ⊎ LowSlots c o
 
 -- What sector n is to become, if it is one of those that are still written: FAT1's as FAT2's, the root directory's as in `new`.
 pub data Target (l : Layout) (u : Card) (new : Directory) (n : ℕ) (b : Bytes) : Type 0 where
@@ -66,7 +75,7 @@ module _ {size : ℕ} {c : Card} (st : Start size c) {u : Card} {i : ℕ} {o : C
   new-root = effect o old
 
   abbrev z : ℕ
-  z = last-slot c
+  z = past-slot c o
 
   abbrev pub grp : Group
   grp = group-of (log .sector + i) o
@@ -85,7 +94,7 @@ module _ {size : ℕ} {c : Card} (st : Start size c) {u : Card} {i : ℕ} {o : C
   abbrev Hits : Store → Type 0
   Hits s = Aim (s .sector) (clip (s .bytes))
 
-  mixed-keeps : (s : Store) → Hits s → Keeps Mixed s
+  pub mixed-keeps : (s : Store) → Hits s → Keeps Mixed s
   mixed-keeps s g x m n = put-case (λ b. (b ≡ u n) ⊎ Aim n b) x s n (λ e. inr (subst (λ k. Aim k (clip (s .bytes))) (sym e) g)) (λ _. m n)
 
   -- ---- what sectors are to become
@@ -136,7 +145,7 @@ module _ {size : ℕ} {c : Card} (st : Start size c) {u : Card} {i : ℕ} {o : C
     fat1-near s less =
         ⊎-elim (λ e. inl (e ∙ h .fixed (l .fat1 + s) (Fixed.fat1 s less refl))) (λ g. inr (aim-fat1 s (l .fat1 + s) _ less refl g)) (m (l .fat1 + s))
 
-    root-near : (r : ℕ) → r < l .entries / 16 → (y (root-place l r) ≡ c (root-place l r)) ⊎ (y (root-place l r) ≡ clip (root-sector new-root r))
+    pub root-near : (r : ℕ) → r < l .entries / 16 → (y (root-place l r) ≡ c (root-place l r)) ⊎ (y (root-place l r) ≡ clip (root-sector new-root r))
     root-near r less =
         ⊎-elim (λ e. inl (e ∙ h .fixed (root-place l r) (Fixed.root r less refl))) (λ g. inr (aim-root r (root-place l r) _ less refl g)) (m (root-place l r))
 
@@ -150,9 +159,9 @@ module _ {size : ℕ} {c : Card} (st : Start size c) {u : Card} {i : ℕ} {o : C
     pub slot-near : (j : ℕ) → j < 32 → (k : ℕ) → k < l .entries → Near old new-root (slot-at l y) k j
     slot-near = Edits.slot-near l c y new-root (sh .whole-sectors) root-near
 
-    effect-same : (r : ℕ) → r < l .entries / 16 → clip (root-sector (effect o (slot-at l y)) r) ≡ clip (root-sector new-root r)
+    pub effect-same : (r : ℕ) → r < l .entries / 16 → clip (root-sector (effect o (slot-at l y)) r) ≡ clip (root-sector new-root r)
     effect-same r less = clip-same (root-sector (effect o (slot-at l y)) r) (root-sector new-root r)
-        (sector-mix l c y o (sh .whole-sectors) (recorded-slots (l .entries) z o (h .fits) (h .recorded)) root-near r less)
+        (sector-mix l c y o (sh .whole-sectors) (recorded-slots (l .entries) z o (h .recorded)) root-near r less)
 
     -- A root sector that is not concerned is as it is to become.
     byte-kept : (r : ℕ) → concerns o r ≡ false → (j : ℕ) → j < 512 → root-sector new-root r j ≡ c (root-place l r) j
@@ -162,7 +171,7 @@ module _ {size : ℕ} {c : Card} (st : Start size c) {u : Card} {i : ℕ} {o : C
         let col : 32 * ((16 * r + j / 32) % 16) + j % 32 ≡ j = omega (arith, sh) in
         (λ t. unconcerned o old (16 * r + j / 32) (ap (concerns o) row ∙ e) t (j % 32)) ∙ (λ t. c (root-place l (row t)) (col t))
 
-    unconcerned-same : (r : ℕ) → r < l .entries / 16 → concerns o r ≡ false → y (root-place l r) ≡ clip (root-sector new-root r)
+    pub unconcerned-same : (r : ℕ) → r < l .entries / 16 → concerns o r ≡ false → y (root-place l r) ≡ clip (root-sector new-root r)
     unconcerned-same r less e =
         let same : clip (root-sector new-root r) ≡ c (root-place l r) = clip-same (root-sector new-root r) (c (root-place l r)) (byte-kept r e)
         ∙ st .clipped (root-place l r) in
@@ -170,11 +179,13 @@ module _ {size : ℕ} {c : Card} (st : Start size c) {u : Card} {i : ℕ} {o : C
 
     -- ---- what is left to store
 
+    pub root-hits : (r : ℕ) → r < l .entries / 16 → Hits (root-store l o y r)
+    root-hits r less = Target.root r less refl (clip-clip (root-sector (effect o (slot-at l y)) r) ∙ effect-same r less)
+
     finish-hits : All Hits (finish l o y)
     finish-hits = finish-all l o y Hits
         (λ s less. Target.fat1 s less refl (clip-clip (y (l .fat2 + s)) ∙ ap (λ (b : Bytes). clip b) (still-kept (l .fat2 + s) (still-fat2 s less)) ∙
-        h .clipped (l .fat2 + s)))
-        (λ r less. Target.root r less refl (clip-clip (root-sector (effect o (slot-at l y)) r) ∙ effect-same r less))
+        h .clipped (l .fat2 + s))) root-hits
 
     pub finish-keeps : All (Keeps Mixed) (finish l o y)
     finish-keeps = all-map Hits (Keeps Mixed) mixed-keeps (finish l o y) finish-hits

@@ -1,13 +1,13 @@
 -- Stores of bytes: what every operation and recovery writes on a card of bytes.
-use Prim.Native.Nat.{ℕ, zero, suc, _+_, _-_, _*_, _/_, _%_, _^_, _≤_, _<_}
-use native.Mathlib.Nat.{mod-lt}
+use Prim.Native.Nat.{ℕ, zero, suc, _+_, _-_, _*_, _/_, _%_, _≤_, _<_}
 use native.Mathlib.Omega.{arith}
+use mathlib.Core.Path.{sym, subst}
 use mathlib.Core.List.{List, [], _∷_, _++_, map}
 use mathlib.Core.Bool.{Bool, true, _&&_}
-use lib.Dec.{ltb, eqb, leb}
-use lib.ListN.{getD}
+use lib.Dec.{ltb, eqb}
+use lib.ListN.{getD, length}
 use borrow.Author.Tests.{ltb-true, ltb-false}
-use Rattle.model.specs.Bytes.{Bytes, Span, pick, patch, overlay, byte-of, zeros}
+use Rattle.model.specs.Bytes.{Bytes, Span, pick, patch, zeros}
 use Rattle.model.specs.Scan.{range}
 use Rattle.model.specs.Sector.{Card, Store, after, put}
 use Rattle.model.specs.Fat.{Fat, fat1-of, fat2-of, set-entry, set-wide-entry, link, release}
@@ -15,29 +15,28 @@ use Rattle.model.specs.Chain.{file-sector}
 use Rattle.model.specs.Root.{Directory, slot-at}
 use Rattle.model.specs.Record.{record-bytes, records, lay, encode, committed, commit, group-in}
 use Rattle.model.specs.declared.Record.{Record}
-use Rattle.model.specs.declared.Group.{Group}
+use Rattle.model.specs.Record.{Group}
 use Rattle.model.specs.declared.Layout.{Layout}
-use Rattle.model.specs.declared.Change.{Change}
+use Rattle.model.specs.Record.{Change}
 use Rattle.model.specs.declared.Pending.{Pending}
 use Rattle.model.specs.declared.Volume.{Volume}
 use Rattle.operations.specs.Program.{stores}
-use Rattle.operations.specs.Finish.{Edit, set-slots, edits, effect, root-sector, finish, redo}
+use Rattle.operations.specs.Finish.{Edit, set-slots, edits, effect, root-sector, finish}
 use Rattle.operations.specs.Plan.{prepare, group-store, operate, journal, new-group, last-of, extend, shorten, exchange, appended, append-sector, data-stores}
 use Rattle.operations.specs.Plan.{recover-stores}
 use Rattle.model.proofs.Tests.{by-pick}
 use Rattle.model.proofs.All.{All, all-append, all-image, all-map}
 use Rattle.model.proofs.Indices.{indices-all}
+use Rattle.model.proofs.Numbers.{Small, patched}
 use Rattle.model.proofs.Cards.{put-case}
 use Rattle.model.proofs.Fats.{write-all}
 use Rattle.model.proofs.Changes.{Clipped, Keeps, after-keeps, put-clipped}
 use Rattle.operations.proofs.Edits.{Laid, laid-small, Bears, again}
+use Rattle.operations.proofs.Roots.{redo-stores}
 use Rattle.safety.proofs.Steps.{prepare-all, finish-all}
 use Rattle.model.specs.declared.Pending.the-variants as Pending
 
--- Bytes are below 256: of a run, of a store, of a card, of a FAT.
-abbrev Small : Bytes → Type 0
-Small b = (j : ℕ) → b j < 256
-
+-- Bytes are below 256: of a run (`Small`), of a store, of a card, of a FAT.
 abbrev pub SmallStore : Store → Type 0
 SmallStore s = Small (s .bytes)
 
@@ -45,11 +44,6 @@ abbrev pub SmallCard : Card → Type 0
 SmallCard x = (n : ℕ) → Small (x n)
 
 -- ---- runs
-
-pub patched : (n v at : ℕ) (b : Bytes) → Small b → Small (patch n v at b)
-unfolding overlay byte-of
-patched n v at b h j = by-pick (λ x. x < 256) (leb at j && ltb j (at + n)) (v / 256 ^ (j - at) % 256) (b j)
-    (λ _. mod-lt (v / 256 ^ (j - at)) (omega arith)) (λ _. h j)
 
 none : Small zeros
 none j = omega arith
@@ -75,9 +69,11 @@ getD-small [] i a = none
 getD-small (r ∷ rs) zero a = a .0
 getD-small (r ∷ rs) (suc i) a = getD-small rs i (a .1)
 
-encode-small : (o : Change) → Small (encode o)
+encode-small : (o : Change) → Small (o .text) → Small (encode o)
 unfolding encode lay
-encode-small o j = getD-small (map record-bytes (records o)) (j / 32) (records-small (records o)) (j % 32)
+encode-small o text j =
+    by-pick (λ x. x < 256) (ltb j (32 * length (records o))) (lay (map record-bytes (records o)) j) (o .text (j - 32 * length (records o)))
+    (λ _. getD-small (map record-bytes (records o)) (j / 32) (records-small (records o)) (j % 32)) (λ _. text (j - 32 * length (records o)))
 
 committed-small : (n : ℕ) (b : Bytes) → Small b → Small (committed n b)
 unfolding committed
@@ -160,25 +156,26 @@ data-small l c ks old d h small =
         (λ _. omega arith))
 
 pub operate-small : (v : Volume) (c : Card) (ds : List Store) (f : Fat) (o : Change) → SmallCard c → All SmallStore ds → SmallCard f
-    → All SmallStore (stores (operate v c ds f o))
-unfolding operate journal redo new-group group-store commit root-sector slot-at
-operate-small v c ds f o h own fat =
+    → Small (o .text) → All SmallStore (stores (operate v c ds f o))
+unfolding operate journal new-group group-store commit root-sector slot-at
+operate-small v c ds f o h own fat text =
     let l : Layout = v .layout in
     let prep : List Store = prepare v c ds f in
     let g : Group = new-group (v .log) c o in
     let u : Card = put (after prep c) (group-store g) in
     let before : All SmallStore prep = prepare-all v c ds f SmallStore own (λ s less j. fat s (j % 512)) (λ i less j. omega arith) in
-    let group : SmallStore (group-store g) = λ j. encode-small o (j % 512) in
+    let group : SmallStore (group-store g) = λ j. encode-small o text (j % 512) in
     let small : SmallCard u = put-small (group-store g) group (after prep c) (after-small prep c before h) in
     let rest : All SmallStore (finish l o u) = finish-all l o u SmallStore (λ s less j. small _ (j % 512))
     (λ r less j. effect-small o (slot-at l u) (λ k i. small _ (32 * (k % 16) + i)) (16 * r + j % 512 / 32) (j % 512 % 32)) in
     let mark : SmallStore (commit u g) = λ j. committed-small (g .records) (u (g .sector)) (small (g .sector)) (j % 512) in
-    all-append SmallStore prep _ before (group, all-append SmallStore (finish l o u) _ rest (mark, tt))
+    all-append SmallStore prep _ before
+    (group, subst (All SmallStore) (sym (redo-stores l g u)) (all-append SmallStore (finish l o u) _ rest (mark, tt)))
 
 -- ---- recovery, on any card of bytes
 
 pub recover-small : (l : Layout) (x : Card) (p : Pending) → SmallCard x → All SmallStore (stores (recover-stores l x p))
-unfolding recover-stores redo commit root-sector slot-at
+unfolding recover-stores commit root-sector slot-at
 recover-small l x Pending.Nothing h = write-all l (l .fat2) (fat1-of l x) (fat2-of l x) SmallStore (λ s less j. h (l .fat1 + s) (j % 512))
 recover-small l x Pending.Broken h = tt
 recover-small l x (Pending.Held n) h =
@@ -186,4 +183,4 @@ recover-small l x (Pending.Held n) h =
     let rest : All SmallStore (finish l (g .change) x) = finish-all l (g .change) x SmallStore (λ s less j. h _ (j % 512))
     (λ r less j. effect-small (g .change) (slot-at l x) (λ k i. h _ (32 * (k % 16) + i)) (16 * r + j % 512 / 32) (j % 512 % 32)) in
     let mark : SmallStore (commit x g) = λ j. committed-small (g .records) (x (g .sector)) (h (g .sector)) (j % 512) in
-    all-append SmallStore (finish l (g .change) x) _ rest (mark, tt)
+    subst (All SmallStore) (sym (redo-stores l g x)) (all-append SmallStore (finish l (g .change) x) _ rest (mark, tt))

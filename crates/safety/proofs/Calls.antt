@@ -18,8 +18,8 @@ use Rattle.model.specs.declared.Layout.{Layout}
 use Rattle.model.specs.declared.Pending.{Pending}
 use Rattle.model.specs.declared.Volume.{Volume}
 use Rattle.operations.specs.Program.{Program, stores, ending}
-use Rattle.operations.specs.Plan.{clusters-of, new-clusters, added, fresh-clusters}
-use Rattle.operations.specs.Calls.{Call, taken-by, released-by, slot-of, creates, renames, deletes, named-file, truncates, appends, replaces}
+use Rattle.operations.specs.Plan.{no-text, clusters-of, new-clusters, added, fresh-clusters}
+use Rattle.operations.specs.Calls.{Call, taken-by, released-by, slot-of, creates, creates-long, renames, deletes, named-file, truncates, appends, replaces}
 use Rattle.operations.specs.Calls.{recover, recovers, plan}
 use Rattle.operations.specs.Outcome.{left, made, largest}
 use Rattle.safety.specs.Cuts.{program-of}
@@ -35,7 +35,8 @@ use Rattle.safety.proofs.Operations.{old-plain, old-busy}
 use Rattle.safety.proofs.Extents.{ds, new-plain, few-data, append-spared, replace-spared}
 use Rattle.safety.proofs.Supplied.{creates-as, create-supplies, renames-as, rename-supplies, ks, deletes-as, delete-supplies, cut-fat, truncates-as}
 use Rattle.safety.proofs.Supplied.{truncate-supplies, longer-fat, updates-as, append-supplies, exchanged-fat, replaces-as, replace-supplies}
-use Rattle.safety.proofs.Granted.{create-granted, rename-granted, delete-granted, Truncated, truncate-granted, Growth, Appended, append-granted}
+use Rattle.safety.proofs.Granted.{Created, create-granted, long-granted, rename-granted, delete-granted}
+use Rattle.safety.proofs.Granted.{Truncated, truncate-granted, Growth, Appended, append-granted}
 use Rattle.safety.proofs.Granted.{Renewal, Replaced, replace-granted}
 use Rattle.model.specs.declared.Pending.the-variants as Pending
 
@@ -64,12 +65,20 @@ module _ {size : ℕ} {c : Card} (st : Start size c) (is : clean (window size c)
   abbrev Shown : Call → Answer Program → Type 1
   Shown k a = Fair size c (if-granted a (taken-by v c k)) (if-granted a (released-by v c k)) (program-of a)
 
+  made-shown : (n t : Span) (p : Program) → Created st is n t p → Fair size c [] [] p
+  made-shown n t p a =
+      subst (Fair size c [] []) (a .same)
+      (plain-fair st fat (creates-as st n t) (create-supplies st n t (a .ok) (a .fine) (a .room)) [] [] (none-free fat))
+
   create-shown : (n : Span) (a : Answer Program) → plan (creates n) (window size c) ≡ a → Shown (creates n) a
   unfolding taken-by released-by
   create-shown n (refused g) h = idle-fair st is
-  create-shown n (granted p) h =
-      let a = create-granted st is n p h in
-      subst (Fair size c [] []) (a .same) (plain-fair st fat (creates-as st n) (create-supplies st n (a .ok) (a .room)) [] [] (none-free fat))
+  create-shown n (granted p) h = made-shown n no-text p (create-granted st is n p h)
+
+  long-shown : (n t : Span) (a : Answer Program) → plan (creates-long n t) (window size c) ≡ a → Shown (creates-long n t) a
+  unfolding taken-by released-by
+  long-shown n t (refused g) h = idle-fair st is
+  long-shown n t (granted p) h = made-shown n t p (long-granted st is n t p h)
 
   rename-shown : (n m : Span) (a : Answer Program) → plan (renames n m) (window size c) ≡ a → Shown (renames n m) a
   unfolding taken-by released-by
@@ -162,6 +171,7 @@ module _ {size : ℕ} {c : Card} (st : Start size c) (is : clean (window size c)
   pub shown : (k : Call) → Shown k (plan k (window size c))
   unfolding plan
   shown (creates n) = create-shown n (plan (creates n) (window size c)) refl
+  shown (creates-long n t) = long-shown n t (plan (creates-long n t) (window size c)) refl
   shown (appends n d) = append-shown n d (plan (appends n d) (window size c)) refl
   shown (truncates n m) = truncate-shown n m (plan (truncates n m) (window size c)) refl
   shown (deletes n) = delete-shown n (plan (deletes n) (window size c)) refl

@@ -14,7 +14,7 @@ use Rattle.model.specs.Chain.{chain, keeps-chain, needed}
 use Rattle.model.specs.Root.{slot-at, file-size, first-cluster, file-at, Directory}
 use Rattle.model.specs.Promises.{Shape}
 use Rattle.model.specs.declared.Layout.{Layout}
-use Rattle.model.specs.declared.Change.{Change}
+use Rattle.model.specs.Record.{Change}
 use Rattle.operations.specs.Finish.{effect}
 use Rattle.operations.specs.Plan.{clusters-of}
 use Rattle.safety.specs.Sound.{proper, chain-of}

@@ -3,34 +3,32 @@ use Prim.Native.Nat.{ℕ, _/_, _<_}
 use native.Mathlib.Omega.{arith}
 use mathlib.Core.Path.{_≡_, refl, sym, ap, _∙_, subst}
 use mathlib.Core.Logic.{_⊎_, inl, inr, ⊎-elim}
-use mathlib.Core.List.{List, [], _∷_, map}
+use mathlib.Core.List.{List, []}
 use mathlib.Core.Bool.{Bool, true, false}
-use lib.Dec.{eqb}
-use borrow.Author.Tests.{eqb-false}
 use Rattle.model.specs.Bytes.{Span}
-use Rattle.model.specs.Scan.{any, among}
+use Rattle.model.specs.Scan.{among}
 use Rattle.model.specs.Sector.{Card, Window, Store, after}
 use Rattle.model.specs.Fat.{Fat}
 use Rattle.model.specs.Root.{Directory, slot-at}
 use Rattle.model.specs.Long.{long-count}
 use Rattle.model.specs.Ground.{Answer, refused, granted}
 use Rattle.model.specs.Volume.{clean}
-use Rattle.model.specs.declared.Change.{Change}
+use Rattle.model.specs.Record.{Change}
+use Rattle.model.specs.Pending.{named-slots}
 use Rattle.model.specs.declared.Layout.{Layout}
 use Rattle.model.specs.declared.Pending.{Pending}
 use Rattle.model.specs.declared.Volume.{Volume}
 use Rattle.model.specs.declared.Pending.the-variants as Pending
 use Rattle.operations.specs.Program.{Program, ending}
-use Rattle.operations.specs.Finish.{Edit, mark-deleted, marks, edits, effect}
+use Rattle.operations.specs.Finish.{mark-deleted, marks, effect}
 use Rattle.operations.specs.Calls.{Call, deletes, renames, recovers, plan, slot-of, old-slots, changed-by}
 use Rattle.operations.specs.Outcome.{left, made, largest}
 use Rattle.safety.specs.Demand3.{finished, recoveries, settles-as, group-stored, SameTables}
 use Rattle.safety.specs.Changed.{Slotwise, SlotsStay, Removes, OldMarked, AllOrNone}
-use Rattle.model.proofs.Tests.{or-false, clash}
-use Rattle.model.proofs.All.{All}
+use Rattle.model.proofs.Tests.{clash}
 use Rattle.model.proofs.Long.{OfName, of-name?, not-of-name}
 use Rattle.model.proofs.Volumes.{window, layout-of, volume-of}
-use Rattle.operations.proofs.Edits.{edits-out}
+use Rattle.operations.proofs.Seats.{unnamed}
 use Rattle.operations.proofs.Roots.{slot-same}
 use Rattle.safety.proofs.Start.{Start, shape-of}
 use Rattle.safety.proofs.Theorem.{demand3}
@@ -39,14 +37,6 @@ use Rattle.safety.proofs.Granted.{Renamed, rename-granted, Deleted, del
 use Rattle.safety.proofs.Operated.{Operated, operated}
 use Rattle.safety.proofs.Moved.{finish-with, left-slots, rename-end, gone-slots, delete-end}
 use Rattle.safety.proofs.Saved.{started, volume-is}
-
--- Numbers that are not among a list.
-none-among : (es : List Edit) (s : ℕ) → among (map (λ e. e .slot) es) s ≡ false → All (λ e. s ≡ e .slot → ⊥) es
-unfolding any
-none-among [] s h = tt
-none-among (e ∷ es) s h =
-    let r = or-false (eqb s (e .slot)) (among (map (λ e. e .slot) es) s) h in
-    (eqb-false s (e .slot) (r .0), none-among es s (r .1))
 
 module _ {size : ℕ} {c : Card} (st : Start size c) (is : clean (window size c) ≡ granted (volume-of c Pending.Nothing)) where
   abbrev l : Layout
@@ -75,11 +65,10 @@ module _ {size : ℕ} {c : Card} (st : Start size c) (is : clean (window size c)
   unfolding after
   none-stays k s less off j small = refl
 
-  -- A finished operation changes the slots that it edits.
-  ended-stays : {ds : List Store} {f : Fat} {o : Change} {t : Card} → Ended size c ds f o t → (ks : List ℕ) → map (λ e. e .slot) (edits o) ≡ ks → Stay ks t
-  unfolding effect
+  -- A finished operation changes the slots that it names.
+  ended-stays : {ds : List Store} {f : Fat} {o : Change} {t : Card} → Ended size c ds f o t → (ks : List ℕ) → named-slots (o .operation) ≡ ks → Stay ks t
   ended-stays {ds} {f} {o} {t} end ks same s less off j small =
-      end .slots s less j small ∙ (λ i. edits-out (edits o) d s (none-among (edits o) s (ap (λ ks. among ks s) same ∙ off)) i j)
+      end .slots s less j small ∙ (λ i. unnamed o d s (ap (λ ks. among ks s) same ∙ off) i j)
 
   operated-stays : (k : Call) (p : Program) → plan k w ≡ granted p → Operated c k p → Stays k (left largest k w)
   operated-stays k p h (Operated.idles e) = finish-with st is (Stays k) k p (ending []) h e (none-stays k)

@@ -1,7 +1,7 @@
 -- The card that a finished operation leaves, by FAT entries, slots and data sectors; and that what is read of a slot depends on its 32 bytes.
 use Prim.Native.Nat.{ℕ, _+_, _*_, _/_, _%_, _<_}
 use native.Mathlib.Omega.{arith}
-use mathlib.Core.Path.{_≡_, refl, sym, ap, _∙_, fun-ext}
+use mathlib.Core.Path.{_≡_, refl, sym, ap, _∙_, fun-ext, subst}
 use mathlib.Core.List.{List, [], _∷_, _++_}
 use Rattle.model.specs.Bytes.{Bytes, le}
 use Rattle.model.specs.Sector.{Card, Store, after, put}
@@ -13,15 +13,16 @@ use Rattle.model.specs.Ground.{granted}
 use Rattle.model.specs.Volume.{clean}
 use Rattle.model.specs.Promises.{Shape}
 use Rattle.model.specs.declared.Area.{Area}
-use Rattle.model.specs.declared.Group.{Group}
+use Rattle.model.specs.Record.{Group}
 use Rattle.model.specs.declared.Layout.{Layout}
 use Rattle.model.specs.declared.Name.{Name}
-use Rattle.model.specs.declared.Change.{Change}
+use Rattle.model.specs.Record.{Change}
 use Rattle.model.specs.declared.Pending.{Pending}
 use Rattle.model.specs.declared.Volume.{Volume}
 use Rattle.operations.proofs.Clearing.{clearing-all}
 use Rattle.operations.specs.Program.{stores}
 use Rattle.operations.specs.Finish.{root-sector, effect, finish, redo}
+use Rattle.operations.proofs.Roots.{redo-stores}
 use Rattle.operations.specs.Plan.{prepare, group-store, operate, journal, new-group, clearing, group-sector}
 use Rattle.model.proofs.All.{all-append}
 use Rattle.model.proofs.Cards.{Away, after-append, after-away, clip-at}
@@ -56,7 +57,7 @@ module _ {size : ℕ} {c : Card} (st : Start size c) (ds : List Store) (f : Fat)
 
   -- A data sector outside the log is written by data stores alone.
   ended-data : (n : ℕ) → Clear c n → t n ≡ after ds c n
-  unfolding operate journal redo prepare new-group group-sector group-store commit
+  unfolding operate journal prepare new-group group-sector group-store commit
   ended-data n k =
       let fats : List Store = write-fat l (l .fat2) f (fat2-of l c) in
       let cleared : List Store = clearing log (log-of log c) in
@@ -69,9 +70,10 @@ module _ {size : ℕ} {c : Card} (st : Start size c) (ds : List Store) (f : Fat)
       (write-all l (l .fat2) f (fat2-of l c) Off (λ s less e. omega (arith, sh, k .in-data)))
       (clearing-all log (log-of log c) Off (λ i less e. k .no-log i less (sym e))) in
       let then : Away (finish l o u) n = finish-all l o u Off (λ s less e. omega (arith, sh, k .in-data)) (λ r less e. omega (arith, sh, k .in-data)) in
-      let rest : List Store = group-store g ∷ (finish l o u ++ (commit u g ∷ [])) in
+      let steps : List Store = stores (redo l g u) in
+      let rest : List Store = group-store g ∷ steps in
       (λ i. after-append prep rest c i n)
-      ∙ after-away rest (after prep c) n (at, all-append Off (finish l o u) (commit u g ∷ []) then (at, tt))
+      ∙ after-away rest (after prep c) n (at, subst (λ ss. Away ss n) (sym (redo-stores l g u)) (all-append Off (finish l o u) (commit u g ∷ []) then (at, tt)))
       ∙ (λ i. after-append ds (fats ++ cleared) c i n) ∙ after-away (fats ++ cleared) (after ds c) n first
 
   module _ (given : Supplies c ds f o) where

@@ -2,7 +2,7 @@
 use Prim.Native.Nat.{ℕ, _+_, _/_, _≤_, _<_}
 use native.Mathlib.Omega.{arith}
 use mathlib.Core.Path.{_≡_, ap, _∙_}
-use mathlib.Core.List.{List, []}
+use mathlib.Core.List.{List, [], _∷_, _++_}
 use lib.ListN.{length, length-append}
 use Rattle.model.specs.Sector.{Card, Store, after, put}
 use Rattle.model.specs.Fat.{fat1-of, Fat, fat2-of, is-free}
@@ -10,14 +10,15 @@ use Rattle.model.specs.Log.{log-of}
 use Rattle.model.specs.Ground.{granted}
 use Rattle.model.specs.Volume.{clean}
 use Rattle.model.specs.Promises.{Shape}
-use Rattle.model.specs.declared.Group.{Group}
+use Rattle.model.specs.Record.{Group, commit}
 use Rattle.model.specs.declared.Layout.{Layout}
-use Rattle.model.specs.declared.Change.{Change}
+use Rattle.model.specs.Record.{Change}
 use Rattle.model.specs.declared.Pending.{Pending}
 use Rattle.model.specs.declared.Volume.{Volume}
 use Rattle.operations.proofs.Clearing.{clearing-length}
 use Rattle.operations.specs.Program.{Program, stores, ending}
-use Rattle.operations.specs.Finish.{redo}
+use Rattle.operations.specs.Finish.{finish, redo}
+use Rattle.operations.proofs.Roots.{redo-stores}
 use Rattle.operations.specs.Plan.{operate, journal, prepare, new-group, group-store}
 use Rattle.operations.specs.Outcome.{largest}
 use Rattle.safety.specs.Sound.{Sound}
@@ -58,13 +59,15 @@ module _ {size : ℕ} {c : Card} (st : Start size c) where
 
   -- How many stores there are.
   operate-length : (ds : List Store) (f : Fat) (o : Change) → length (stores (operate v c ds f o)) ≤ length ds + 140000
-  unfolding operate journal redo prepare
+  unfolding operate journal prepare
   operate-length ds f o =
       let g : Group = new-group (area-of c) c o in
       let u : Card = put (after (prepare v c ds f) c) (group-store g) in
       let fat2 = write-length l (l .fat2) f (fat2-of l c) in
       let cleared = clearing-length (area-of c) (log-of (area-of c) c) in
-      simp length-append (omega (arith, fat2, cleared, finish-length l (g .change) u, fatsize-few st, entries-few st, log-few st))
+      let steps : length (stores (redo l g u)) ≡ length (finish l (g .change) u ++ (commit u g ∷ [])) = ap (λ ss. length ss) (redo-stores l g u) in
+      let last = length-append (finish l (g .change) u) (commit u g ∷ []) in
+      simp length-append (omega (arith, fat2, cleared, steps, last, finish-length l (g .change) u, fatsize-few st, entries-few st, log-few st))
 
   -- ---- operations
 

@@ -33,7 +33,7 @@ module _ {size : ℕ} {c : Card} (st : Start size c) (is : clean (window size c)
   operated-fine : (k : Call) (p : Program) → OfBytes k → Operated c k p → Fine p
   operated-fine k p b (Operated.idles e) = subst Fine e tt
   operated-fine k p b (Operated.operates ds f o given own fat slots same) =
-      subst Fine same (operate-small (volume-of c Pending.Nothing) c ds f o (st .small) (own b) fat)
+      subst Fine same (operate-small (volume-of c Pending.Nothing) c ds f o (st .small) (own b .0) fat (own b .1))
 
   made-fine : (k : Call) (limit : ℕ) (a : Answer Program) → OfBytes k → plan k w ≡ a → All SmallStore (made limit a)
   unfolding made

@@ -1,11 +1,11 @@
 -- A call that is not refused: what its grounds tell, and which operation it makes.
-use Prim.Native.Nat.{ℕ, _-_, _≤_, _<_}
+use Prim.Native.Nat.{ℕ, _+_, _-_, _≤_, _<_}
 use native.Mathlib.Nat.{zero-add}
 use native.Mathlib.Omega.{arith}
-use mathlib.Core.Path.{_≡_, sym, ap, _∙_}
+use mathlib.Core.Path.{_≡_, refl, sym, ap, _∙_}
 use mathlib.Core.Logic.{_⊎_, inl, inr, ⊎-elim}
 use mathlib.Core.List.{[]}
-use mathlib.Core.Bool.{true, false, _&&_, not}
+use mathlib.Core.Bool.{true, false, _&&_, _||_, not}
 use lib.Dec.{ltb, eqb}
 use lib.ListN.{length}
 use borrow.Author.Tests.{ltb-true, ltb-false, not-false, eqb-true, eqb-false}
@@ -13,7 +13,8 @@ use Rattle.model.specs.Bytes.{Span}
 use Rattle.model.specs.Sector.{Card, Window}
 use Rattle.model.specs.Fat.{Fat, release, free-clusters}
 use Rattle.model.specs.Chain.{needed}
-use Rattle.model.specs.Root.{slot-at, name-ok, free-slot, file-size, entry-at, file-at, is-file, is-directory, is-locked}
+use Rattle.model.specs.LongName.{text-ok}
+use Rattle.model.specs.Root.{slot-at, name-ok, free-run, free-slot, file-size, entry-at, file-at, is-file, is-directory, is-locked}
 use Rattle.model.specs.Ground.{Answer, granted, _>>=_}
 use Rattle.model.specs.Volume.{clean}
 use Rattle.model.specs.declared.File.{File}
@@ -21,15 +22,19 @@ use Rattle.model.specs.declared.Layout.{Layout}
 use Rattle.model.specs.declared.Pending.{Pending}
 use Rattle.model.specs.declared.Volume.{Volume}
 use Rattle.operations.specs.Program.{Program, ending}
-use Rattle.operations.specs.Plan.{operate, create-stores, rename-stores, delete-stores, truncate-stores, truncate-along, append-stores, append-along}
+use Rattle.operations.specs.Plan.{no-text, slots-for, operate, create-stores, rename-stores}
+use Rattle.operations.specs.Plan.{delete-stores, truncate-stores, truncate-along, append-stores, append-along}
 use Rattle.operations.specs.Plan.{replace-stores, replace-along, clusters-of, new-clusters, added, fresh-clusters}
-use Rattle.operations.specs.Calls.{creates, renames, deletes, truncates, appends, replaces, plan, create, rename, delete, truncate, append, replace}
-use Rattle.operations.specs.Calls.{create-on, rename-on, delete-on, truncate-on, append-on, replace-on, rename-as, truncate-as, append-to, replace-file}
+use Rattle.operations.specs.Calls.{creates, creates-long, renames, deletes, truncates, appends, replaces}
+use Rattle.operations.specs.Calls.{plan, create, rename, delete, truncate, append, replace}
+use Rattle.operations.specs.Calls.{create-as, create-on, create-long, create-long-on, run-end, text-taken, rename-on, delete-on, truncate-on}
+use Rattle.operations.specs.Calls.{append-on, replace-on, rename-as, truncate-as, append-to, replace-file}
 use Rattle.operations.specs.Calls.{unless-none, taken, root-full, new-slot, file-named, file-of, slot-of, name-of}
 use Rattle.model.proofs.Needed.{needed-none}
 use Rattle.operations.proofs.Added.{added-sum}
 use Rattle.safety.specs.Sound.{proper}
-use Rattle.model.proofs.Tests.{which, and-left, and-right, and-both}
+use Rattle.operations.proofs.Spelled.{TextFine}
+use Rattle.model.proofs.Tests.{which, or-false, and-left, and-right, and-both}
 use Rattle.model.proofs.Grounds.{then, asked, bound}
 use Rattle.model.proofs.Names.{Live, found-live, found-listed}
 use Rattle.model.proofs.Volumes.{window, layout-of, first-fat, volume-of}
@@ -62,21 +67,25 @@ module _ {size : ℕ} {c : Card} (st : Start size c) (is : clean (window size c)
   opened : {B : Type 0} (k : Volume → Answer B) (a : Answer B) → (clean w >>= k) ≡ a → k v ≡ a
   opened k a h = sym (then (clean w) k v is) ∙ h
 
-  room-in : root-full v c ≡ false → free-slot l c < l .entries
+  -- A run of m free slots is there.
+  abbrev pub Room : ℕ → Type 0
+  Room m = free-run l c m < l .entries + 1 - m
+
+  room-in : (m : ℕ) → root-full v c m ≡ false → Room m
   unfolding root-full
-  room-in h = ltb-true (free-slot l c) (l .entries) (not-false (ltb (free-slot l c) (l .entries)) h)
+  room-in m h = ltb-true (free-run l c m) (l .entries + 1 - m) (not-false (ltb (free-run l c m) (l .entries + 1 - m)) h)
 
   unused : (n : Span) → taken v c n ≡ false → l .entries ≤ at n
   unfolding taken
   unused n h = ltb-false (at n) (l .entries) h
 
-  placed : (n : Span) (s : ℕ) → new-slot v c n ≡ granted s → (l .entries ≤ at n) × (free-slot l c < l .entries) × (free-slot l c ≡ s)
+  placed : (n t : Span) (s : ℕ) → new-slot v c n t ≡ granted s → (l .entries ≤ at n) × Room (slots-for t + 1) × (run-end l c t ≡ s)
   unfolding new-slot
-  placed n s h =
-      let h1 = asked Ground.Exists (taken v c n) _ s h in
-      let h2 = asked Ground.Rootfull (root-full v c) _ s (h1 .1) in
-      let e : granted (free-slot l c) ≡ granted s = h2 .1 in
-      (unused n (h1 .0), room-in (h2 .0), (cc))
+  placed n t s h =
+      let h1 = asked Ground.Exists (taken v c n || text-taken v c t) _ s h in
+      let h2 = asked Ground.Rootfull (root-full v c (slots-for t + 1)) _ s (h1 .1) in
+      let e : granted (run-end l c t) ≡ granted s = h2 .1 in
+      (unused n (or-false (taken v c n) (text-taken v c t) (h1 .0) .0), room-in (slots-for t + 1) (h2 .0), (cc))
 
   pub live-at : (n : Span) → at n < l .entries → Live l c (at n)
   unfolding slot-of
@@ -88,21 +97,35 @@ module _ {size : ℕ} {c : Card} (st : Start size c) (is : clean (window size c)
 
   -- ---- create and rename
 
-  pub record Created (n : Span) (p : Program) : Type 0 where
+  -- A create, with a text or without.
+  pub record Created (n t : Span) (p : Program) : Type 0 where
     pub ok : name-ok n ≡ true
+    pub fine : TextFine t
     pub unused : l .entries ≤ at n
-    pub room : free-slot l c < l .entries
-    pub same : operate v c [] fat (creates-as st n) ≡ p
+    pub room : Room (slots-for t + 1)
+    pub same : operate v c [] fat (creates-as st n t) ≡ p
 
-  pub create-granted : (n : Span) (p : Program) → plan (creates n) w ≡ granted p → Created n p
-  unfolding plan create create-on create-stores
+  created-as : (n t : Span) (p : Program) → name-ok n ≡ true → TextFine t → create-as v c n t ≡ granted p → Created n t p
+  unfolding create-as create-stores
+  created-as n t p ok fine h =
+      let b = bound (new-slot v c n t) _ p h in
+      let a = placed n t (b .0) (b .1) in
+      let e : granted (create-stores v c (b .0) (name-of n) t) ≡ granted p = b .2 in
+      let s : create-stores v c (b .0) (name-of n) t ≡ p = cc in
+      record { ok = ok; fine = fine; unused = a .0; room = a .1; same = ap (λ k. create-stores v c k (name-of n) t) (a .2) ∙ s }
+
+  pub create-granted : (n : Span) (p : Program) → plan (creates n) w ≡ granted p → Created n no-text p
+  unfolding plan create create-on
   create-granted n p h =
       let h1 = asked Ground.Name (not (name-ok n)) _ p (opened _ (granted p) h) in
-      let b = bound (new-slot v c n) _ p (h1 .1) in
-      let a = placed n (b .0) (b .1) in
-      let e : granted (create-stores v c (b .0) (name-of n)) ≡ granted p = b .2 in
-      let s : create-stores v c (b .0) (name-of n) ≡ p = cc in
-      record { ok = not-false (name-ok n) (h1 .0); unused = a .0; room = a .1; same = ap (λ k. create-stores v c k (name-of n)) (a .2) ∙ s }
+      created-as n no-text p (not-false (name-ok n) (h1 .0)) (inl refl) (h1 .1)
+
+  pub long-granted : (n t : Span) (p : Program) → plan (creates-long n t) w ≡ granted p → Created n t p
+  unfolding plan create-long create-long-on
+  long-granted n t p h =
+      let h1 = asked Ground.Name (not (name-ok n)) _ p (opened _ (granted p) h) in
+      let h2 = asked Ground.Longname (not (text-ok t)) _ p (h1 .1) in
+      created-as n t p (not-false (name-ok n) (h1 .0)) (inr (not-false (text-ok t) (h2 .0))) (h2 .1)
 
   pub record Renamed (n m : Span) (p : Program) : Type 0 where
     pub ok : name-ok n ≡ true
@@ -120,8 +143,9 @@ module _ {size : ℕ} {c : Card} (st : Start size c) (is : clean (window size c)
       let h1 = asked Ground.Name (not (name-ok n && name-ok m)) _ p (opened _ (granted p) h) in
       let b = bound (file-named Access.Write v c n) _ p (h1 .1) in
       let a = admitted-in w v is Access.Write n (b .0) (b .1) in
-      let g = bound (new-slot v c m) _ p (b .2) in
-      let t = placed m (g .0) (g .1) in
+      let g = bound (new-slot v c m no-text) _ p (b .2) in
+      let t = placed m no-text (g .0) (g .1) in
+      let free : free-slot l c ≡ g .0 = (let is = t .2 in omega arith) in
       let e : granted (rename-stores v c (b .0) (g .0) (name-of m)) ≡ granted p = g .2 in
       let s : rename-stores v c (b .0) (g .0) (name-of m) ≡ p = cc in
       let names : (name-ok n && name-ok m) ≡ true = not-false (name-ok n && name-ok m) (h1 .0) in
@@ -132,8 +156,8 @@ module _ {size : ℕ} {c : Card} (st : Start size c) (is : clean (window size c)
         plain = a .plain;
         unmarked = unmarked-in w v is n (b .0) (b .1);
         unused = t .0;
-        room = t .1;
-        same = ap (λ f. rename-stores v c f (free-slot l c) (name-of m)) (a .is) ∙ ap (λ k. rename-stores v c (b .0) k (name-of m)) (t .2) ∙ s;
+        room = (let less = t .1 in omega arith);
+        same = ap (λ f. rename-stores v c f (free-slot l c) (name-of m)) (a .is) ∙ ap (λ k. rename-stores v c (b .0) k (name-of m)) free ∙ s;
       }
 
   -- ---- calls on a file that keeps the chain rule

@@ -5,7 +5,7 @@ use mathlib.Core.Path.{_≡_, refl, sym, ap, _∙_}
 use mathlib.Core.Logic.{_⊎_, inl, inr}
 use mathlib.Core.List.{List, [], _∷_, _++_, Sublistᴰ·eq-nil, Sublistᴰ, Sublistᴰ·slnil, Sublistᴰ·nil-sublist, Sublistᴰ·cons-cons}
 use mathlib.Core.Bool.{Bool, true, false}
-use lib.ListN.{take, length, length-append}
+use lib.ListN.{take, length}
 use borrow.Author.Tests.{le-ltb, lt-ltb}
 use Rattle.model.specs.Sector.{Card, Store, after, put}
 use Rattle.model.specs.Fat.{same}
@@ -14,7 +14,7 @@ use Rattle.operations.specs.Program.{Program, ending, segment, stores}
 use Rattle.operations.specs.Outcome.{largest}
 use Rattle.safety.specs.Cuts.{recovery, Cut, passes-group, program-of, Later, now, next, reaches-group}
 use Rattle.model.proofs.All.{All}
-use Rattle.model.proofs.Cards.{after-append, after-nil, after-snoc}
+use Rattle.model.proofs.Cards.{after-append, after-nil}
 use Rattle.model.proofs.Changes.{Keeps, after-keeps, all-sub}
 
 -- Recovery that stores nothing.
@@ -32,30 +32,29 @@ pub record Back (size : ℕ) (Want : ℕ → ℕ → Type 0) (Before : Card → 
   pub whole : (n j : ℕ) → Want n j → after ys x n j ≡ c n j
   pub rests : recovery size (after ys x) ≡ idle
 
--- With the group pending, recovery from x keeps what holds after the group's store, leads on to v, and then stores the mark m.
-pub record Forth (size : ℕ) (After : Card → Type 0) (v : Card) (m : Store) (x : Card) : Type 0 where
-  pub ys : List Store
-  pub says : recovery size x ≡ granted (segment ys m (ending []))
-  pub keeps : All (Keeps After) ys
-  pub short : length ys < largest
-  pub whole : after ys x ≡ v
+-- Program q, cut anywhere, keeps on x what holds after the group's store, or has led to t; left to end it leads there.
+pub record Leads (After : Card → Type 0) (t : Card) (q : Program) (x : Card) : Type 0 where
+  pub keeps : (zs : List Store) → Cut q zs → After (after zs x) ⊎ (after zs x ≡ t)
+  pub ends : after (stores q) x ≡ t
 
--- The program of an operation: what stands before the group, the group, steps 4 and 5, the mark.
-abbrev pub grouped : List Store → Store → List Store → Store → Program
-grouped prep g fin m = segment prep g (segment fin m (ending []))
+-- With the group pending, recovery from x does so.
+pub record Forth (size : ℕ) (After : Card → Type 0) (t x : Card) : Type 0 where
+  pub rest : Program
+  pub says : recovery size x ≡ granted rest
+  pub leads : Leads After t rest x
+  pub short : length (stores rest) ≤ largest
 
--- c is the card at the start, u the one with the group on it, v the one that has all but the mark.
+-- The program of an operation: what stands before the group, the group, and steps 4 to 6. c is the card at the start, u the one with the group
+-- on it, t the one at the end.
 pub record Laws (size : ℕ) (Want : ℕ → ℕ → Type 0) (Before After : Card → Type 0) (c : Card)
-    (prep : List Store) (g : Store) (fin : List Store) (m : Store) (u v : Card) : Type 0 where
+    (prep : List Store) (g : Store) (q : Program) (u t : Card) : Type 0 where
   pub starts : Before c
   pub prepares : All (Keeps Before) prep
   pub back : (x : Card) → Before x → Back size Want Before c x
   pub u-is : put (after prep c) g ≡ u
-  pub enters : After u
-  pub finishes : All (Keeps After) fin
-  pub v-is : after fin u ≡ v
-  pub forth : (x : Card) → After x → Forth size After v m x
-  pub rests : recovery size (put v m) ≡ idle
+  pub leads : Leads After t q u
+  pub forth : (x : Card) → After x → Forth size After t x
+  pub rests : recovery size t ≡ idle
 
 -- ---- the theorem
 
@@ -71,40 +70,28 @@ Ends size Good (refused g) y = ⊥
 Ends size Good (granted q) y = Good (after (stores q) y) × (recovery size (after (stores q) y) ≡ idle) × (length (stores q) ≤ largest)
 
 module _ (size : ℕ) (Want : ℕ → ℕ → Type 0) (Before After : Card → Type 0) (c : Card)
-    (prep : List Store) (g : Store) (fin : List Store) (m : Store) (u v : Card)
-    (laws : Laws size Want Before After c prep g fin m u v) where
+    (prep : List Store) (g : Store) (q : Program) (u t : Card)
+    (laws : Laws size Want Before After c prep g q u t) where
   abbrev Inv : Bool → Card → Type 0
   Inv false y = Before y
-  Inv true y = After y ⊎ (y ≡ put v m)
+  Inv true y = After y ⊎ (y ≡ t)
 
   past : (ws : List Store) → after (prep ++ g ∷ ws) c ≡ after ws u
   unfolding after
   past ws = after-append prep (g ∷ ws) c ∙ ap (after ws) (laws .u-is)
 
-  full : (vs : List Store) → after (fin ++ m ∷ vs) u ≡ after vs (put v m)
-  unfolding after
-  full vs = after-append fin (m ∷ vs) u ∙ ap (λ x. after vs (put x m)) (laws .v-is)
-
-  pub end-card : after (stores (grouped prep g fin m)) c ≡ put v m
-  end-card = past (fin ++ m ∷ []) ∙ full [] ∙ after-nil (put v m)
+  pub end-card : after (stores (segment prep g q)) c ≡ t
+  end-card = past (stores q) ∙ laws .leads .ends
 
   -- The operation, cut.
-  op-cut : (zs : List Store) (k : Cut (grouped prep g fin m) zs) → Inv (passes-group (grouped prep g fin m) zs k) (after zs c)
+  op-cut : (zs : List Store) (k : Cut (segment prep g q) zs) → Inv (passes-group (segment prep g q) zs k) (after zs c)
   op-cut zs (inl k) = after-keeps Before zs (all-sub (Keeps Before) k (laws .prepares)) c (laws .starts)
-  op-cut zs (inr (ws, e, inl k)) = inl (rw (e, past ws) (after-keeps After ws (all-sub (Keeps After) k (laws .finishes)) u (laws .enters)))
-  op-cut zs (inr (ws, e, inr (vs, f, k))) = inr (rw (e, past ws, f, full vs, Sublistᴰ·eq-nil k) (after-nil (put v m)))
+  op-cut zs (inr (ws, e, k)) = rw (e, past ws) (laws .leads .keeps ws k)
 
   -- A recovery, cut.
   step : (b : Bool) (y : Card) (zs : List Store) → Inv b y → Cut (program-of (recovery size y)) zs → Inv b (after zs y)
   step false y zs h k = let r : Back size Want Before c y = laws .back y h in after-keeps Before zs (all-sub (Keeps Before) (rw (r .says) at k) (r .keeps)) y h
-  step true y zs (inl h) k = go (laws .forth y h)
-    where
-      go : Forth size After v m y → After (after zs y) ⊎ (after zs y ≡ put v m)
-      go r = go′ (rw (r .says) at k)
-        where
-          go′ : Cut (segment (r .ys) m (ending [])) zs → After (after zs y) ⊎ (after zs y ≡ put v m)
-          go′ (inl a) = inl (after-keeps After zs (all-sub (Keeps After) a (r .keeps)) y h)
-          go′ (inr (ws, f, a)) = inr (rw (f, Sublistᴰ·eq-nil a, after-snoc (r .ys) m y, r .whole))
+  step true y zs (inl h) k = let r : Forth size After t y = laws .forth y h in r .leads .keeps zs (rw (r .says) at k)
   step true y zs (inr h) k = inr (rw (Sublistᴰ·eq-nil (rw (h, laws .rests) at k), after-nil y) h)
 
   later : (b : Bool) (x y : Card) → Later size x y → Inv b x → Inv b y
@@ -112,28 +99,25 @@ module _ (size : ℕ) (Want : ℕ → ℕ → Type 0) (Before After : Card → T
   later b x z (next {y = y} zs l k e) h = rw e (step b y zs (later b x y l h) k)
 
   -- A recovery, left to end.
-  ends : (b : Bool) (y : Card) → Inv b y → Ends size (Goal Want c (put v m) b) (recovery size y) y
+  ends : (b : Bool) (y : Card) → Inv b y → Ends size (Goal Want c t b) (recovery size y) y
   ends false y h = let r : Back size Want Before c y = laws .back y h in rw (r .says) (r .whole, r .rests, omega (arith, r .short))
-  ends true y (inl h) =
-      let r : Forth size After v m y = laws .forth y h in
-      let e : after (r .ys ++ m ∷ []) y ≡ put v m = after-snoc (r .ys) m y ∙ ap (λ x. put x m) (r .whole) in
-      rw (r .says) (e, rw (e, laws .rests), rw (length-append (r .ys) (m ∷ [])) (omega (arith, r .short)))
-  ends true y (inr h) = rw (h, laws .rests) (rw (after-nil (put v m)) (refl, laws .rests, omega arith))
+  ends true y (inl h) = let r : Forth size After t y = laws .forth y h in rw (r .says) (r .leads .ends, rw (r .leads .ends, laws .rests), r .short)
+  ends true y (inr h) = rw (h, laws .rests) (rw (after-nil t) (refl, laws .rests, omega arith))
 
   -- Cut the operation anywhere, then any number of recoveries anywhere, on a card that may hold stores back: recovery is not refused;
   -- left to end, it makes the card the finished run's if the group's store was there at the first cut, and else as it was; and then it
   -- rests.
-  pub two-run : (zs : List Store) (k : Cut (grouped prep g fin m) zs) (y : Card) → Later size (after zs c) y
-      → Ends size (Goal Want c (after (stores (grouped prep g fin m)) c) (passes-group (grouped prep g fin m) zs k)) (recovery size y) y
-  two-run zs k y l = rw end-card (ends (passes-group (grouped prep g fin m) zs k) y
-      (later (passes-group (grouped prep g fin m) zs k) (after zs c) y l (op-cut zs k)))
+  pub two-run : (zs : List Store) (k : Cut (segment prep g q) zs) (y : Card) → Later size (after zs c) y
+      → Ends size (Goal Want c (after (stores (segment prep g q)) c) (passes-group (segment prep g q) zs k)) (recovery size y) y
+  two-run zs k y l = rw end-card (ends (passes-group (segment prep g q) zs k) y
+      (later (passes-group (segment prep g q) zs k) (after zs c) y l (op-cut zs k)))
 
 -- ---- one theorem for every call: it has the laws of a group, or makes no store on a card at rest
 
 pub data Kept (size : ℕ) (Want : ℕ → ℕ → Type 0) (c : Card) : Program → Type 1 where
   none : recovery size c ≡ idle → Kept size Want c (ending [])
-  group : {prep : List Store} {g : Store} {fin : List Store} {m : Store} {u v : Card} {Before After : Card → Type 0}
-      → Laws size Want Before After c prep g fin m u v → Kept size Want c (grouped prep g fin m)
+  group : {prep : List Store} {g : Store} {q : Program} {u t : Card} {Before After : Card → Type 0}
+      → Laws size Want Before After c prep g q u t → Kept size Want c (segment prep g q)
 
 -- A card at rest stays as it is.
 rest-later : (size : ℕ) (x y : Card) → recovery size x ≡ idle → Later size x y → y ≡ x
@@ -148,8 +132,7 @@ pub every-run : (size : ℕ) (Want : ℕ → ℕ → Type 0) (c : Card) (q : Pro
 every-run size Want c q (Kept.none h) zs k y l =
     let e : y ≡ c = rest-later size c y h (rw (Sublistᴰ·eq-nil k, after-nil c) at l) in
     rw (e, h) (rw (after-nil c) ((λ n j w. refl), h, omega arith))
-every-run size Want c q (Kept.group {prep} {g} {fin} {m} {u} {v} {Before = B} {After = A} laws) zs k y l = two-run size Want B A c prep g fin m u v
-    laws zs k y l
+every-run size Want c p (Kept.group {prep} {g} {q} {u} {t} {Before = B} {After = A} laws) zs k y l = two-run size Want B A c prep g q u t laws zs k y l
 
 -- ---- the cut of a card that holds nothing back
 

@@ -38,3 +38,4 @@ pub mod Changed
 pub mod Same
 pub mod Restored
 pub mod Fitting
+pub mod Spelled

@@ -12,12 +12,12 @@ use Rattle.model.specs.Root.{Directory, slot-at, free-slot, bears, find, file-s
 use Rattle.model.specs.Ground.{granted}
 use Rattle.model.specs.Volume.{clean}
 use Rattle.model.specs.declared.Layout.{Layout}
-use Rattle.model.specs.declared.Change.{Change}
+use Rattle.model.specs.Record.{Change}
 use Rattle.model.specs.declared.Pending.{Pending}
 use Rattle.model.specs.declared.Volume.{Volume}
 use Rattle.operations.specs.Program.{Program}
 use Rattle.operations.specs.Finish.{effect, new-entry, set-name, mark-deleted}
-use Rattle.operations.specs.Calls.{slot-of, name-of}
+use Rattle.operations.specs.Calls.{slot-of, name-of, run-end}
 use Rattle.operations.specs.Reading.{file-byte}
 use Rattle.safety.specs.Sound.{proper}
 use Rattle.safety.specs.Saved.{Holds}
@@ -28,10 +28,10 @@ use Rattle.safety.proofs.Start.{Start}
 use Rattle.safety.proofs.Ended.{Ended, same-bears, same-directory}
 use Rattle.safety.proofs.Chained.{head-is, size-is}
 use Rattle.safety.proofs.Readings.{Meant, holds-of}
-use Rattle.safety.proofs.Slots.{Resizes, bears-name, vacant-bears, named-only, new-named, deleted-bears, dropped-bears, bearer, means-same}
+use Rattle.safety.proofs.Slots.{Resizes, bears-name, vacant-bears, named-only, new-named, deleted-bears, unlisted-bears, bearer, means-same}
 use Rattle.safety.proofs.Supplied.{creates-as, renames-as, deletes-as, ks}
 use Rattle.safety.proofs.Granted.{Created, Renamed, Deleted}
-use Rattle.safety.proofs.Moved.{new-slot, old-slot, left-slot, named-slot, rest-slot, gone-slot, kept-slot}
+use Rattle.safety.proofs.Moved.{new-slot, left-slot, named-slot, rest-slot, gone-slot, kept-slot, new-vacant, other-slot}
 use Rattle.model.specs.declared.Pending.the-variants as Pending
 
 module _ {size : ℕ} {c : Card} (st : Start size c) (is : clean (window size c) ≡ granted (volume-of c Pending.Nothing)) where
@@ -94,13 +94,15 @@ module _ {size : ℕ} {c : Card} (st : Start size c) (is : clean (window size c)
           })
           n content (size-is st end x less b (r .slot) ∙ sized) same
 
-  pub create-means : (n : Span) (p : Program) (g : Created st is n p) {t : Card} (end : Ended size c [] (first-fat c) (creates-as st n) t) (m : Span)
-      → at m < l .entries → slot-of v t m ≡ at m
-  create-means n p g {t} end m there = means-same v c m t (λ k less. ⊎-elim
-      (λ q. edited end m k less (new-entry (name-of n)) (ap (effect (creates-as st n) d) q ∙ new-slot st is n p g end)
+  pub create-means : (n t : Span) (p : Program) (g : Created st is n t p) {u : Card} (end : Ended size c [] (first-fat c) (creates-as st n t) u) (m : Span)
+      → at m < l .entries → slot-of v u m ≡ at m
+  create-means n t p g {u} end m there = means-same v c m u (λ k less. ⊎-elim
+      (λ q. edited end m k less (new-entry (name-of n)) (ap (effect (creates-as st n t) d) q ∙ new-slot st is n t p g end)
       (not-new n m (new-entry (name-of n)) (g .unused) there (new-named (name-of m) (name-of n) (name-fits n (g .ok)))
-      ∙ sym (ap (λ k. bears (name-of m) (d k)) q ∙ vacant-bears (name-of m) (d z) (free-vacant l c (g .room)))))
-      (λ ne. edited end m k less (d k) (old-slot st is n p g end k ne) refl) (same? k z))
+      ∙ sym (ap (λ k. bears (name-of m) (d k)) q ∙ vacant-bears (name-of m) (d (run-end l c t)) (new-vacant st is n t p g end (run-end l c t)
+      (omega arith, omega arith)))))
+      (λ ne. edited end m k less (effect (creates-as st n t) d k) refl (unlisted-bears (name-of m) (d k) _ (other-slot st is n t p g end k ne)))
+      (same? k (run-end l c t)))
 
   pub rename-means : (n n′ : Span) (p : Program) (g : Renamed st is n n′ p) {t : Card}
       (end : Ended size c [] (first-fat c) (renames-as st (at n) (g .live) n′) t) (m : Span)
@@ -113,7 +115,7 @@ module _ {size : ℕ} {c : Card} (st : Start size c) (is : clean (window size c)
       (not-new n′ m (set-name (name-of n′) (d (at n))) (g .unused) there (named-only (name-of m) (name-of n′) (d (at n)) (name-fits n′ (g .new-ok)))
       ∙ sym (ap (λ k. bears (name-of m) (d k)) q ∙ vacant-bears (name-of m) (d z) (free-vacant l c (g .room)))))
       (λ ne′. edited end m k less (effect (renames-as st (at n) (g .live) n′) d k) refl
-      (dropped-bears (name-of m) (d k) _ (rest-slot st is n n′ p g end k ne ne′))) (same? k z))
+      (unlisted-bears (name-of m) (d k) _ (rest-slot st is n n′ p g end k ne ne′))) (same? k z))
       (same? k (at n)))
 
   pub delete-means : (n : Span) (p : Program) (g : Deleted st is n p) {t : Card}
@@ -124,4 +126,4 @@ module _ {size : ℕ} {c : Card} (st : Start size c) (is : clean (window size c)
       (λ q. edited end m k less (mark-deleted (d (at n))) (ap (effect (deletes-as st (at n) (g .it .live) (g .it .keeps)) d) q ∙ gone-slot st is n p g end)
       (deleted-bears (name-of m) (d (at n)) ∙ sym (ap (λ k. bears (name-of m) (d k)) q ∙ not-mine n m (g .it .live .in-root) other)))
       (λ ne. edited end m k less (effect (deletes-as st (at n) (g .it .live) (g .it .keeps)) d k) refl
-      (dropped-bears (name-of m) (d k) _ (kept-slot st is n p g end k ne))) (same? k (at n)))
+      (unlisted-bears (name-of m) (d k) _ (kept-slot st is n p g end k ne))) (same? k (at n)))

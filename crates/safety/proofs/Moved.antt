@@ -1,27 +1,28 @@
 -- What is read after a create, a rename and a delete.
-use Prim.Native.Nat.{ℕ, _/_, _%_, _<_}
+use Prim.Native.Nat.{ℕ, _/_, _%_, _<_, _+_, _-_}
 use native.Mathlib.Omega.{arith}
 use mathlib.Core.Path.{_≡_, refl, sym, ap, _∙_, subst}
 use mathlib.Core.Logic.{_⊎_, inl, inr, ⊎-elim}
 use mathlib.Core.List.{List, [], _∷_, _++_, append-nil}
 use mathlib.Core.Bool.{true, false, not}
-use borrow.Author.Tests.{not-true}
+use borrow.Author.Tests.{not-true, eq-eqb, ne-eqb}
 use Rattle.model.specs.Bytes.{Bytes, Span}
 use Rattle.model.specs.Sector.{Card, Window, after}
 use Rattle.model.specs.Fat.{Fat, entry, release}
 use Rattle.model.specs.Chain.{file-sector, chain}
 use Rattle.model.specs.Root.{Directory, slot-at, free-slot, bears, is-label, listed, vacant, file-size, file-at, entry-at}
-use Rattle.model.specs.Long.{name-slots, long-count}
+use Rattle.model.specs.Long.{name-slots, long-count, checksum}
 use Rattle.model.specs.Ground.{granted}
 use Rattle.model.specs.Volume.{clean}
-use Rattle.model.specs.declared.Change.{Change}
+use Rattle.model.specs.Record.{Change, text-length}
+use Rattle.model.specs.declared.Entry.{Entry}
 use Rattle.model.specs.declared.Layout.{Layout}
 use Rattle.model.specs.declared.Pending.{Pending}
 use Rattle.model.specs.declared.Volume.{Volume}
 use Rattle.operations.specs.Program.{Program, stores}
-use Rattle.operations.specs.Finish.{Edit, edit-from, set-slots, marks, effect, edits, operation-edits, new-entry, set-name, mark-deleted}
-use Rattle.operations.specs.Plan.{operate}
-use Rattle.operations.specs.Calls.{Call, plan, creates, renames, deletes, slot-of, name-of}
+use Rattle.operations.specs.Finish.{Edit, edit-from, set-slots, marks, effect, edits, operation-edits, new-entry, set-name, mark-deleted, name-slot}
+use Rattle.operations.specs.Plan.{operate, slots-for, no-text, text-of}
+use Rattle.operations.specs.Calls.{Call, plan, creates, renames, deletes, slot-of, name-of, run-end, creates-long}
 use Rattle.operations.specs.Outcome.{left, largest}
 use Rattle.operations.specs.Reading.{file-byte}
 use Rattle.safety.specs.Sound.{chain-of, proper}
@@ -29,7 +30,7 @@ use Rattle.safety.specs.Saved.{Holds, Gone, Alone}
 use Rattle.safety.specs.Fitting.{Empty}
 use Rattle.model.proofs.Tests.{clash, same?, told, and-right}
 use Rattle.model.proofs.All.{All}
-use Rattle.model.proofs.Long.{OfName}
+use Rattle.model.proofs.Long.{OfName, of-name, not-of-name, of-name?}
 use Rattle.model.proofs.Cards.{after-nil}
 use Rattle.model.proofs.Names.{name-fits, name-starts, found-listed}
 use Rattle.model.proofs.Volumes.{window, layout-of, first-fat, volume-of}
@@ -39,14 +40,17 @@ use Rattle.safety.proofs.Theorem.{along}
 use Rattle.safety.proofs.Ended.{Ended, ended, same-bears, same-directory, same-locked}
 use Rattle.safety.proofs.Chained.{HasChain, head-is, size-is, empty-then, kept-then}
 use Rattle.safety.proofs.Readings.{Meant, Read, holds-of, holds-read, gone-of, granted-write}
-use Rattle.operations.proofs.Edits.{one-in, one-out, set-in, edits-out}
+use Rattle.operations.proofs.Edits.{set-in, edits-out, only-in, only-out}
 use Rattle.safety.proofs.Slots.{new-size, new-first, new-directory, new-locked, new-bears, named-size, named-first, named-directory, named-bears}
-use Rattle.safety.proofs.Slots.{named-only, deleted-bears, Dropped, dropped-bears, old-marked, old-kept, old-dropped, means, means-none}
-use Rattle.safety.proofs.Slots.{lower-not, bearer}
+use Rattle.safety.proofs.Slots.{named-only, deleted-bears, Unlisted, unlisted-bears, old-marked, old-kept, old-unlisted, means, means-none}
+use Rattle.safety.proofs.Slots.{lower-not, bearer, vacant-unlisted, entry-unlisted}
 use Rattle.safety.proofs.Supplied.{creates-as, renames-as, deletes-as, create-supplies, rename-supplies, delete-supplies, free-apart, ks}
 use Rattle.safety.proofs.Calls.{left-is}
-use Rattle.safety.proofs.Granted.{Created, create-granted, Renamed, rename-granted, Deleted, delete-granted}
+use Rattle.safety.proofs.Granted.{Created, create-granted, Renamed, rename-granted, Deleted, delete-granted, long-granted}
 use Rattle.model.specs.declared.Pending.the-variants as Pending
+use Rattle.model.specs.Scan.{among}
+use Rattle.model.specs.LongName.{name-entry}
+use Rattle.model.proofs.FreeRuns.{run-vacant}
 
 module _ {size : ℕ} {c : Card} (st : Start size c) (is : clean (window size c) ≡ granted (volume-of c Pending.Nothing)) where
   abbrev l : Layout
@@ -77,53 +81,92 @@ module _ {size : ℕ} {c : Card} (st : Start size c) (is : clean (window size c)
 
   -- ---- create
 
-  module _ (n : Span) (p : Program) (g : Created st is n p) {t : Card} (end : Ended size c [] fat (creates-as st n) t) where
-    pub new-slot : effect (creates-as st n) d z ≡ new-entry (name-of n)
-    unfolding edits operation-edits
-    new-slot = one-in (creates-as st n) d z (λ _. new-entry (name-of n)) refl
+  module _ (n t : Span) (p : Program) (g : Created st is n t p) {u : Card} (end : Ended size c [] fat (creates-as st n t) u) where
+    -- The slot of the new file.
+    abbrev pub new : ℕ
+    new = run-end l c t
 
-    pub old-slot : (k : ℕ) → (k ≡ z → ⊥) → effect (creates-as st n) d k ≡ d k
-    unfolding edits operation-edits
-    old-slot k ne = one-out (creates-as st n) d z (λ _. new-entry (name-of n)) refl k ne
+    abbrev made : Entry
+    made = record { slot = new; name = name-of n; attributes = 0x20 }
 
-    create-found : Meant v t n z
+    pub new-in : new < l .entries
+    new-in = omega (arith, g .room)
+
+    own : among (name-slots new (slots-for t)) new ≡ true
+    own = of-name new (slots-for t) new (omega arith, omega arith)
+
+    pub new-slot : effect (creates-as st n t) d new ≡ new-entry (name-of n)
+    unfolding effect edits operation-edits name-slot
+    new-slot = only-in (λ k b. name-slot made (text-of t) k) (name-slots new (slots-for t)) d new own ∙ rw (eq-eqb new new refl)
+
+    -- A long entry's slot, and a slot that is not the name's.
+    pub entry-slot : (k : ℕ) → OfName new (slots-for t) k → (k ≡ new → ⊥)
+        → effect (creates-as st n t) d k ≡ name-entry (checksum (new-entry (name-of n))) (text-of t) (text-length (text-of t)) (new - k)
+    unfolding effect edits operation-edits name-slot
+    entry-slot k w ne =
+        only-in (λ k b. name-slot made (text-of t) k) (name-slots new (slots-for t)) d k (of-name new (slots-for t) k w) ∙ rw (ne-eqb k new ne)
+
+    pub off-slot : (k : ℕ) → (OfName new (slots-for t) k → ⊥) → effect (creates-as st n t) d k ≡ d k
+    unfolding effect edits operation-edits
+    off-slot k off = only-out (λ k b. name-slot made (text-of t) k) (name-slots new (slots-for t)) d k (not-of-name new (slots-for t) k off)
+
+    pub new-vacant : (k : ℕ) → OfName new (slots-for t) k → vacant (d k) ≡ true
+    new-vacant k w = run-vacant l c (slots-for t + 1) (g .room) k (omega (arith, w)) (omega (arith, w))
+
+    pub other-slot : (k : ℕ) → (k ≡ new → ⊥) → Unlisted (d k) (effect (creates-as st n t) d k)
+    unfolding name-entry
+    other-slot k ne = ⊎-elim
+        (λ w. inr (vacant-unlisted (d k) (new-vacant k w), ap listed (entry-slot k w ne) ∙ entry-unlisted _ _ _))
+        (λ off. inl (off-slot k off)) (of-name? new (slots-for t) k)
+
+    pub create-found : Meant v u n new
     create-found = record {
       ok = g .ok;
-      at = means v t n z (g .room)
-          (same-bears (slot-at l t z) (new-entry (name-of n)) (head-is st end z (g .room) (new-entry (name-of n)) new-slot) (name-of n)
+      at = means v u n new new-in
+          (same-bears (slot-at l u new) (new-entry (name-of n)) (head-is st end new new-in (new-entry (name-of n)) new-slot) (name-of n)
           ∙ new-bears (name-of n) (name-fits n (g .ok)) (name-starts n (g .ok)))
-          (λ j less. same-bears (slot-at l t j) (d j) (head-is st end j (omega (arith, g .room)) (d j) (old-slot j (λ e. omega arith))) (name-of n)
-          ∙ lower-not v c n j (omega (arith, g .room, g .unused)));
-      in-root = g .room;
-      plain = same-directory (slot-at l t z) (new-entry (name-of n)) (head-is st end z (g .room) (new-entry (name-of n)) new-slot) ∙ new-directory (name-of n);
-      keeps = empty-then st end z (g .room) (new-entry (name-of n)) new-slot (new-first (name-of n)) (new-size (name-of n)) .keeps;
+          (λ j less. same-bears (slot-at l u j) (effect (creates-as st n t) d j) (head-is st end j (omega (arith, new-in)) _ refl) (name-of n)
+          ∙ unlisted-bears (name-of n) (d j) _ (other-slot j (λ e. omega arith))
+          ∙ lower-not v c n j (omega (arith, new-in, g .unused)));
+      in-root = new-in;
+      plain = same-directory (slot-at l u new) (new-entry (name-of n)) (head-is st end new new-in (new-entry (name-of n)) new-slot)
+          ∙ new-directory (name-of n);
+      keeps = empty-then st end new new-in (new-entry (name-of n)) new-slot (new-first (name-of n)) (new-size (name-of n)) .keeps;
     }
 
-    create-then : (content : Bytes) → Holds (window size t) n 0 content
-    create-then content = holds-of (window size t) v (end .cleans) n z create-found 0 content
-        (size-is st end z (g .room) (new-entry (name-of n)) new-slot ∙ new-size (name-of n)) (λ i less. absurd (omega arith))
+    pub create-then : (content : Bytes) → Holds (window size u) n 0 content
+    create-then content = holds-of (window size u) v (end .cleans) n new create-found 0 content
+        (size-is st end new new-in (new-entry (name-of n)) new-slot ∙ new-size (name-of n)) (λ i less. absurd (omega arith))
 
-    create-empty : Empty v t n
+    create-empty : Empty v u n
     unfolding file-at
     create-empty =
         let b : Bytes = new-entry (name-of n) in
-        let head = head-is st end z (g .room) b new-slot in (
-          file-at l t z,
-          granted-write (window size t) v (end .cleans) n z create-found (same-locked (slot-at l t z) b head ∙ new-locked (name-of n)),
-          size-is st end z (g .room) b new-slot ∙ new-size (name-of n),
+        let head = head-is st end new new-in b new-slot in (
+          file-at l u new,
+          granted-write (window size u) v (end .cleans) n new create-found (same-locked (slot-at l u new) b head ∙ new-locked (name-of n)),
+          size-is st end new new-in b new-slot ∙ new-size (name-of n),
         )
+
+  pub create-end : (n t : Span) (p : Program) (g : Created st is n t p)
+      → Ended size c [] fat (creates-as st n t) (after (stores (operate v c [] fat (creates-as st n t))) c)
+  create-end n t p g = ended st [] fat (creates-as st n t) (create-supplies st n t (g .ok) (g .fine) (g .room))
 
   pub create-holds : (n : Span) (p : Program) → plan (creates n) w ≡ granted p → (content : Bytes) → Holds (left largest (creates n) w) n 0 content
   create-holds n p h content =
-      let g : Created st is n p = create-granted st is n p h in
-      finish-with (λ x. Holds x n 0 content) (creates n) p _ h (g .same)
-      (create-then n p g (ended st [] fat (creates-as st n) (create-supplies st n (g .ok) (g .room))) content)
+      let g : Created st is n no-text p = create-granted st is n p h in
+      finish-with (λ x. Holds x n 0 content) (creates n) p _ h (g .same) (create-then n no-text p g (create-end n no-text p g) content)
+
+  pub long-holds : (n t : Span) (p : Program) → plan (creates-long n t) w ≡ granted p → (content : Bytes)
+      → Holds (left largest (creates-long n t) w) n 0 content
+  long-holds n t p h content =
+      let g : Created st is n t p = long-granted st is n t p h in
+      finish-with (λ x. Holds x n 0 content) (creates-long n t) p _ h (g .same) (create-then n t p g (create-end n t p g) content)
 
   pub create-leaves : (n : Span) (p : Program) → plan (creates n) w ≡ granted p → Empty v (left largest (creates n) w .card) n
   create-leaves n p h =
-      let g : Created st is n p = create-granted st is n p h in
-      finish-with (λ x. Empty v (x .card) n) (creates n) p _ h (g .same)
-      (create-empty n p g (ended st [] fat (creates-as st n) (create-supplies st n (g .ok) (g .room))))
+      let g : Created st is n no-text p = create-granted st is n p h in
+      finish-with (λ x. Empty v (x .card) n) (creates n) p _ h (g .same) (create-empty n no-text p g (create-end n no-text p g))
 
   -- ---- rename
 
@@ -155,8 +198,8 @@ module _ {size : ℕ} {c : Card} (st : Start size c) (is : clean (window size c)
     named-slot = old-kept d (renames-as st x (g .live) m) x named rename-edits z (free-apart st x (g .live) (g .room))
         ∙ set-in (edit-from x z (λ b. set-name (name-of m) b)) [] d z refl
 
-    pub rest-slot : (k : ℕ) → (k ≡ x → ⊥) → (k ≡ z → ⊥) → Dropped (d k) (effect (renames-as st x (g .live) m) d k)
-    rest-slot k ne other = old-dropped d (renames-as st x (g .live) m) x named rename-edits k ne (stays k other)
+    pub rest-slot : (k : ℕ) → (k ≡ x → ⊥) → (k ≡ z → ⊥) → Unlisted (d k) (effect (renames-as st x (g .live) m) d k)
+    rest-slot k ne other = old-unlisted d (renames-as st x (g .live) m) x named rename-edits k ne (stays k other)
 
     x-listed : listed (d x) ≡ true
     unfolding slot-of
@@ -173,7 +216,7 @@ module _ {size : ℕ} {c : Card} (st : Start size c) (is : clean (window size c)
     rest-bears : (name : Span) (k : ℕ) → k < l .entries → (k ≡ x → ⊥) → (k ≡ z → ⊥) → bears (name-of name) (slot-at l t k) ≡ bears (name-of name) (d k)
     rest-bears name k less ne other =
         let b : Bytes = effect (renames-as st x (g .live) m) d k in
-        same-bears (slot-at l t k) b (head-is st end k less b refl) (name-of name) ∙ dropped-bears (name-of name) (d k) b (rest-slot k ne other)
+        same-bears (slot-at l t k) b (head-is st end k less b refl) (name-of name) ∙ unlisted-bears (name-of name) (d k) b (rest-slot k ne other)
 
     lower : (j : ℕ) → j < z → bears (name-of m) (slot-at l t j) ≡ false
     lower j less = ⊎-elim (λ e. rw e (x-not m))
@@ -278,8 +321,8 @@ module _ {size : ℕ} {c : Card} (st : Start size c) (is : clean (window size c)
     pub gone-slot : effect gone d (at n) ≡ mark-deleted (d (at n))
     gone-slot = gone-slots (at n) (omega arith, omega arith)
 
-    pub kept-slot : (k : ℕ) → (k ≡ at n → ⊥) → Dropped (d k) (effect gone d k)
-    kept-slot k ne = old-dropped d gone (at n) [] delete-edits k ne (same-slot k)
+    pub kept-slot : (k : ℕ) → (k ≡ at n → ⊥) → Unlisted (d k) (effect gone d k)
+    kept-slot k ne = old-unlisted d gone (at n) [] delete-edits k ne (same-slot k)
 
     not-there : bears (name-of n) (slot-at l t (at n)) ≡ false
     not-there = same-bears (slot-at l t (at n)) (mark-deleted (d (at n)))
@@ -301,7 +344,7 @@ module _ {size : ℕ} {c : Card} (st : Start size c) (is : clean (window size c)
         go j less (inl e) (inl h) = rw e not-there
         go j less (inr ne) (inl h) =
             let b : Bytes = effect gone d j in
-            absurd (ne (alone j less (sym (dropped-bears (name-of n) (d j) b (kept-slot j ne))
+            absurd (ne (alone j less (sym (unlisted-bears (name-of n) (d j) b (kept-slot j ne))
             ∙ sym (same-bears (slot-at l t j) b (head-is st end j less b refl) (name-of n)) ∙ h)))
 
   pub delete-end : (n : Span) (p : Program) (g : Deleted st is n p)

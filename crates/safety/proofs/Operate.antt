@@ -2,6 +2,7 @@
 use Prim.Native.Nat.{ℕ, _+_, _/_, _<_}
 use native.Mathlib.Omega.{arith}
 use mathlib.Core.Path.{_≡_, refl, sym, ap, _∙_, subst}
+use mathlib.Core.Logic.{_⊎_}
 use mathlib.Core.List.{List, [], _∷_, _++_}
 use lib.Dec.{ltb}
 use borrow.Author.Tests.{ltb-true}
@@ -10,14 +11,13 @@ use Rattle.model.specs.Sector.{Card, Store, clip, store, after, put}
 use Rattle.model.specs.Fat.{Fat, fat1-of, fat2-of, write-fat, is-reserved}
 use Rattle.model.specs.Root.{slot-at, root-place}
 use Rattle.model.specs.Log.{unused, log-of}
-use Rattle.model.specs.Record.{encode, group-of, commit}
+use Rattle.model.specs.Record.{Change, Group, encode, group-of, commit}
+use Rattle.model.specs.Pending.{fills}
 use Rattle.model.specs.Ground.{granted}
 use Rattle.model.specs.Volume.{clean}
 use Rattle.model.specs.Promises.{Shape}
 use Rattle.model.specs.declared.Area.{Area}
-use Rattle.model.specs.declared.Group.{Group}
 use Rattle.model.specs.declared.Layout.{Layout}
-use Rattle.model.specs.declared.Change.{Change}
 use Rattle.model.specs.declared.Pending.{Pending}
 use Rattle.model.specs.declared.Volume.{Volume}
 use Rattle.operations.proofs.Clearing.{clearing-all}
@@ -38,8 +38,9 @@ use Rattle.safety.proofs.Start.{Clear, Start, shape-of, log-some, data-
 use Rattle.safety.proofs.Before.{Harmless, Spared, Before, harmless-keeps, fat2-harmless, before-start, Wanted, goes-back}
 use Rattle.safety.proofs.Effect.{Lives}
 use Rattle.safety.proofs.Steps.{prepare-all, finish-all}
-use Rattle.safety.proofs.After.{last-slot, Entered, Mixed, complete, start-mixed, finish-keeps}
-use Rattle.safety.proofs.Redo.{goes-forth, ended-rests, ended-clean, ended-fat1, ended-fat2, ended-root}
+use Rattle.safety.proofs.After.{past-slot, LowSlots, Entered}
+use Rattle.operations.proofs.Roots.{redo-stores}
+use Rattle.safety.proofs.Redo.{Held, start-held, redo-leads, goes-forth, ended, ended-rests, ended-clean, ended-fat1, ended-fat2, ended-root}
 use Rattle.model.specs.declared.Pending.the-variants as Pending
 
 -- A store within the card.
@@ -47,13 +48,15 @@ abbrev pub OnCard : Card → Store → Type 0
 OnCard c s = s .sector < layout-of c .total
 
 -- What an operation supplies: its data goes to data sectors outside the log; its FAT marks the same clusters as the log; its group can be
--- written and read again, and RECORD accepts it; no slot that it fills begins 0.
+-- written and read again, and RECORD accepts it; no slot that it fills begins 0;
+-- its slots are filled from the lowest on, or are not above the lowest that begins 0.
 pub record Supplies (c : Card) (ds : List Store) (f : Fat) (o : Change) : Type 0 where
   pub outside : All (λ s. Clear c (s .sector)) ds
   pub marks : SameMarks (layout-of c) f (first-fat c)
   pub fits : ChangeFits o
-  pub recorded : Recorded (layout-of c .entries) (last-slot c) o
+  pub recorded : Recorded (layout-of c .entries) (past-slot c o) o
   pub lives : Lives (slot-at (layout-of c) c) o
+  pub lined : (0 < fills (o .operation)) ⊎ LowSlots c o
 
 -- What a finished operation leaves: a clean card, both FATs as the operation wants them, the root directory with its effect.
 pub record Leaves (size : ℕ) (c : Card) (f : Fat) (o : Change) (t : Card) : Type 0 where
@@ -160,32 +163,30 @@ module _ {size : ℕ} {c : Card} (st : Start size c) where
       fits = given .fits;
       recorded = given .recorded;
       lives = given .lives;
+      lined = given .lined;
     }
 
-    laws : Laws size (Wanted c ds) (Before c ds) (Mixed st entered) c
-        prep (group-store the-group) (finish l o with-group) (commit with-group the-group) with-group (complete st entered)
+    laws : Laws size (Wanted c ds) (Before c ds) (Held st entered) c prep (group-store the-group) (redo l the-group with-group) with-group (ended st entered)
     laws = record {
       starts = before-start st ds;
       prepares = prepare-keeps;
       back = goes-back st ds;
       u-is = refl;
-      enters = start-mixed st entered;
-      finishes = finish-keeps st entered with-group (start-mixed st entered);
-      v-is = refl;
+      leads = redo-leads st entered with-group (start-held st entered);
       forth = goes-forth st entered;
       rests = ended-rests st entered;
     }
 
     -- The generic lemma: an operation that supplies these facts keeps the laws.
     pub operate-kept : Kept size (Wanted c ds) c (operate v c ds f o)
-    unfolding operate journal redo new-group group-sector
+    unfolding operate journal new-group group-sector
     operate-kept = Kept.group laws
 
     pub leaves : Leaves size c f o (after (stores (operate v c ds f o)) c)
-    unfolding operate journal redo new-group group-sector
+    unfolding operate journal new-group group-sector
     leaves = subst (Leaves size c f o)
-        (sym (end-card size (Wanted c ds) (Before c ds) (Mixed st entered) c prep (group-store the-group) (finish l o with-group)
-        (commit with-group the-group) with-group (complete st entered) laws))
+        (sym (end-card size (Wanted c ds) (Before c ds) (Held st entered) c prep (group-store the-group) (redo l the-group with-group) with-group
+        (ended st entered) laws))
         (record {
           cleans = ended-clean st entered;
           fat1 = λ s less. ended-fat1 st entered s less ∙ fat2-is s less;
@@ -195,10 +196,11 @@ module _ {size : ℕ} {c : Card} (st : Start size c) where
 
     -- Every store is within the card.
     pub operate-inside : All (OnCard c) (stores (operate v c ds f o))
-    unfolding operate journal redo new-group group-sector group-store commit
+    unfolding operate journal new-group group-sector group-store commit
     operate-inside =
         let own : All (OnCard c) ds = all-map (λ s. Clear c (s .sector)) (OnCard c) (λ s k. k .inside) ds (given .outside) in
         let before : All (OnCard c) prep = prepare-all v c ds f (OnCard c) own (λ s less. omega (arith, sh)) (λ i less. omega (arith, log-high st)) in
         let then : All (OnCard c) (finish l o with-group) = finish-all l o with-group (OnCard c) (λ s less. omega (arith, sh)) (λ r less. omega (arith, sh)) in
         let at : log .sector + spot < l .total = omega (arith, spot-in, log-high st) in
-        all-append (OnCard c) prep _ before (at, all-append (OnCard c) (finish l o with-group) _ then (at, tt))
+        all-append (OnCard c) prep _ before
+        (at, subst (All (OnCard c)) (sym (redo-stores l the-group with-group)) (all-append (OnCard c) (finish l o with-group) _ then (at, tt)))

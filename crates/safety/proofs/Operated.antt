@@ -1,41 +1,46 @@
 -- A call that is not refused stores nothing, or is an operation: which one, once for all that is shown of every call.
-use Prim.Native.Nat.{ℕ, _+_}
+use Prim.Native.Nat.{ℕ, _+_, _<_}
+use native.Mathlib.Omega.{arith}
 use mathlib.Core.Path.{_≡_, refl, sym, ap, _∙_}
 use mathlib.Core.Logic.{inl, inr}
-use mathlib.Core.List.{List, [], _∷_, map, append-nil}
-use Rattle.model.specs.Bytes.{Span}
+use mathlib.Core.List.{List, [], _∷_, _++_}
+use lib.Dec.{ltb}
+use borrow.Author.Tests.{ltb-true}
+use Rattle.model.specs.Bytes.{Span, zeros}
 use Rattle.model.specs.Sector.{Card, Store}
 use Rattle.model.specs.Fat.{Fat}
-use Rattle.model.specs.Root.{slot-at, entry-at}
+use Rattle.model.specs.Root.{slot-at, entry-at, free-slot}
 use Rattle.model.specs.Long.{name-slots, long-count}
 use Rattle.model.specs.Ground.{granted}
 use Rattle.model.specs.Volume.{clean}
-use Rattle.model.specs.declared.Change.{Change}
+use Rattle.model.specs.Record.{Change}
+use Rattle.model.specs.Pending.{named-slots}
 use Rattle.model.specs.declared.Pending.{Pending}
 use Rattle.model.specs.declared.Volume.{Volume}
 use Rattle.model.specs.declared.Pending.the-variants as Pending
 use Rattle.operations.specs.Program.{Program, ending}
-use Rattle.operations.specs.Finish.{edit-from, set-name, marks, operation-edits, edits}
-use Rattle.operations.specs.Plan.{operate}
-use Rattle.operations.specs.Calls.{Call, creates, appends, truncates, deletes, renames, replaces, recovers, plan, slot-of, name-of, old-slots, changed-by}
+use Rattle.operations.specs.Plan.{operate, text-of, no-text}
+use Rattle.operations.specs.Calls.{Call, creates, creates-long, appends, truncates, deletes, renames, replaces, recovers, plan, slot-of, run-end, old-slots}
+use Rattle.operations.specs.Calls.{new-slots, changed-by}
 use Rattle.safety.specs.Saved.{OfBytes}
+use Rattle.model.proofs.Tests.{by-pick}
 use Rattle.model.proofs.All.{All}
 use Rattle.model.proofs.Volumes.{window, layout-of, first-fat, volume-of}
-use Rattle.operations.proofs.Edits.{marks-slots}
 use Rattle.safety.proofs.Start.{Start}
 use Rattle.safety.proofs.Before.{start-rests}
 use Rattle.safety.proofs.Operate.{Supplies}
+use Rattle.model.proofs.Numbers.{Small}
 use Rattle.safety.proofs.Bytewise.{SmallStore, SmallCard, data-small, release-small, shorten-small, extend-small, exchange-small}
 use Rattle.safety.proofs.Supplied.{create-supplies, rename-supplies, delete-supplies, truncate-supplies, append-supplies, replace-supplies}
-use Rattle.safety.proofs.Granted.{Created, create-granted, Renamed, rename-granted, Deleted, delete-granted, NamedFile, Truncated, truncate-granted}
-use Rattle.safety.proofs.Granted.{Appended, append-granted, Replaced, replace-granted, Unless}
+use Rattle.safety.proofs.Granted.{Created, create-granted, long-granted, Renamed, rename-granted, Deleted, delete-granted, NamedFile, Truncated}
+use Rattle.safety.proofs.Granted.{truncate-granted, Appended, append-granted, Replaced, replace-granted, Unless}
 
 -- On the clean card c call k, whose program is p, stores nothing; or it makes change o with data stores ds and the new FAT f: what it must bring
--- is there, it writes bytes where it is given bytes, and it edits the slots that the call names.
+-- is there, it writes bytes where it is given bytes, and it names the slots that the call changes.
 pub data Operated (c : Card) (k : Call) (p : Program) : Type 0 where
   idles : ending [] ≡ p → Operated c k p
-  operates : (ds : List Store) (f : Fat) (o : Change) → Supplies c ds f o → (OfBytes k → All SmallStore ds) → SmallCard f
-      → map (λ e. e .slot) (edits o) ≡ changed-by (volume-of c Pending.Nothing) c k → operate (volume-of c Pending.Nothing) c ds f o ≡ p → Operated c k p
+  operates : (ds : List Store) (f : Fat) (o : Change) → Supplies c ds f o → (OfBytes k → All SmallStore ds × Small (o .text)) → SmallCard f
+      → named-slots (o .operation) ≡ changed-by (volume-of c Pending.Nothing) c k → operate (volume-of c Pending.Nothing) c ds f o ≡ p → Operated c k p
 
 module _ {size : ℕ} {c : Card} (st : Start size c) (is : clean (window size c) ≡ granted (volume-of c Pending.Nothing)) where
   abbrev v : Volume
@@ -50,40 +55,49 @@ module _ {size : ℕ} {c : Card} (st : Start size c) (is : clean (window size c)
   old-small : SmallCard fat
   old-small s = st .small (layout-of c .fat1 + s)
 
-  -- The slots of the name, which are marked.
-  abbrev slots : Span → List ℕ
-  slots n = name-slots (at n) (long-count (slot-at (layout-of c) c) (at n))
-
   unless : (k : Call) (n : ℕ) (q p : Program) → Unless st is n q p → (q ≡ p → Operated c k p) → Operated c k p
   unless k n q p (inl a) h = Operated.idles (sym (a .1))
   unless k n q p (inr a) h = h (a .1)
 
+  -- The characters of a create.
+  text-small : (t : Span) → ((i : ℕ) → i < t .size → t .byte i < 256) → Small (text-of t)
+  text-small t h i = by-pick (λ x. x < 256) (ltb i (t .size)) (t .byte i) 0 (λ e. h i (ltb-true i (t .size) e)) (λ _. omega arith)
+
+  no-small : Small zeros
+  no-small i = omega arith
+
+  made : (k : Call) (n t : Span) (p : Program) → Created st is n t p → new-slots (layout-of c) c t ≡ changed-by v c k → (OfBytes k → Small (text-of t))
+      → Operated c k p
+  unfolding named-slots new-slots
+  made k n t p g slots small =
+      Operated.operates [] fat _ (create-supplies st n t (g .ok) (g .fine) (g .room)) (λ b. (tt, small b)) old-small slots (g .same)
+
   pub operated : (k : Call) (p : Program) → plan k (window size c) ≡ granted p → Operated c k p
-  unfolding changed-by old-slots edits operation-edits entry-at
-  operated (creates n) p h =
-      let g : Created st is n p = create-granted st is n p h in
-      Operated.operates [] fat _ (create-supplies st n (g .ok) (g .room)) (λ b. tt) old-small refl (g .same)
+  unfolding changed-by old-slots new-slots named-slots name-slots entry-at
+  operated (creates n) p h = made (creates n) n no-text p (create-granted st is n p h) refl (λ b. text-small no-text (λ i less. absurd (omega arith)))
+  operated (creates-long n t) p h = made (creates-long n t) n t p (long-granted st is n t p h) refl (λ b. text-small t b)
   operated (renames n m) p h =
       let g : Renamed st is n m p = rename-granted st is n m p h in
-      Operated.operates [] fat _ (rename-supplies st (at n) (g .live) m (g .new-ok) (g .room)) (λ b. tt) old-small
-      (marks-slots (edit-from (at n) _ (λ b. set-name (name-of m) b) ∷ []) (slots n)) (g .same)
+      let at-end : free-slot (layout-of c) c ≡ run-end (layout-of c) c no-text = omega arith in
+      Operated.operates [] fat _ (rename-supplies st (at n) (g .live) m (g .new-ok) (g .room)) (λ b. (tt, no-small)) old-small
+      (ap (λ s. name-slots (at n) (long-count (slot-at (layout-of c) c) (at n)) ++ (s ∷ [])) at-end) (g .same)
   operated (deletes n) p h =
       let g : Deleted st is n p = delete-granted st is n p h in
-      Operated.operates [] _ _ (delete-supplies st (at n) (g .it .live) (g .it .keeps)) (λ b. tt) (release-small _ fat old-small)
-      (ap (map (λ e. e .slot)) (sym (append-nil (marks (slots n)))) ∙ marks-slots [] (slots n) ∙ append-nil (slots n)) (g .same)
+      Operated.operates [] _ _ (delete-supplies st (at n) (g .it .live) (g .it .keeps)) (λ b. (tt, no-small)) (release-small _ fat old-small)
+      refl (g .same)
   operated (truncates n m) p h =
       let g : Truncated st is n m p = truncate-granted st is n m p h in
       let f : NamedFile st is n = g .it in
-      unless (truncates n m) _ _ p (g .same) (Operated.operates [] _ _ (truncate-supplies st (at n) (f .live) (f .keeps) m (g .less)) (λ b. tt)
+      unless (truncates n m) _ _ p (g .same) (Operated.operates [] _ _ (truncate-supplies st (at n) (f .live) (f .keeps) m (g .less)) (λ b. (tt, no-small))
       (shorten-small _ _ fat old-small) refl)
   operated (appends n d) p h =
       let g : Appended st is n d p = append-granted st is n d p h in
       let f : NamedFile st is n = g .it in
       unless (appends n d) _ _ p (g .same) (Operated.operates _ _ _ (append-supplies st (at n) (f .live) (f .keeps) (g .extent))
-      (data-small (layout-of c) c _ _ d (st .small)) (extend-small _ _ fat old-small) refl)
+      (λ b. (data-small (layout-of c) c _ _ d (st .small) b, no-small)) (extend-small _ _ fat old-small) refl)
   operated (replaces n d) p h =
       let g : Replaced st is n d p = replace-granted st is n d p h in
       let f : NamedFile st is n = g .it in
-      Operated.operates _ _ _ (replace-supplies st (at n) (f .live) (f .keeps) (g .extent)) (data-small (layout-of c) c _ _ d (st .small))
-      (exchange-small _ _ fat old-small) refl (g .same)
+      Operated.operates _ _ _ (replace-supplies st (at n) (f .live) (f .keeps) (g .extent))
+      (λ b. (data-small (layout-of c) c _ _ d (st .small) b, no-small)) (exchange-small _ _ fat old-small) refl (g .same)
   operated recovers p h = let e : granted (ending []) ≡ granted p = sym (start-rests st) ∙ h in Operated.idles (cc)

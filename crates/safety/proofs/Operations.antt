@@ -1,5 +1,5 @@
 -- The facts of a live slot, and of the chain of the file in it, that operations supply.
-use Prim.Native.Nat.{ℕ, _+_, _*_, _/_, _%_, _^_, _<_}
+use Prim.Native.Nat.{ℕ, _+_, _*_, _/_, _%_, _^_, _≤_, _<_}
 use native.Mathlib.Omega.{arith}
 use mathlib.Core.Path.{_≡_, ap, _∙_}
 use mathlib.Core.List.{List}
@@ -73,6 +73,9 @@ module _ {size : ℕ} {c : Card} (st : Start size c) where
 
     pub slot-seat : Seat (l .entries) (last-slot c) s
     slot-seat = (live .in-root, live-low l c (st .clean .root) s live)
+
+    pub slot-seated : (z : ℕ) → last-slot c ≤ z → Seat (l .entries) z s
+    slot-seated z up = (live .in-root, omega (arith, live-low l c (st .clean .root) s live))
 
     pub slot-named : starts (byte-of (e .name .stem) 0) ≡ true
     unfolding entry-at

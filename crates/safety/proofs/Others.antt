@@ -10,7 +10,7 @@ use Rattle.model.specs.Fat.{Fat, entry}
 use Rattle.model.specs.Chain.{file-sector}
 use Rattle.model.specs.Root.{Directory, slot-at, free-slot, is-file, is-directory, is-label, listed, vacant}
 use Rattle.model.specs.declared.Layout.{Layout}
-use Rattle.model.specs.declared.Change.{Change}
+use Rattle.model.specs.Record.{Change}
 use Rattle.operations.specs.Finish.{effect}
 use Rattle.safety.specs.Sound.{Sound, chain-of, proper}
 use Rattle.safety.specs.Saved.{SameFile}
@@ -27,7 +27,7 @@ use Rattle.safety.proofs.Before.{Spared}
 use Rattle.safety.proofs.Files.{SparesFiles, file-used}
 use Rattle.safety.proofs.Theorem.{along}
 use Rattle.safety.proofs.Ended.{Ended, same-is-file}
-use Rattle.safety.proofs.Slots.{Dropped, dropped-back}
+use Rattle.safety.proofs.Slots.{Unlisted, unlisted-back}
 use Rattle.safety.proofs.Chained.{HasChain, slot-is, head-is, kept-then}
 
 -- A spared byte is as it was.
@@ -107,8 +107,8 @@ module _ {size : ℕ} {c : Card} (st : Start size c) (sound : Sound (layout-of c
       file-by s less b e h = sym (same-is-file (slot-at l t s) b (head-is st end s less b e)) ∙ h
 
       -- A slot that is as it was or no file's is a file by what it was.
-      pub file-back : (s : ℕ) → s < l .entries → Dropped (d s) (effect o d s) → is-file (slot-at l t s) ≡ true → is-file (d s) ≡ true
-      file-back s less k h = file-by s less (d s) (dropped-back (d s) (effect o d s) k (file-by s less (effect o d s) refl h)) h
+      pub file-back : (s : ℕ) → s < l .entries → Unlisted (d s) (effect o d s) → is-file (slot-at l t s) ≡ true → is-file (d s) ≡ true
+      file-back s less k h = file-by s less (d s) (unlisted-back (d s) (effect o d s) k (file-by s less (effect o d s) refl h)) h
 
       pub other-owned : (s : ℕ) → s < l .entries → is-file (d s) ≡ true → (s ≡ x → ⊥) → becomes s ≡ s → Owned s
       other-owned s less file ne stays = owned-by s (chain-of l c s) (other-chain s less file ne) (owned-old becomes y s s less file stays)

@@ -1,43 +1,60 @@
 -- What a recovery finds once a group's store is on the card, and the card that the operation ends with.
-use Prim.Native.Nat.{ℕ, _+_, _/_, _≤_, _<_}
+use Prim.Native.Nat.{ℕ, zero, suc, _+_, _*_, _/_, _%_, _≤_, _<_}
 use native.Mathlib.Omega.{arith}
 use mathlib.Core.Path.{_≡_, refl, sym, ap, _∙_, subst}
-use mathlib.Core.Logic.{inl, inr, ⊎-elim}
-use mathlib.Core.List.{[]}
-use mathlib.Core.Bool.{true}
-use lib.ListN.{length}
+use mathlib.Core.Logic.{_⊎_, inl, inr, ⊎-elim}
+use mathlib.Core.List.{List, [], _∷_, _++_, map, Sublistᴰ, Sublistᴰ·eq-nil, Sublistᴰ·refl}
+use mathlib.Core.Bool.{true, false}
+use lib.ListN.{length-append}
+use lib.Dec.{ltb}
+use borrow.Author.Tests.{lt-ltb}
 use Rattle.model.specs.Bytes.{Bytes}
-use Rattle.model.specs.Sector.{Card, store, put, clip}
-use Rattle.model.specs.Fat.{is-reserved, fat1-of, fat2-of}
-use Rattle.model.specs.Root.{first-bytes, slot-at, end-slot, root-place, root-ok}
+use Rattle.model.specs.Scan.{among, indices-from, walk}
+use Rattle.model.specs.Sector.{Card, Store, put, after, clip}
+use Rattle.model.specs.Fat.{is-reserved, fat1-of, fat2-of, write-fat}
+use Rattle.model.specs.Root.{first-bytes, slot-at, root-place, root-ok}
 use Rattle.model.specs.Log.{log-of}
-use Rattle.model.specs.Record.{commit, committed, records, encode, group-in}
-use Rattle.model.specs.Pending.{pending}
+use Rattle.model.specs.Record.{Change, Group, commit, committed, encode, group-records, group-in}
+use Rattle.model.specs.Pending.{fills, named-slots, end-past, seen-end, pending}
 use Rattle.model.specs.Ground.{granted}
 use Rattle.model.specs.Volume.{clean}
 use Rattle.model.specs.Promises.{Shape}
 use Rattle.model.specs.declared.Area.{Area}
-use Rattle.model.specs.declared.Group.{Group}
 use Rattle.model.specs.declared.Layout.{Layout}
-use Rattle.model.specs.declared.Change.{Change}
 use Rattle.model.specs.declared.Pending.{Pending}
-use Rattle.operations.specs.Program.{segment, ending}
-use Rattle.operations.specs.Finish.{finish, redo, root-sector}
+use Rattle.operations.specs.Program.{segment, ending, stores}
+use Rattle.operations.specs.Finish.{concerns, effect, finish, rising, redo, root-sector, root-stores}
 use Rattle.operations.specs.Plan.{recover-stores}
-use Rattle.safety.specs.Cuts.{recovery}
-use Rattle.model.proofs.Cards.{put-out, put-case, clip-clip}
-use Rattle.model.proofs.Fats.{entry-same, write-none, agree-of}
-use Rattle.model.proofs.Order.{Ordered, ordered-end, ordered-ok, ordered-same}
-use Rattle.model.proofs.Pendings.{Stored, Quiet, Recorded, recorded-up, pending-is, group-read, committed-quiet, rest-quiet, quiet-calm}
+use Rattle.safety.specs.Cuts.{Cut, recovery}
+use Rattle.model.proofs.Tests.{told, same?, clash, by-pick}
+use Rattle.model.proofs.All.{All, all-left}
+use Rattle.model.proofs.Cards.{Away, put-out, put-in, put-case, clip-clip, after-append, after-away, after-snoc}
+use Rattle.model.proofs.Changes.{Keeps, after-keeps, all-sub}
+use Rattle.model.proofs.Fats.{entry-same, write-none, write-all, agree-of}
+use Rattle.model.proofs.Order.{row-ok, any-ok, order-same, seen-same}
+use Rattle.model.proofs.Pendings.{Stored, Quiet, Recorded, pending-is, group-read, committed-quiet, rest-zero, quiet-calm}
+use Rattle.model.proofs.Records.{operation-read}
 use Rattle.model.proofs.Volumes.{layout-of, area-of, Alike, first-fat, window, volume-of, clean-same}
-use Rattle.safety.proofs.Journal.{Forth, idle}
-use Rattle.safety.proofs.Start.{Start, shape-of, Fixed, root-order, log-low, recovery-is, marks-same, slots-same, fatsize-few, entries-few}
-use Rattle.safety.proofs.Steps.{finish-length}
-use Rattle.operations.proofs.Edits.{Near}
-use Rattle.safety.proofs.Effect.{begins, Begins}
-use Rattle.safety.proofs.After.{Entered, last-slot, Mixed, still-kept, still-boot, fat1-near, slot-near, new-root, still-data, grp, complete}
-use Rattle.safety.proofs.After.{finish-keeps, finish-whole, done-mixed, start-mixed, done-fat1, still-fat2, done-root}
+use Rattle.safety.proofs.Journal.{Leads, Forth, idle}
+use Rattle.safety.proofs.Start.{Start, shape-of, Fixed, log-low, recovery-is, marks-same, slots-same, fatsize-few, entries-few}
+use Rattle.safety.proofs.Steps.{root-store, finish-length}
+use Rattle.operations.proofs.Seats.{unnamed}
+use Rattle.operations.proofs.Roots.{redo-stores}
+use Rattle.safety.proofs.Effect.{begins}
+use Rattle.safety.proofs.After.{Entered, past-slot, LowSlots, Mixed, still-kept, still-boot, fat1-near, slot-near, new-root}
+use Rattle.safety.proofs.After.{still-data, grp, complete}
+use Rattle.safety.proofs.After.{unconcerned-same, mixed-keeps, root-hits, finish-keeps, finish-whole, done-mixed, start-mixed, done-fat1, still-fat2}
+use Rattle.safety.proofs.After.{effect-same, done-root}
 use Rattle.model.specs.declared.Pending.the-variants as Pending
+
+-- A cut of stores that wait for each other: some of those before them, or all of these and a cut of the rest.
+rising-cut : (ys rs : List Store) (m : Store) (zs : List Store) → Cut (rising ys rs m) zs
+    → Sublistᴰ zs ys ⊎ ((ws : List Store) × (zs ≡ ys ++ ws) × Cut (rising [] rs m) ws)
+unfolding rising
+rising-cut ys [] m zs (inl k) = inl k
+rising-cut ys [] m zs (inr (ws, e, k)) = inr (m ∷ ws, e, inr (ws, refl, k))
+rising-cut ys (r ∷ rs) m zs (inl k) = inl k
+rising-cut ys (r ∷ rs) m zs (inr (ws, e, k)) = inr (r ∷ ws, e, inr (ws, refl, k))
 
 module _ {size : ℕ} {c : Card} (st : Start size c) {u : Card} {i : ℕ} {o : Change} (h : Entered c u i o) where
   abbrev l : Layout
@@ -47,10 +64,76 @@ module _ {size : ℕ} {c : Card} (st : Start size c) {u : Card} {i : ℕ} {o : C
   log = area-of c
 
   abbrev z : ℕ
-  z = last-slot c
+  z = past-slot c o
 
   sh : Shape l
   sh = shape-of st
+
+  -- ---- first bytes in a mixture
+
+  abbrev old-first : Bytes
+  old-first = first-bytes l c
+
+  abbrev new-first : Bytes
+  new-first k = new-root st h k 0
+
+  first-kept : (k : ℕ) → k < l .entries → among (named-slots (o .operation)) k ≡ false → new-first k ≡ old-first k
+  first-kept k less off = λ t. unnamed o (slot-at l c) k off t 0
+
+  first-begins : (k : ℕ) → among (named-slots (o .operation)) k ≡ true → (k ≤ z) × (new-first k ≡ 0 → ⊥)
+  first-begins k on = begins (l .entries) z o (slot-at l c) (h .recorded) (h .lives) k on
+
+  first-near : (y : Card) → Mixed st h y → (k : ℕ) → k < l .entries → (first-bytes l y k ≡ old-first k) ⊎ (first-bytes l y k ≡ new-first k)
+  first-near y m k less = slot-near st h y m 0 (omega arith) k less
+
+  -- A mixture whose slots are in order.
+  abbrev Rooted : Card → Type 0
+  Rooted y = root-ok (l .entries) (first-bytes l y) ≡ true
+
+  abbrev pub Held : Card → Type 0
+  Held y = Mixed st h y × Rooted y
+
+  -- Where no slot is above the lowest that begins 0, every mixture is.
+  low-rooted : LowSlots c o → (y : Card) → Mixed st h y → Rooted y
+  low-rooted low y m = any-ok (l .entries) (o .operation) old-first new-first (st .clean .root) first-kept (λ k less on. first-begins k on .1) low
+      (first-bytes l y) (first-near y m)
+
+  -- The root sectors below r are as they are to become.
+  abbrev NewBelow : ℕ → Card → Type 0
+  NewBelow r y = (q : ℕ) → q < r → q < l .entries / 16 → y (root-place l q) ≡ clip (root-sector (new-root st h) q)
+
+  new-slot : (y : Card) (r : ℕ) → NewBelow r y → (k : ℕ) → k < 16 * r → k < l .entries → first-bytes l y k ≡ new-first k
+  unfolding slot-at root-sector
+  new-slot y r below k low less =
+      let at : (32 * (k % 16) + 0) % 512 ≡ 32 * (k % 16) = omega arith in
+      let row : 16 * (k / 16) + 32 * (k % 16) / 32 ≡ k = omega arith in
+      let col : 32 * (k % 16) % 32 ≡ 0 = omega arith in
+      (λ t. below (k / 16) (omega arith) (omega (arith, sh)) t (32 * (k % 16) + 0)) ∙ (λ t. root-sector (new-root st h) (k / 16) (at t))
+      ∙ (λ t. new-root st h (row t) (col t))
+
+  -- A mixture in order whose root sectors are stored up to r is in order.
+  row-rooted : (y x : Card) (r : ℕ) → Held y → NewBelow r x → ((q : ℕ) → r ≤ q → q < l .entries / 16 → x (root-place l q) ≡ y (root-place l q)) → Rooted x
+  unfolding slot-at
+  row-rooted y x r held below above =
+      row-ok (l .entries) (o .operation) old-first new-first (st .clean .root) first-kept (λ k less on. first-begins k on .1)
+      (λ k less on. first-begins k on .0) (first-bytes l y) (first-bytes l x) (16 * r) (first-near y (held .0)) (held .1)
+      (λ k low less. new-slot x r below k low less)
+      (λ k high less. ap (λ (b : Bytes). b (32 * (k % 16) + 0)) (above (k / 16) (omega arith) (omega (arith, sh))))
+
+  pub start-held : Held u
+  start-held = (
+    start-mixed st h,
+    order-same (l .entries) old-first (first-bytes l u) (λ k less. ap (λ (b : Bytes). b 0)
+        (slots-same l sh u c (λ r less. h .fixed (root-place l r) (Fixed.root r less refl)) k less)) (st .clean .root),
+  )
+
+  abbrev all-mixed : Mixed st h (complete st h)
+  all-mixed = done-mixed st h u (start-mixed st h)
+
+  -- The card when all but the mark is stored.
+  complete-rooted : Rooted (complete st h)
+  complete-rooted = row-rooted u (complete st h) (l .entries / 16) start-held (λ q low less. done-root st h u (start-mixed st h) q less)
+      (λ q high less. absurd (omega arith))
 
   -- ---- what recovery finds in a mixture
 
@@ -64,28 +147,6 @@ module _ {size : ℕ} {c : Card} (st : Start size c) {u : Card} {i : ℕ} {o : C
           (fat1-near st h y m (k / 256) (omega (arith, sh)));
     }
 
-    -- The effect keeps the order of first bytes, and so does any mixture.
-    mixed-order : Ordered (l .entries) z (first-bytes l y)
-    mixed-order = record {
-      within = root-order st .within;
-      below = λ k less. under k less (slot-near st h y m 0 (omega arith) k (omega (arith, root-order st .within)))
-          (begins (l .entries) z o (slot-at l c) (h .fits) (h .recorded) (h .lives) k);
-      above = λ k more less. over k more less (slot-near st h y m 0 (omega arith) k less)
-          (begins (l .entries) z o (slot-at l c) (h .fits) (h .recorded) (h .lives) k);
-    }
-      where
-        under : (k : ℕ) → k < z → Near (slot-at l c) (new-root st h) (slot-at l y) k 0 → Begins z k (first-bytes l c k) (new-root st h k 0)
-            → first-bytes l y k ≡ 0 → ⊥
-        under k less (inl a) b e = root-order st .below k less (sym a ∙ e)
-        under k less (inr a) (inl b) e = root-order st .below k less (sym b ∙ sym a ∙ e)
-        under k less (inr a) (inr b) e = b .1 (sym a ∙ e)
-
-        over : (k : ℕ) → z < k → k < l .entries → Near (slot-at l c) (new-root st h) (slot-at l y) k 0
-            → Begins z k (first-bytes l c k) (new-root st h k 0) → first-bytes l y k ≡ 0
-        over k more less (inl a) b = a ∙ root-order st .above k more less
-        over k more less (inr a) (inl b) = a ∙ b ∙ root-order st .above k more less
-        over k more less (inr a) (inr b) = let low : k ≤ z = b .0 in absurd (omega arith)
-
     log-kept : (j : ℕ) → y (log .sector + j) ≡ u (log .sector + j)
     log-kept j = still-kept st h y m (log .sector + j) (still-data st h (log .sector + j) (omega (arith, log-low st)))
 
@@ -96,34 +157,151 @@ module _ {size : ℕ} {c : Card} (st : Start size c) {u : Card} {i : ℕ} {o : C
       others = λ j less ne. subst Quiet (sym (log-kept j)) (h .stored .others j less ne);
     }
 
-    -- Slots that RECORD accepted of c it accepts of the mixture.
-    later-slot : Recorded (l .entries) (end-slot (l .entries) (first-bytes l y)) o
-    later-slot = recorded-up (l .entries) z (end-slot (l .entries) (first-bytes l y)) o (ordered-end (l .entries) (first-bytes l y) z mixed-order) (h .recorded)
+    -- RECORD reads the slots that the group names as it reads them of c.
+    seen-is : seen-end l y (clip (encode o)) ≡ z
+    seen-is =
+        ap (λ x. end-past x (l .entries) (first-bytes l y)) (operation-read o (h .fits))
+        ∙ seen-same (o .operation) (l .entries) (first-bytes l y) old-first
+        (λ k less off. ⊎-elim (λ e. e) (λ e. e ∙ first-kept k less off) (first-near y m k less))
 
-    says : recovery size y ≡ granted (segment (finish l o y) (commit u (grp st h)) (ending []))
-    unfolding recover-stores redo pending commit
-    says =
-        recovery-is st y mixed-alike (Pending.Held (log .sector + i)) (ordered-ok (l .entries) (first-bytes l y) z mixed-order)
-        (pending-is (l .entries) _ log (log-of log y) i o mixed-stored (h .fits) later-slot) refl
+    says : Rooted y → recovery size y ≡ granted (redo l (grp st h) y)
+    unfolding recover-stores pending
+    says ok =
+        recovery-is st y mixed-alike (Pending.Held (log .sector + i)) ok
+        (pending-is (l .entries) (seen-end l y) log (log-of log y) i o mixed-stored (h .fits)
+        (subst (λ (z : ℕ). Recorded (l .entries) z o) (sym seen-is) (h .recorded))) refl
         ∙ ap (λ (g : Group). granted (redo l g y)) (ap (group-in (log .sector + i)) (log-kept i ∙ h .stored .bytes) ∙ group-read (log .sector + i) o (h .fits))
-        ∙ ap (λ (b : Bytes). granted (segment (finish l o y) (store (log .sector + i) (committed (length (records o)) b)) (ending []))) (log-kept i)
 
-  pub goes-forth : (y : Card) → Mixed st h y → Forth size (Mixed st h) (complete st h) (commit u (grp st h)) y
-  goes-forth y m = record {
-    ys = finish l o y;
-    says = says y m;
-    keeps = finish-keeps st h y m;
-    short = omega (arith, finish-length l o y, fatsize-few st, entries-few st);
-    whole = finish-whole st h y m;
-  }
+    same-mark : commit y (grp st h) ≡ commit u (grp st h)
+    unfolding commit
+    same-mark = ap (λ (b : Bytes). record { sector = log .sector + i; bytes = clip (committed (group-records o) b) }) (log-kept i)
 
-  -- ---- the card at the end
+  -- ---- steps 4 to 6, cut anywhere
 
   abbrev pub ended : Card
   ended = put (complete st h) (commit u (grp st h))
 
-  abbrev all-mixed : Mixed st h (complete st h)
-  all-mixed = done-mixed st h u (start-mixed st h)
+  module _ (y : Card) (held : Held y) where
+    abbrev m : Mixed st h y
+    m = held .0
+
+    abbrev fats : List Store
+    fats = write-fat l (l .fat1) (fat2-of l y) (fat1-of l y)
+
+    abbrev roots : List Store
+    roots = root-stores l o y
+
+    abbrev mark : Store
+    mark = commit y (grp st h)
+
+    marked : (x : Card) → x ≡ complete st h → put x mark ≡ ended
+    marked x e = λ t. put (e t) (same-mark y m t)
+
+    -- The stores of FAT1 leave the root directory alone.
+    fats-keep : All (Keeps (Mixed st h)) fats
+    unfolding finish
+    fats-keep = all-left (Keeps (Mixed st h)) fats roots (finish-keeps st h y m)
+
+    fats-away : (q : ℕ) → q < l .entries / 16 → Away fats (root-place l q)
+    fats-away q less = write-all l (l .fat1) (fat2-of l y) (fat1-of l y) (λ s. root-place l q ≡ s .sector → ⊥) (λ s small e. omega (arith, sh))
+
+    fats-held : (zs : List Store) → Sublistᴰ zs fats → Held (after zs y)
+    fats-held zs k = (
+      after-keeps (Mixed st h) zs (all-sub (Keeps (Mixed st h)) k fats-keep) y m,
+      order-same (l .entries) (first-bytes l y) (first-bytes l (after zs y)) (λ k less. ap (λ (b : Bytes). b 0)
+          (slots-same l sh (after zs y) y (λ q small. after-away zs y (root-place l q)
+          (all-sub (λ s. root-place l q ≡ s .sector → ⊥) k0 (fats-away q small))) k less))
+          (held .1),
+    )
+      where
+        k0 : Sublistᴰ zs fats
+        k0 = k
+
+    -- Root sectors from r on, stored one after the other.
+    stored-held : (r : ℕ) (x : Card) → r < l .entries / 16 → NewBelow r x → Held x
+        → NewBelow (r + 1) (put x (root-store l o y r)) × Held (put x (root-store l o y r))
+    stored-held r x less below w =
+        (now, (mixed-keeps st h (root-store l o y r) (root-hits st h y m r less) x (w .0), row-rooted x next (r + 1) w now other))
+      where
+        next : Card
+        next = put x (root-store l o y r)
+
+        own : next (root-place l r) ≡ clip (root-sector (new-root st h) r)
+        own = put-in x (root-store l o y r) (root-place l r) refl ∙ clip-clip (root-sector (effect o (slot-at l y)) r) ∙ effect-same st h y m r less
+
+        other : (q : ℕ) → r + 1 ≤ q → q < l .entries / 16 → next (root-place l q) ≡ x (root-place l q)
+        other q more small = put-out x (root-store l o y r) (root-place l q) (λ e. omega (arith, sh))
+
+        now : NewBelow (r + 1) next
+        now q low small = ⊎-elim
+            (λ e. ap (λ (q : ℕ). next (root-place l q)) e ∙ own ∙ ap (λ (q : ℕ). clip (root-sector (new-root st h) q)) (sym e))
+            (λ ne. put-out x (root-store l o y r) (root-place l q) (λ e. ne (omega (arith, sh))) ∙ below q (omega arith) small) (same? q r)
+
+    roots-held : (r n : ℕ) (x : Card) → r + n ≡ l .entries / 16 → NewBelow r x → Held x
+        → after (map (root-store l o y) (indices-from (concerns o) r n)) x ≡ complete st h
+        → (zs : List Store) → Cut (rising [] (map (root-store l o y) (indices-from (concerns o) r n)) mark) zs → Held (after zs x) ⊎ (after zs x ≡ ended)
+    unfolding indices-from walk rising after
+    roots-held r zero x whole below w ends zs (inl k) = inl (subst (λ zs. Held (after zs x)) (sym (Sublistᴰ·eq-nil k)) w)
+    roots-held r zero x whole below w ends zs (inr (ws, e, k)) = inr (ap (λ ss. after ss x) (e ∙ ap (λ vs. mark ∷ vs) (Sublistᴰ·eq-nil k)) ∙ marked x ends)
+    roots-held r (suc n) x whole below w ends zs k = go (told (concerns o r)) (roots-held (r + 1) n)
+      where
+        list : ℕ → ℕ → List Store
+        list r n = map (root-store l o y) (indices-from (concerns o) r n)
+
+        go : (concerns o r ≡ true) ⊎ (concerns o r ≡ false)
+            → ((x : Card) → r + 1 + n ≡ l .entries / 16 → NewBelow (r + 1) x → Held x → after (list (r + 1) n) x ≡ complete st h
+            → (zs : List Store) → Cut (rising [] (list (r + 1) n) mark) zs → Held (after zs x) ⊎ (after zs x ≡ ended))
+            → Held (after zs x) ⊎ (after zs x ≡ ended)
+        go (inr off) rec =
+            rec x (omega arith) (λ q low small. ⊎-elim
+            (λ e. subst (λ (q : ℕ). x (root-place l q) ≡ clip (root-sector (new-root st h) q)) (sym e) (unconcerned-same st h x (w .0) r (omega arith) off))
+            (λ ne. below q (omega arith) small) (same? q r)) w (rw off at ends) zs (rw off at k)
+        go (inl on) rec = here (rw on at k)
+          where
+            here : Cut (rising [] (root-store l o y r ∷ list (r + 1) n) mark) zs → Held (after zs x) ⊎ (after zs x ≡ ended)
+            here (inl k) = inl (subst (λ zs. Held (after zs x)) (sym (Sublistᴰ·eq-nil k)) w)
+            here (inr (ws, e, k)) =
+                let next = stored-held r x (omega arith) below w in
+                subst (λ zs. Held (after zs x) ⊎ (after zs x ≡ ended)) (sym e)
+                (rec (put x (root-store l o y r)) (omega arith) (next .0) (next .1) (rw on at ends) ws k)
+
+    -- In a row,
+    row-keeps : (zs : List Store) → Cut (rising fats roots mark) zs → Held (after zs y) ⊎ (after zs y ≡ ended)
+    unfolding root-stores finish
+    row-keeps zs k = ⊎-elim (λ some. inl (fats-held zs some))
+        (λ w. subst (λ zs. Held (after zs y) ⊎ (after zs y ≡ ended)) (sym (w .1))
+        (subst (λ x. Held x ⊎ (x ≡ ended)) (sym (after-append fats (w .0) y))
+        (roots-held 0 (l .entries / 16) (after fats y) (omega arith) (λ q low. absurd (omega arith)) (fats-held fats (Sublistᴰ·refl fats))
+        (sym (after-append fats roots y) ∙ finish-whole st h y m) (w .0) (w .2))))
+        (rising-cut fats roots mark zs k)
+
+    -- or in any order, where that is allowed.
+    any-keeps : LowSlots c o → (zs : List Store) → Cut (segment (finish l o y) mark (ending [])) zs → Held (after zs y) ⊎ (after zs y ≡ ended)
+    any-keeps low zs (inl k) =
+        let kept : Mixed st h (after zs y) = after-keeps (Mixed st h) zs (all-sub (Keeps (Mixed st h)) k (finish-keeps st h y m)) y m in
+        inl (kept, low-rooted low (after zs y) kept)
+    any-keeps low zs (inr (ws, e, k)) =
+        inr (ap (λ ss. after ss y) (e ∙ ap (λ vs. finish l o y ++ mark ∷ vs) (Sublistᴰ·eq-nil k)) ∙ after-snoc (finish l o y) mark y
+        ∙ marked (after (finish l o y) y) (finish-whole st h y m))
+
+    pub redo-leads : Leads Held ended (redo l (grp st h) y) y
+    unfolding redo
+    redo-leads = record {
+      keeps = λ zs. by-pick (λ q. Cut q zs → Held (after zs y) ⊎ (after zs y ≡ ended)) (ltb 0 (fills (o .operation))) _ _
+          (λ _. row-keeps zs) (λ off. ⊎-elim (λ some. absurd (clash (lt-ltb 0 (fills (o .operation)) some) off)) (λ low. any-keeps low zs) (h .lined));
+      ends = ap (λ ss. after ss y) (redo-stores l (grp st h) y) ∙ after-snoc (finish l o y) mark y ∙ marked (after (finish l o y) y) (finish-whole st h y m);
+    }
+
+  pub goes-forth : (y : Card) → Held y → Forth size Held ended y
+  goes-forth y held = record {
+    rest = redo l (grp st h) y;
+    says = says y (held .0) (held .1);
+    leads = redo-leads y held;
+    short = rw (redo-stores l (grp st h) y, length-append (finish l o y) (commit y (grp st h) ∷ []))
+        (omega (arith, finish-length l o y, fatsize-few st, entries-few st));
+  }
+
+  -- ---- the card at the end
 
   ended-low : (n : ℕ) → n < l .start → ended n ≡ complete st h n
   unfolding commit
@@ -150,17 +328,16 @@ module _ {size : ℕ} {c : Card} (st : Start size c) {u : Card} {i : ℕ} {o : C
       (omega (arith, sh)) in
       let firsts : (k : ℕ) → k < l .entries → first-bytes l ended k ≡ first-bytes l (complete st h) k =
       λ k less. ap (λ (b : Bytes). b 0) (slots-same l sh ended (complete st h) roots k less) in
-      ordered-ok (l .entries) (first-bytes l ended) z
-      (ordered-same (l .entries) z (first-bytes l (complete st h)) (first-bytes l ended) firsts (mixed-order (complete st h) all-mixed))
+      order-same (l .entries) (first-bytes l (complete st h)) (first-bytes l ended) firsts complete-rooted
 
   -- The mark leaves no record pending.
   ended-quiet : (j : ℕ) → j < log .sectors → Quiet (ended (log .sector + j))
   unfolding commit
   ended-quiet j less =
-      let mark : Bytes = committed (length (records o)) (u (log .sector + i)) in
+      let mark : Bytes = committed (group-records o) (u (log .sector + i)) in
       let marked-quiet : Quiet (clip mark) =
-      subst (λ (b : Bytes). Quiet (clip (committed (length (records o)) b))) (sym (h .stored .bytes))
-      (committed-quiet (length (records o)) (clip (encode o)) (rest-quiet o)) in
+      subst (λ (b : Bytes). Quiet (clip (committed (group-records o) b))) (sym (h .stored .bytes))
+      (committed-quiet (group-records o) (clip (encode o)) (rest-zero o (h .fits))) in
       put-case Quiet (complete st h) (commit u (grp st h)) (log .sector + j)
       (λ _. subst Quiet (sym (clip-clip mark)) marked-quiet)
       (λ ne. subst Quiet (sym (log-kept (complete st h) all-mixed j)) (h .stored .others j less (λ e. ne (ap (λ j. log .sector + j) e))))

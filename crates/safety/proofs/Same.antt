@@ -4,7 +4,8 @@ use Prim.Native.Nat.{ℕ, zero, suc, _+_, _-_, _/_, _<_, min}
 use native.Mathlib.Omega.{arith}
 use mathlib.Core.Path.{_≡_, refl, sym, ap, _∙_, subst}
 use mathlib.Core.Logic.{⊎-elim}
-use mathlib.Core.List.{[], List·Memᴰ}
+use mathlib.Core.List.{[], _∷_, _++_, List·Memᴰ}
+use lib.ListN.{length, length-append}
 use mathlib.Core.Bool.{Bool, true, false}
 use lib.Dec.{eqb}
 use Rattle.model.specs.Bytes.{Bytes, Span, pick}
@@ -20,8 +21,10 @@ use Rattle.model.specs.declared.File.{File}
 use Rattle.model.specs.declared.Layout.{Layout}
 use Rattle.model.specs.declared.Pending.{Pending}
 use Rattle.model.specs.declared.Volume.{Volume}
-use Rattle.operations.specs.Program.{ending}
-use Rattle.operations.specs.Finish.{redo}
+use Rattle.operations.specs.Program.{ending, stores}
+use Rattle.model.specs.Record.{Group, group-in, commit}
+use Rattle.operations.specs.Finish.{finish, redo}
+use Rattle.operations.proofs.Roots.{redo-stores}
 use Rattle.operations.specs.Plan.{recover-stores}
 use Rattle.operations.specs.Calls.{plan, recover, slot-of, admit, file-named, file-of, whole, name-of}
 use Rattle.operations.specs.Reading.{read, reading, file-byte, filled-outcome, buffer-after}
@@ -70,10 +73,14 @@ module _ (l : Layout) (e g : ℕ → ℕ) (same : (k : ℕ) → k < 2 + l .clust
 -- ---- recovery that stores nothing finds nothing pending
 
 calm-by : (l : Layout) (y : Card) (p : Pending) → is-broken p ≡ false → granted (recover-stores l y p) ≡ idle → p ≡ Pending.Nothing
-unfolding recover-stores redo
+unfolding recover-stores
 calm-by l y Pending.Nothing b h = refl
 calm-by l y Pending.Broken b h = clash refl b
-calm-by l y (Pending.Held n) b h = let z : _≡_ {A = ℕ} 0 1 = cc in absurd (omega arith)
+calm-by l y (Pending.Held n) b h =
+    let g : Group = group-in n (y n) in
+    let e : redo l g y ≡ ending [] = cc in
+    let none : length (finish l (g .change) y ++ (commit y g ∷ [])) ≡ 0 = ap (λ ss. length ss) (sym (redo-stores l g y)) ∙ ap (λ q. length (stores q)) e in
+    absurd (omega (arith, length-append (finish l (g .change) y) (commit y g ∷ [])))
 
 rests-calm : (size : ℕ) (y : Card) → recovery size y ≡ idle → pending-of y ≡ Pending.Nothing
 unfolding plan recover

@@ -18,7 +18,7 @@ use Rattle.model.proofs.Volumes.{cleaned, volume-of}
 use Rattle.safety.proofs.Start.{Start}
 use Rattle.safety.proofs.Theorem.{after-calls}
 use Rattle.safety.proofs.Genuine.{stays-genuine}
-use Rattle.safety.proofs.Moved.{create-holds, rename-holds, rename-leaves, rename-absent, delete-leaves, delete-absent}
+use Rattle.safety.proofs.Moved.{create-holds, long-holds, rename-holds, rename-leaves, rename-absent, delete-leaves, delete-absent}
 use Rattle.safety.proofs.Cut.{truncate-holds}
 use Rattle.safety.proofs.Grown.{append-holds}
 use Rattle.safety.proofs.Replaced.{replace-holds}
@@ -38,6 +38,7 @@ all-saves w v real is =
     let now : clean w ≡ granted (volume-of (w .card) Pending.Nothing) = is ∙ ap granted same in
     rw same (record {
       created = create-holds st now;
+      created-long = long-holds st now;
       appended = append-holds st now;
       replaced = replace-holds st now;
       truncated = truncate-holds st now;

@@ -12,7 +12,7 @@ use Rattle.model.specs.Sector.{Card}
 use Rattle.model.specs.Root.{Directory}
 use Rattle.model.specs.Root.{slot-at, name-in, file-size, first-cluster, is-file, is-directory, is-locked, is-label, listed, vacant, bears, same-name}
 use Rattle.model.specs.Root.{find, lowest-slot}
-use Rattle.model.specs.declared.Change.{Change}
+use Rattle.model.specs.Record.{Change}
 use Rattle.model.specs.declared.Name.{Name}
 use Rattle.model.specs.declared.Volume.{Volume}
 use Rattle.operations.specs.Calls.{slot-of, name-of}
@@ -20,6 +20,8 @@ use Rattle.model.specs.Long.{name-slots, long-count}
 use Rattle.operations.specs.Finish.{set-name, set-size, set-first, mark-deleted, new-entry, Edit, edit, set-slots, marks, edits, effect}
 use Rattle.model.proofs.Tests.{and-both, and-left, and-right, clash}
 use Rattle.model.proofs.Long.{OfName, of-name?, of-name, not-of-name}
+use Rattle.model.specs.LongName.{long-entry}
+use Rattle.model.proofs.LongEntries.{entry-attributes}
 use Rattle.model.proofs.Belong.{long-is-label}
 use Rattle.model.proofs.Scan.{first-same, first-is0, first-before0, first-has0, first-above0}
 use Rattle.model.proofs.Overlays.{overlay-below}
@@ -136,25 +138,43 @@ pub deleted-file : (b : Bytes) → is-file (mark-deleted b) ≡ false
 unfolding is-file listed vacant overlay byte-of
 deleted-file b = refl
 
--- ---- slots that a delete or a rename marks
+-- ---- slots beside a file's own
 
--- A slot that is as it was, or was a long entry's and is marked as deleted: it bears no name and holds no file, before and after.
-abbrev pub Dropped : Bytes → Bytes → Type 0
-Dropped b r = (r ≡ b) ⊎ ((r ≡ mark-deleted b) × (is-label b ≡ true))
+-- A slot that is as it was, or is not listed, before and after: it bears no name and holds no file.
+abbrev pub Unlisted : Bytes → Bytes → Type 0
+Unlisted b r = (r ≡ b) ⊎ ((listed b ≡ false) × (listed r ≡ false))
 
-pub dropped-bears : (n : Name) (b r : Bytes) → Dropped b r → bears n r ≡ bears n b
-unfolding bears listed
-dropped-bears n b r (inl e) = ap (bears n) e
-dropped-bears n b r (inr h) = ap (bears n) (h .0) ∙ deleted-bears n b ∙ sym (rw (h .1, and-false))
+pub unlisted-bears : (n : Name) (b r : Bytes) → Unlisted b r → bears n r ≡ bears n b
+unfolding bears
+unlisted-bears n b r (inl e) = ap (bears n) e
+unlisted-bears n b r (inr h) = rw (h .0, h .1)
 
-pub dropped-file : (b r : Bytes) → Dropped b r → is-file b ≡ true → r ≡ b
-unfolding is-file listed
-dropped-file b r (inl e) h = e
-dropped-file b r (inr q) h = clash h (rw (q .1, and-false))
+pub unlisted-file : (b r : Bytes) → Unlisted b r → is-file b ≡ true → r ≡ b
+unfolding is-file
+unlisted-file b r (inl e) h = e
+unlisted-file b r (inr q) h = clash h (rw (q .0))
 
-pub dropped-back : (b r : Bytes) → Dropped b r → is-file r ≡ true → r ≡ b
-dropped-back b r (inl e) h = e
-dropped-back b r (inr q) h = clash h (ap is-file (q .0) ∙ deleted-file b)
+pub unlisted-back : (b r : Bytes) → Unlisted b r → is-file r ≡ true → r ≡ b
+unfolding is-file
+unlisted-back b r (inl e) h = e
+unlisted-back b r (inr q) h = clash h (rw (q .1))
+
+-- A label or long entry, a deleted slot and a vacant one are not listed.
+label-unlisted : (b : Bytes) → is-label b ≡ true → listed b ≡ false
+unfolding listed
+label-unlisted b h = rw (h, and-false)
+
+deleted-unlisted : (b : Bytes) → listed (mark-deleted b) ≡ false
+unfolding listed vacant overlay byte-of
+deleted-unlisted b = refl
+
+pub vacant-unlisted : (b : Bytes) → vacant b ≡ true → listed b ≡ false
+unfolding listed
+vacant-unlisted b h = rw h
+
+pub entry-unlisted : (sum order : ℕ) (f : ℕ → ℕ) → listed (long-entry sum order f) ≡ false
+unfolding is-label
+entry-unlisted sum order f = label-unlisted (long-entry sum order f) (rw (entry-attributes sum order f))
 
 -- A change that marks the slots of the name in slot s, and then makes other edits.
 module _ (d : Directory) (o : Change) (s : ℕ) (rest : List Edit) (e : edits o ≡ marks (name-slots s (long-count d s)) ++ rest) where
@@ -164,9 +184,9 @@ module _ (d : Directory) (o : Change) (s : ℕ) (rest : List Edit) (e : edits o 
   pub old-kept : (k : ℕ) → (OfName s (long-count d s) k → ⊥) → effect o d k ≡ set-slots rest d k
   old-kept k off = marked-out o d (name-slots s (long-count d s)) rest e k (not-of-name s (long-count d s) k off)
 
-  pub old-dropped : (k : ℕ) → (k ≡ s → ⊥) → set-slots rest d k ≡ d k → Dropped (d k) (effect o d k)
-  old-dropped k ne stays = ⊎-elim
-      (λ w. inr (old-marked k w, long-is-label d s k w ne))
+  pub old-unlisted : (k : ℕ) → (k ≡ s → ⊥) → set-slots rest d k ≡ d k → Unlisted (d k) (effect o d k)
+  old-unlisted k ne stays = ⊎-elim
+      (λ w. inr (label-unlisted (d k) (long-is-label d s k w ne), ap listed (old-marked k w) ∙ deleted-unlisted (d k)))
       (λ off. inl (old-kept k off ∙ stays)) (of-name? s (long-count d s) k)
 
 -- ---- names

@@ -1,5 +1,5 @@
 -- Every call on a sound card keeps the files that it does not name, and soundness.
-use Prim.Native.Nat.{ℕ, _-_, _≤_, _<_}
+use Prim.Native.Nat.{ℕ, _-_, _≤_, _<_, _+_}
 use native.Mathlib.Omega.{arith}
 use mathlib.Core.Path.{_≡_, refl, sym, ap, _∙_, subst}
 use mathlib.Core.Logic.{_⊎_, inl, inr, ⊎-elim}
@@ -15,14 +15,14 @@ use Rattle.model.specs.Chain.{needed}
 use Rattle.model.specs.Root.{Directory, slot-at, free-slot, is-file, file-size, file-at}
 use Rattle.model.specs.Ground.{Answer, refused, granted}
 use Rattle.model.specs.Volume.{clean}
-use Rattle.model.specs.declared.Change.{Change}
+use Rattle.model.specs.Record.{Change}
 use Rattle.model.specs.declared.Layout.{Layout}
 use Rattle.model.specs.declared.Pending.{Pending}
 use Rattle.model.specs.declared.Volume.{Volume}
 use Rattle.operations.specs.Program.{Program, ending}
 use Rattle.operations.specs.Finish.{new-entry, mark-deleted}
-use Rattle.operations.specs.Plan.{clusters-of, new-clusters, fresh-clusters}
-use Rattle.operations.specs.Calls.{Call, plan, creates, appends, truncates, deletes, renames, replaces, recovers, slot-of, name-of}
+use Rattle.operations.specs.Plan.{clusters-of, new-clusters, fresh-clusters, no-text, slots-for}
+use Rattle.operations.specs.Calls.{Call, plan, creates, creates-long, appends, truncates, deletes, renames, replaces, recovers, slot-of, name-of, run-end}
 use Rattle.operations.specs.Outcome.{left, made, largest}
 use Rattle.safety.specs.Sound.{Sound, chain-of}
 use Rattle.safety.specs.Saved.{Names, Holds, SameFile, AllKeep}
@@ -39,21 +39,23 @@ use Rattle.safety.proofs.Linked.{Off, all-zip, release-other, shorten-o
 use Rattle.safety.proofs.Ended.{Ended, ended, SameHead, same-size, same-directory, same-is-file}
 use Rattle.safety.proofs.Chained.{HasChain, empty-then}
 use Rattle.safety.proofs.Readings.{Read, holds-read, holds-of}
-use Rattle.safety.proofs.Slots.{Resizes, new-first, new-size, deleted-file, dropped-file}
-use Rattle.safety.proofs.Supplied.{creates-as, create-supplies, renames-as, deletes-as, truncates-as, truncate-supplies, cut-fat, updates-as}
+use Rattle.safety.proofs.Slots.{Resizes, new-first, new-size, deleted-file, unlisted-file}
+use Rattle.safety.proofs.Supplied.{creates-as, renames-as, deletes-as, truncates-as, truncate-supplies, cut-fat, updates-as}
 use Rattle.safety.proofs.Supplied.{append-supplies, longer-fat, replaces-as, exchanged-fat, replace-supplies, ks}
 use Rattle.safety.proofs.Granted.{file-at-name, Created, create-granted, Renamed, rename-granted, NamedFile, Deleted, delete-granted, Truncated}
-use Rattle.safety.proofs.Granted.{truncate-granted, Growth, Appended, append-granted, Renewal, Replaced, replace-granted}
-use Rattle.safety.proofs.Moved.{finish-with, new-slot, old-slot, left-slot, rest-slot, rename-chain, rename-end, gone-slot, kept-slot, delete-end}
+use Rattle.safety.proofs.Granted.{truncate-granted, Growth, Appended, append-granted, Renewal, Replaced, replace-granted, long-granted}
+use Rattle.safety.proofs.Moved.{finish-with, new-slot, left-slot, rest-slot, rename-chain, rename-end, gone-slot, kept-slot, delete-end, new-in}
+use Rattle.safety.proofs.Moved.{other-slot, create-end}
 use Rattle.safety.proofs.Cut.{cut-edit, cut-chain}
 use Rattle.safety.proofs.Grown.{grown-edit, grown-chain}
 use Rattle.safety.proofs.Replaced.{replaced-edit, replaced-chain}
 use Rattle.safety.proofs.Others.{file-not-free, Spares, Owner, owned-old, other-same, Owned, owned-by, file-by, file-back, other-owned}
-use Rattle.safety.proofs.Others.{sound-then}
+use Rattle.safety.proofs.Others.{sound-then, file-live}
 use Rattle.safety.proofs.Means.{resized-means, create-means, rename-means, delete-means}
 use Rattle.safety.proofs.Saved.{started, volume-is}
 use Rattle.safety.proofs.Extents.{ds, new-off, append-spared, replace-spared}
 use Rattle.model.specs.declared.Pending.the-variants as Pending
+use Rattle.model.proofs.FreeRuns.{run-not-live}
 
 -- What is kept on a card t that a call leaves of c.
 record Keeping (v : Volume) (c : Card) (k : Call) (t : Card) : Type 0 where
@@ -100,28 +102,36 @@ module _ {size : ℕ} {c : Card} (st : Start size c) (is : clean (window size c)
 
   -- ---- create
 
-  module _ (n : Span) (p : Program) (g : Created st is n p) {t : Card} (end : Ended size c [] fat (creates-as st n) t) where
-    create-spares : Spares c [] fat (creates-as st n) (at n)
+  module _ (n t : Span) (p : Program) (g : Created st is n t p) {u : Card} (end : Ended size c [] fat (creates-as st n t) u) where
+    abbrev new : ℕ
+    new = run-end l c t
+
+    in-root : new < l .entries
+    in-root = new-in st is n t p g end
+
+    create-spares : Spares c [] fat (creates-as st n t) (at n)
     create-spares = record {
-      slot = λ s less file ne. old-slot st is n p g end s (file-not-free l c s less file (g .room));
+      slot = λ s less file ne. unlisted-file (d s) _ (other-slot st is n t p g end s (λ e. run-not-live l c (slots-for t + 1) (g .room) s
+          (file-live l c s less file) (omega arith) (omega arith))) file;
       fat = λ s less file ne. same-fat fat (chain-of l c s);
       bytes = no-data st sound;
     }
 
-    create-owned : (s : ℕ) → s < l .entries → is-file (slot-at l t s) ≡ true → (s ≡ z) ⊎ (s ≡ z → ⊥) → Owned st sound create-spares end (λ r. r) z s
-    create-owned s less file (inl e) = subst (λ s. Owned st sound create-spares end (λ r. r) z s) (sym e)
-        (owned-by st sound create-spares end (λ r. r) z z []
-        (empty-then st end z (g .room) (new-entry (name-of n)) (new-slot st is n p g end) (new-first (name-of n)) (new-size (name-of n))) tt)
+    create-owned : (s : ℕ) → s < l .entries → is-file (slot-at l u s) ≡ true → (s ≡ new) ⊎ (s ≡ new → ⊥) → Owned st sound create-spares end (λ r. r) new s
+    create-owned s less file (inl e) = subst (λ s. Owned st sound create-spares end (λ r. r) new s) (sym e)
+        (owned-by st sound create-spares end (λ r. r) new new []
+        (empty-then st end new in-root (new-entry (name-of n)) (new-slot st is n t p g end) (new-first (name-of n)) (new-size (name-of n))) tt)
     create-owned s less file (inr ne) =
-        other-owned st sound create-spares end (λ r. r) z s less
-        (file-by st sound create-spares end (λ r. r) z s less (d s) (old-slot st is n p g end s ne) file)
+        other-owned st sound create-spares end (λ r. r) new s less
+        (file-back st sound create-spares end (λ r. r) new s less (other-slot st is n t p g end s ne) file)
         (λ e. omega (arith, g .unused)) refl
 
-    create-keeps : Keeping v c (creates n) t
-    create-keeps = record {
+    -- A create names no file of the card.
+    create-keeps : (k : Call) → Keeping v c k u
+    create-keeps k = record {
       others = λ s less file ne. other-same st sound create-spares end s less file (λ e. omega (arith, g .unused));
-      means = λ m less ne. create-means st is n p g end m less;
-      sound = sound-then st sound create-spares end (λ r. r) z (λ s less file. create-owned s less file (same? s z));
+      means = λ m less ne. create-means st is n t p g end m less;
+      sound = sound-then st sound create-spares end (λ r. r) new (λ s less file. create-owned s less file (same? s new));
     }
 
   -- ---- rename
@@ -129,7 +139,7 @@ module _ {size : ℕ} {c : Card} (st : Start size c) (is : clean (window size c)
   module _ (n m : Span) (p : Program) (g : Renamed st is n m p) {t : Card} (end : Ended size c [] fat (renames-as st (at n) (g .live) m) t) where
     rename-spares : Spares c [] fat (renames-as st (at n) (g .live) m) (at n)
     rename-spares = record {
-      slot = λ s less file ne. dropped-file (d s) _ (rest-slot st is n m p g end s ne (file-not-free l c s less file (g .room))) file;
+      slot = λ s less file ne. unlisted-file (d s) _ (rest-slot st is n m p g end s ne (file-not-free l c s less file (g .room))) file;
       fat = λ s less file ne. same-fat fat (chain-of l c s);
       bytes = no-data st sound;
     }
@@ -178,7 +188,7 @@ module _ {size : ℕ} {c : Card} (st : Start size c) (is : clean (window size c)
     delete-spares : Spares c [] (release own fat) (deletes-as st (at n) (g .it .live) (g .it .keeps)) (at n)
     unfolding chain-of clusters-of file-at
     delete-spares = record {
-      slot = λ s less file ne. dropped-file (d s) _ (kept-slot st is n p g end s ne) file;
+      slot = λ s less file ne. unlisted-file (d s) _ (kept-slot st is n p g end s ne) file;
       fat = spared-fat (at n) (release own fat) (g .it .live .in-root) (g .it .file) (λ k u off. release-other own fat k off);
       bytes = no-data st sound;
     }
@@ -269,9 +279,11 @@ module _ {size : ℕ} {c : Card} (st : Start size c) (is : clean (window size c)
 
   granted-keeps : (k : Call) (p : Program) → plan k w ≡ granted p → AllKept k (left largest k w)
   granted-keeps (creates n) p h =
-      let g : Created st is n p = create-granted st is n p h in
-      finish-with st is (AllKept (creates n)) (creates n) p _ h (g .same)
-      (create-keeps n p g (ended st [] fat (creates-as st n) (create-supplies st n (g .ok) (g .room))))
+      let g : Created st is n no-text p = create-granted st is n p h in
+      finish-with st is (AllKept (creates n)) (creates n) p _ h (g .same) (create-keeps n no-text p g (create-end st is n no-text p g) (creates n))
+  granted-keeps (creates-long n t) p h =
+      let g : Created st is n t p = long-granted st is n t p h in
+      finish-with st is (AllKept (creates-long n t)) (creates-long n t) p _ h (g .same) (create-keeps n t p g (create-end st is n t p g) (creates-long n t))
   granted-keeps (renames n m) p h =
       let g : Renamed st is n m p = rename-granted st is n m p h in
       finish-with st is (AllKept (renames n m)) (renames n m) p _ h (g .same) (rename-keeps n m p g (rename-end st is n m p g))

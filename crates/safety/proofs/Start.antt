@@ -9,7 +9,7 @@ use Rattle.model.specs.Boot.{layout, arrange, fields}
 use Rattle.model.specs.Fat.{Fat, is-reserved, fat1-of, fat2-of}
 use Rattle.model.specs.Root.{root-place, slot-at, root-ok, first-bytes, end-slot}
 use Rattle.model.specs.Log.{marked, run-ok, run, log-of}
-use Rattle.model.specs.Pending.{pending, is-broken}
+use Rattle.model.specs.Pending.{seen-end, pending, is-broken}
 use Rattle.model.specs.Ground.{granted}
 use Rattle.model.specs.Volume.{examine}
 use Rattle.model.specs.Promises.{Shape}
@@ -96,7 +96,7 @@ module _ {size : ℕ} {c : Card} (st : Start size c) where
 
   pub log-quiet : (i : ℕ) → i < area-of c .sectors → Quiet (c (area-of c .sector + i))
   unfolding pending
-  log-quiet = calm-quiet (layout-of c .entries) (end-slot (layout-of c .entries) (first-bytes (layout-of c) c)) (area-of c) (log-of (area-of c) c)
+  log-quiet = calm-quiet (layout-of c .entries) (seen-end (layout-of c) c) (area-of c) (log-of (area-of c) c)
       (st .clean .calm)
 
   pub log-low : layout-of c .start ≤ area-of c .sector

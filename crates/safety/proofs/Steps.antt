@@ -13,7 +13,7 @@ use Rattle.model.specs.Fat.{Fat, write-fat, fat2-of, fat1-of}
 use Rattle.model.specs.Root.{root-place, slot-at}
 use Rattle.model.specs.Log.{log-of}
 use Rattle.model.specs.declared.Layout.{Layout}
-use Rattle.model.specs.declared.Change.{Change}
+use Rattle.model.specs.Record.{Change}
 use Rattle.model.specs.declared.Volume.{Volume}
 use Rattle.operations.proofs.Clearing.{clearing-all}
 use Rattle.operations.specs.Finish.{root-sector, effect, root-stores, concerns, finish}

@@ -1,42 +1,51 @@
 -- What each operation supplies, and so the card that it leaves.
-use Prim.Native.Nat.{ℕ, _+_, _-_, _^_, _≤_, _<_}
+use Prim.Native.Nat.{ℕ, _+_, _-_, _*_, _/_, _^_, _≤_, _<_}
 use native.Mathlib.Omega.{arith}
-use mathlib.Core.Path.{_≡_, refl, sym}
-use mathlib.Core.Logic.{⊎-elim}
+use mathlib.Core.Path.{_≡_, refl, sym, ap, _∙_}
+use mathlib.Core.Logic.{_⊎_, inl, inr, ⊎-elim}
 use mathlib.Core.List.{List, [], _∷_}
-use mathlib.Core.Bool.{true}
+use mathlib.Core.Bool.{true, false}
 use lib.Dec.{eqb}
 use lib.ListN.{getD, take, drop, length}
+use borrow.Author.Tests.{eqb-false, ne-eqb}
 use Rattle.model.specs.Bytes.{Bytes, Span, overlay, byte-of}
+use Rattle.model.specs.Scan.{among}
 use Rattle.model.specs.Sector.{Card, Store}
 use Rattle.model.specs.Fat.{Fat, entry, release}
 use Rattle.model.specs.Chain.{needed}
-use Rattle.model.specs.Root.{slot-at, name-ok, free-slot, name-in, entry-at, first-cluster, file-size}
-use Rattle.model.specs.Long.{name-slots, most-long, long-count}
-use Rattle.model.specs.Pending.{count-ok}
+use Rattle.model.specs.Root.{slot-at, name-ok, free-run, free-slot, name-in, entry-at, first-cluster, file-size, first-bytes, end-slot}
+use Rattle.model.specs.Long.{name-slots, most-long, long-count, checksum, order-byte}
+use Rattle.model.specs.LongName.{long-slots, spelled, name-entry}
+use Rattle.model.specs.Pending.{count-ok, fills, named-slots, end-past}
 use Rattle.model.specs.Promises.{Shape}
 use Rattle.model.specs.declared.Entry.{Entry}
 use Rattle.model.specs.declared.Layout.{Layout}
-use Rattle.model.specs.declared.Change.{Change}
 use Rattle.model.specs.declared.Operation.{Operation}
 use Rattle.model.specs.declared.Operation.the-variants.{Create, Update, Rename, Delete, Truncate, Replace}
-use Rattle.operations.specs.Finish.{operation-edits, marks, edits, new-entry}
-use Rattle.operations.specs.Plan.{shorten, extend, exchange, last-cluster}
-use Rattle.model.proofs.Tests.{same?}
-use Rattle.model.proofs.All.{All, all-append, all-take, all-drop}
+use Rattle.operations.specs.Finish.{edit, operation-edits, marks, edits, new-entry, name-slot}
+use Rattle.operations.specs.Plan.{text-of, slots-for, shorten, extend, exchange, last-cluster}
+use Rattle.operations.specs.Calls.{run-end}
+use Rattle.model.proofs.Tests.{same?, less?, by-pick}
+use Rattle.model.proofs.All.{All, all-append, all-image, all-take, all-drop}
+use Rattle.model.proofs.Scan.{first-above0}
+use Rattle.model.proofs.Order.{seen-up}
 use Rattle.model.proofs.Names.{name-starts, name-fits, free-low, Live, live-not-free}
-use Rattle.model.proofs.Long.{OfName, not-of-name}
-use Rattle.model.proofs.Belong.{count-few, count-low, long-starts}
+use Rattle.model.proofs.FreeRuns.{run-lowest}
+use Rattle.model.proofs.Long.{OfName, all-slots, of-name, not-of-name, low-named, either-among}
+use Rattle.model.proofs.Belong.{order-range, count-few, count-low, long-starts}
+use Rattle.model.proofs.LongEntries.{entry-order}
 use Rattle.model.proofs.Volumes.{layout-of, first-fat, SameMarks}
+use Rattle.operations.proofs.Spelled.{TextFine, text-past, empty-text, text-even, text-some, text-few, span-length, span-ok, silent-ok}
 use Rattle.safety.proofs.Start.{Start, shape-of, entries-few, Clear}
 use Rattle.safety.proofs.Effect.{Begun, Lives, marks-live, resized-lives}
 use Rattle.safety.proofs.Operate.{Supplies}
 use Rattle.safety.proofs.Clusters.{Plain, released-marks, plain-fits, shorten-marks, extend-marks, exchange-marks}
-use Rattle.model.proofs.Records.{EntryFits, ChangeFits, entry-record, plain-told}
-use Rattle.model.proofs.Pendings.{recorded, record-fine, none-counted, delete-counted, rename-counted, part-fine, starts-not-zero}
-use Rattle.model.specs.Record.{operation-records, records, record-of, plain, last-number}
-use Rattle.safety.proofs.After.{last-slot}
-use Rattle.safety.proofs.Operations.{KeepsChain, entry-fits, slot-seat, slot-named, slot-lives, first-fits, size-fits, the-chain, old-plain, old-busy}
+use Rattle.model.proofs.Records.{EntryFits, ChangeFits, Silent, Spells, entry-record}
+use Rattle.model.proofs.Pendings.{Seat, recorded, record-fine, none-counted, create-counted, delete-counted, rename-counted, part-fine, starts-not-zero}
+use Rattle.model.specs.Record.{Change, operation-records, records, record-of, plain, text-length, last-number}
+use Rattle.safety.proofs.After.{last-slot, past-slot, LowSlots}
+use Rattle.safety.proofs.Operations.{KeepsChain, entry-fits, slot-seat, slot-seated, slot-named, slot-lives, first-fits, size-fits}
+use Rattle.safety.proofs.Operations.{the-chain, old-plain, old-busy}
 use Rattle.safety.proofs.Extents.{Extent, ds, new-plain, total-fits, outside}
 
 module _ {size : ℕ} {c : Card} (st : Start size c) where
@@ -49,31 +58,103 @@ module _ {size : ℕ} {c : Card} (st : Start size c) where
   sh : Shape l
   sh = shape-of st
 
-  abbrev pub creates-as : Span → Change
-  creates-as n = plain (Create (record { slot = free-slot l c; name = name-in (n .byte); attributes = 0x20 }))
+  -- ---- create
 
-  pub create-supplies : (n : Span) → name-ok n ≡ true → free-slot l c < l .entries → Supplies c [] fat (creates-as n)
-  unfolding records operation-records record-of edits operation-edits new-entry overlay byte-of
-  create-supplies n ok room =
-      let fits : ChangeFits (creates-as n) = record {
+  module _ (n t : Span) where
+    abbrev run : ℕ
+    run = free-run l c (slots-for t + 1)
+
+    abbrev made : Entry
+    made = record { slot = run-end l c t; name = name-in (n .byte); attributes = 0x20 }
+
+    abbrev pub creates-as : Change
+    creates-as = record { operation = Create made (slots-for t); text = text-of t }
+
+    module _ (ok : name-ok n ≡ true) (fine : TextFine t) (room : run < l .entries + 1 - (slots-for t + 1)) where
+      few-slots : slots-for t ≤ 16
+      few-slots = ⊎-elim (λ e. omega arith) (λ h. omega (arith, text-few t h)) fine
+
+      -- Its text is that of a group, or there is none.
+      create-text : Silent creates-as ⊎ Spells creates-as
+      create-text = ⊎-elim
+          (λ e. inl (empty-text t e, (let z : slots-for t ≡ 0 = omega arith in z)))
+          (λ h. let many : text-length (text-of t) ≡ t .size / 2 = span-length t fine in inr (record {
+            entry = made;
+            count = slots-for t;
+            is = refl;
+            some = omega (arith, text-some t h);
+            begins = starts-not-zero _ (name-starts n ok);
+            few = omega (arith, text-few t h);
+            after = λ i more. text-past t i (omega (arith, text-even t h));
+          })) fine
+
+      create-fits : ChangeFits creates-as
+      unfolding records operation-records record-of
+      create-fits = record {
         few = omega arith;
         fields = (
-          entry-record _ 1 0 0 0 0 (omega arith) (omega arith)
+          entry-record made 1 (slots-for t) 0 0 0 (omega arith) (omega (arith, few-slots))
               (record { slot = omega (arith, entries-few st, room); name = name-fits n ok; attributes = omega arith })
               (omega arith) (omega arith) (omega arith),
           tt,
         );
-        told = plain-told _;
-      } in
-      record {
+        text = create-text;
+      }
+
+      -- A slot of the run, and one before it, does not begin 0 as RECORD reads it: the slot is not above the lowest that does.
+      run-seated : Seat (l .entries) (past-slot c creates-as) (run-end l c t)
+      unfolding end-past end-slot named-slots
+      run-seated = (
+        omega (arith, room),
+        first-above0 _ (l .entries) (run-end l c t) (omega (arith, room)) (λ k less. ⊎-elim
+            (λ low. let off : among (name-slots (run-end l c t) (slots-for t)) k ≡ false =
+            not-of-name (run-end l c t) (slots-for t) k (λ w. omega (arith, w)) in
+            rw off (ne-eqb (first-bytes l c k) 0 (run-lowest l c (slots-for t + 1) room (st .clean .root) k low)))
+            (λ high. rw (of-name (run-end l c t) (slots-for t) k (omega arith, omega arith))) (less? k run)),
+      )
+
+      run-low : run ≤ last-slot c
+      unfolding end-slot
+      run-low = first-above0 (λ k. eqb (first-bytes l c k) 0) (l .entries) run (omega (arith, room))
+          (λ k less. ne-eqb (first-bytes l c k) 0 (run-lowest l c (slots-for t + 1) room (st .clean .root) k less))
+
+      -- Its slots begin otherwise than 0: with an order number, or as its name does.
+      numbered : (i : ℕ) → 1 ≤ i → i ≤ 16 → name-entry (checksum (new-entry (made .name))) (text-of t) (text-length (text-of t)) i 0 ≡ 0 → ⊥
+      unfolding name-entry
+      numbered i low high e = ⊎-elim
+          (λ r. omega (arith, entry-order (checksum (new-entry (made .name))) (order-byte (long-slots (text-length (text-of t))) i)
+          (λ k. spelled (text-of t) (text-length (text-of t)) (13 * (i - 1) + k)), r))
+          (λ r. omega (arith, entry-order (checksum (new-entry (made .name))) (order-byte (long-slots (text-length (text-of t))) i)
+          (λ k. spelled (text-of t) (text-length (text-of t)) (13 * (i - 1) + k)), r))
+          (order-range (long-slots (text-length (text-of t))) i)
+
+      slot-begins : (k : ℕ) → OfName (run-end l c t) (slots-for t) k → name-slot made (text-of t) k 0 ≡ 0 → ⊥
+      unfolding name-slot new-entry overlay byte-of
+      slot-begins k w = by-pick (λ (b : Bytes). b 0 ≡ 0 → ⊥) (eqb k (run-end l c t)) _ _
+          (λ _. starts-not-zero _ (name-starts n ok))
+          (λ off e. numbered (run-end l c t - k) (let ne = eqb-false k (run-end l c t) off in omega (arith, w)) (omega (arith, w, few-slots)) e)
+
+      pub create-supplies : Supplies c [] fat creates-as
+      unfolding records operation-records record-of edits operation-edits named-slots
+      create-supplies = record {
         outside = tt;
         marks = λ k low high. refl;
-        fits = fits;
-        recorded = recorded (l .entries) (last-slot c) (creates-as n) fits
-            (record-fine (l .entries) (last-slot c) _ 1 0 0 0 0 (omega arith) (omega arith) (none-counted _ 1 0 0 0) (omega arith) (room, free-low l c))
-            (λ k low high. absurd (omega arith)) (name-starts n ok, tt);
-        lives = (starts-not-zero _ (name-starts n ok), tt);
+        fits = create-fits;
+        recorded = recorded (l .entries) (past-slot c creates-as) creates-as create-fits
+            (record-fine (l .entries) (past-slot c creates-as) made 1 (slots-for t) 0 0 0 (omega arith) (omega arith)
+            (create-counted made (slots-for t) 0 0 0 few-slots (omega arith)) (omega arith) run-seated)
+            (λ k low high. absurd (omega arith)) (name-starts n ok, tt) (span-ok t fine creates-as refl refl);
+        lives = all-image (Begun (slot-at l c)) (λ k. edit k (λ b. name-slot made (text-of t) k)) (name-slots (run-end l c t) (slots-for t))
+            (all-slots (λ k. name-slot made (text-of t) k 0 ≡ 0 → ⊥) (run-end l c t) (slots-for t) slot-begins);
+        lined = ⊎-elim (λ some. inl some) (λ none. inr (single none)) (less? 0 (slots-for t));
       }
+        where
+          -- Without a text its one slot is the lowest free one.
+          single : slots-for t ≤ 0 → LowSlots c creates-as
+          single none k less on =
+              let low = low-named (run-end l c t) (slots-for t) k on in
+              let top : run ≤ last-slot c = run-low in
+              omega arith
 
   module _ (s : ℕ) (live : Live l c s) where
     abbrev b : Bytes
@@ -99,7 +180,7 @@ module _ {size : ℕ} {c : Card} (st : Start size c) where
     renames-as n = plain (Rename e count (first-cluster b) (file-size b) (free-slot l c) (name-in (n .byte)))
 
     pub rename-supplies : (n : Span) → name-ok n ≡ true → free-slot l c < l .entries → Supplies c [] fat (renames-as n)
-    unfolding entry-at records operation-records record-of edits operation-edits overlay byte-of
+    unfolding entry-at records operation-records record-of edits operation-edits named-slots overlay byte-of
     rename-supplies n ok room =
         let k : ℕ = first-cluster b in
         let m : ℕ = file-size b in
@@ -114,40 +195,50 @@ module _ {size : ℕ} {c : Card} (st : Start size c) where
             entry-record e 5 count k 0 m (omega arith) (omega (arith, few-long)) own first (omega arith) old,
             (entry-record f 0 count k 0 m (omega arith) (omega (arith, few-long)) other first (omega arith) old, tt),
           );
-          told = plain-told _;
+          text = inl (refl, refl);
         } in
+        let z : ℕ = past-slot c (renames-as n) in
+        let up : last-slot c ≤ z = seen-up (renames-as n .operation) (l .entries) (first-bytes l c) in
         record {
           outside = tt;
           marks = λ k low high. refl;
           fits = fits;
-          recorded = recorded (l .entries) (last-slot c) (renames-as n) fits
-              (record-fine (l .entries) (last-slot c) e 5 count k 0 m (omega arith) (omega arith)
-              (rename-counted e count k 0 m few-long (count-low (slot-at l c) s)) (omega arith) (slot-seat st s live))
-              (part-fine (l .entries) (last-slot c) e f 5 count k 0 m refl (room, free-low l c) (not-of-name s count (free-slot l c) (free-apart room)))
-              (slot-named st s live, (name-starts n ok, tt));
+          recorded = recorded (l .entries) z (renames-as n) fits
+              (record-fine (l .entries) z e 5 count k 0 m (omega arith) (omega arith)
+              (rename-counted e count k 0 m few-long (count-low (slot-at l c) s)) (omega arith) (slot-seated st s live z up))
+              (part-fine (l .entries) z e f 5 count k 0 m refl (room, omega (arith, free-low l c)) (not-of-name s count (free-slot l c) (free-apart room)))
+              (slot-named st s live, (name-starts n ok, tt)) (silent-ok (renames-as n) refl refl);
           lives = all-append (Begun (slot-at l c)) (marks (name-slots s count)) _ (marks-live (slot-at l c) (name-slots s count))
               (starts-not-zero _ (name-starts n ok), tt);
+          lined = inr (λ i less on. ⊎-elim
+              (λ w. omega (arith, low-named s count i w, slot-seat st s live))
+              (λ q. omega (arith, free-low l c)) (either-among (name-slots s count) (free-slot l c) i on));
         }
 
     -- An operation that one record tells of, about the entry in this slot.
     entry-supplies : (o : Operation) (number n k from m : ℕ) → records (plain o) ≡ record-of e number n k from m ∷ [] → 1 ≤ number → number ≤ last-number
         → n < 256 → count-ok (record-of e number n k from m) ≡ true → k < 256 ^ 2 → from < 65536 → m < 256 ^ 4
-        → {ds : List Store} {f : Fat} → All (λ s. Clear c (s .sector)) ds → SameMarks l f fat → Lives (slot-at l c) (plain o) → Supplies c ds f (plain o)
+        → {ds : List Store} {f : Fat} → All (λ s. Clear c (s .sector)) ds → SameMarks l f fat → Lives (slot-at l c) (plain o)
+        → named-slots o ≡ name-slots s n → fills o ≡ 0 → Supplies c ds f (plain o)
     unfolding entry-at record-of
-    entry-supplies o number n k from m told low high short counted first small sized outside marks lives =
+    entry-supplies o number n k from m told low high short counted first small sized outside marks lives named none =
         let fits : ChangeFits (plain o) = record {
           few = rw told (omega arith);
           fields = rw told (entry-record e number n k from m (omega arith) short (entry-fits st s live) first (omega arith) sized, tt);
-          told = plain-told o;
+          text = inl (refl, none);
         } in
+        let z : ℕ = past-slot c (plain o) in
+        let up : last-slot c ≤ z = seen-up o (l .entries) (first-bytes l c) in
         record {
           outside = outside;
           marks = marks;
           fits = fits;
-          recorded = recorded (l .entries) (last-slot c) (plain o) fits
-              (rw told (record-fine (l .entries) (last-slot c) e number n k from m low high counted small (slot-seat st s live)))
-              (λ i one less. absurd (let none : i < 1 = rw told at less in omega arith)) (rw told (slot-named st s live, tt));
+          recorded = recorded (l .entries) z (plain o) fits
+              (rw told (record-fine (l .entries) z e number n k from m low high counted small (slot-seated st s live z up)))
+              (λ i one less. absurd (let none : i < 1 = rw told at less in omega arith)) (rw told (slot-named st s live, tt))
+              (silent-ok (plain o) refl none);
           lives = lives;
+          lined = inr (λ i less on. omega (arith, low-named s n i (ap (λ ks. among ks i) (sym named) ∙ on), slot-seat st s live));
         }
 
     module _ (whole : KeepsChain c s) where
@@ -158,11 +249,11 @@ module _ {size : ℕ} {c : Card} (st : Start size c) where
       deletes-as = plain (Delete e count (first-cluster b) (file-size b))
 
       pub delete-supplies : Supplies c [] (release ks fat) deletes-as
-      unfolding entry-at records operation-records edits operation-edits
+      unfolding entry-at records operation-records edits operation-edits named-slots
       delete-supplies = entry-supplies (Delete e count (first-cluster b) (file-size b)) 3 count (first-cluster b) 0 (file-size b) refl
           (omega arith) (omega arith) (omega (arith, few-long)) (delete-counted e count (first-cluster b) 0 (file-size b) few-long (count-low (slot-at l c) s))
           (first-fits st s live) (omega arith) (size-fits st s live) tt (λ k low high. released-marks l (sh .few) fat ks (old-plain st s live whole) k)
-          (marks-live (slot-at l c) (name-slots s count))
+          (marks-live (slot-at l c) (name-slots s count)) refl refl
 
       abbrev pub cut-fat : ℕ → Fat
       cut-fat n = shorten (take (needed l n) ks) (drop (needed l n) ks) fat
@@ -171,7 +262,7 @@ module _ {size : ℕ} {c : Card} (st : Start size c) where
       truncates-as n = plain (Truncate e (first-cluster b) (getD (drop (needed l n) ks) 0 0) n)
 
       pub truncate-supplies : (n : ℕ) → n ≤ file-size b → Supplies c [] (cut-fat n) (truncates-as n)
-      unfolding entry-at records operation-records edits operation-edits
+      unfolding entry-at records operation-records edits operation-edits named-slots
       truncate-supplies n less =
           let m : ℕ = needed l n in
           let plain : All (Plain l fat) (take m ks) = all-take (Plain l fat) m ks (old-plain st s live whole) in
@@ -182,6 +273,7 @@ module _ {size : ℕ} {c : Card} (st : Start size c) where
           (none-counted e 4 (first-cluster b) from n) (first-fits st s live) (plain-fits l (sh .few) fat (drop m ks) freed 0)
           (omega (arith, size-fits st s live)) tt
           (λ k low high. shorten-marks l (sh .few) fat (take m ks) plain busy (drop m ks) freed k) (resized-lives (eqb n 0) 0 n b (slot-lives st s live), tt)
+          refl refl
 
       module _ {new : List ℕ} {d : Span} (x : Extent c ks new (file-size b) d) where
         abbrev pub longer-fat : Fat
@@ -191,7 +283,7 @@ module _ {size : ℕ} {c : Card} (st : Start size c) where
         updates-as = plain (Update e (last-cluster ks) (getD new 0 0) (file-size b + d .size))
 
         pub append-supplies : Supplies c (ds st x) longer-fat updates-as
-        unfolding entry-at records operation-records edits operation-edits
+        unfolding entry-at records operation-records edits operation-edits named-slots
         append-supplies =
             let few : l .clusters ≤ 65524 = sh .few in
             let last : ℕ = last-cluster ks in
@@ -202,7 +294,7 @@ module _ {size : ℕ} {c : Card} (st : Start size c) where
             (plain-fits l few fat ks old (length ks - 1))
             (plain-fits l few fat new (new-plain st x) 0) (total-fits st x) (outside st x)
             (λ k low high. extend-marks l few fat ks old (old-busy st s live whole) new (new-plain st x) k)
-            (resized-lives (eqb last 0) from n b (slot-lives st s live), tt)
+            (resized-lives (eqb last 0) from n b (slot-lives st s live), tt) refl refl
 
       module _ {new : List ℕ} {d : Span} (x : Extent c [] new 0 d) where
         abbrev pub exchanged-fat : Fat
@@ -212,11 +304,11 @@ module _ {size : ℕ} {c : Card} (st : Start size c) where
         replaces-as = plain (Replace e (first-cluster b) (getD new 0 0) (d .size))
 
         pub replace-supplies : Supplies c (ds st x) exchanged-fat replaces-as
-        unfolding entry-at records operation-records edits operation-edits
+        unfolding entry-at records operation-records edits operation-edits named-slots
         replace-supplies =
             let from : ℕ = getD new 0 0 in
             entry-supplies (Replace e (first-cluster b) from (d .size)) 6 0 (first-cluster b) from (d .size) refl (omega arith) (omega arith) (omega arith)
             (none-counted e 6 (first-cluster b) from (d .size)) (first-fits st s live) (plain-fits l (sh .few) fat new (new-plain st x) 0)
             (omega (arith, total-fits st x)) (outside st x)
             (λ k low high. exchange-marks l (sh .few) fat ks new (old-plain st s live whole) (new-plain st x) k)
-            (resized-lives true from (d .size) b (slot-lives st s live), tt)
+            (resized-lives true from (d .size) b (slot-lives st s live), tt) refl refl

@@ -13,7 +13,7 @@ use Rattle.model.specs.Chain.{file-sector}
 use Rattle.model.specs.Root.{file-at}
 use Rattle.model.specs.Promises.{Shape}
 use Rattle.model.specs.declared.Layout.{Layout}
-use Rattle.model.specs.declared.Change.{Change}
+use Rattle.model.specs.Record.{Change}
 use Rattle.operations.specs.Plan.{appended, append-sector, data-stores}
 use Rattle.operations.specs.Reading.{file-byte}
 use Rattle.operations.proofs.Appends.{appended-old, appended-new}

@@ -6,3 +6,4 @@ pub mod Saved
 pub mod Changed
 pub mod Restored
 pub mod Fitting
+pub mod Spelled

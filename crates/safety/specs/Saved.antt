@@ -13,7 +13,7 @@ use Rattle.model.specs.declared.Volume.{Volume}
 use Rattle.model.specs.declared.Outcome.the-variants.{Done}
 use Rattle.model.specs.declared.Ground.the-variants as Ground
 use Rattle.operations.specs.Program.{Program}
-use Rattle.operations.specs.Calls.{Call, creates, appends, truncates, deletes, renames, replaces, recovers, plan, name-of, slot-of, named-file}
+use Rattle.operations.specs.Calls.{Call, creates, creates-long, appends, truncates, deletes, renames, replaces, recovers, plan, name-of, slot-of, named-file}
 use Rattle.operations.specs.Outcome.{left, largest}
 use Rattle.operations.specs.Reading.{Filled, read, file-byte, filled-outcome, buffer-after}
 use Rattle.safety.specs.Sound.{Sound}
@@ -42,9 +42,11 @@ Alone v c n = (s : ℕ) → s < v .layout .entries → bears (name-of n) (slot-a
 -- "A path saved and read again is the path, to its last byte, with nothing after it." Calls on the clean window w, whose volume is v,
 -- that are not refused and finish.
 pub record Saves (w : Window) (v : Volume) : Type 0 where
-  -- A new file is empty.
+  -- A new file is empty, with a long name or without.
   pub created : (n : Span) (p : Program) → plan (creates n) w ≡ granted p
       → (content : Bytes) → Holds (left largest (creates n) w) n 0 content
+  pub created-long : (n t : Span) (p : Program) → plan (creates-long n t) w ≡ granted p
+      → (content : Bytes) → Holds (left largest (creates-long n t) w) n 0 content
   -- An append leaves the old bytes, then the new.
   pub appended : (n d : Span) (p : Program) → plan (appends n d) w ≡ granted p → (size : ℕ) (content : Bytes) → Holds w n size content
       → Holds (left largest (appends n d) w) n (size + d .size) (λ i. pick (ltb i size) (content i) (d .byte (i - size)))
@@ -78,6 +80,7 @@ PathSaved = (w : Window) (v : Volume) → Genuine w → clean w ≡ granted v
 -- Slot s is the one that the name given to a call means. (A create is given a name that no slot has.)
 abbrev pub Names : Volume → Card → Call → ℕ → Type 0
 Names v c (creates n) s = ⊥
+Names v c (creates-long n t) s = ⊥
 Names v c (appends n d) s = s ≡ slot-of v c n
 Names v c (truncates n m) s = s ≡ slot-of v c n
 Names v c (deletes n) s = s ≡ slot-of v c n
@@ -112,6 +115,7 @@ LockedStays = (k : Call) (w : Window) (v : Volume) → Genuine w → clean w ≡
 -- holds of call after call.
 abbrev pub OfBytes : Call → Type 0
 OfBytes (creates n) = Unit {0}
+OfBytes (creates-long n t) = (i : ℕ) → i < t .size → t .byte i < 256
 OfBytes (appends n d) = (i : ℕ) → i < d .size → d .byte i < 256
 OfBytes (truncates n m) = Unit {0}
 OfBytes (deletes n) = Unit {0}

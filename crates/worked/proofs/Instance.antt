@@ -10,7 +10,7 @@ use Rattle.operations.specs.Outcome.{left}
 use Rattle.safety.specs.Demand3.{Genuine, Settles, group-stored, recoveries}
 use Rattle.model.proofs.Tests.{by-pick}
 use Rattle.model.proofs.Cards.{clip-clip}
-use Rattle.safety.proofs.Bytewise.{patched}
+use Rattle.model.proofs.Numbers.{patched}
 use Rattle.safety.proofs.Theorem.{demand3}
 use Rattle.worked.specs.CardK.{boot-sector, log-fat, card-k, window-k, k}
 use Rattle.worked.specs.Worked.{volume-k}

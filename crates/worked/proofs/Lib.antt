@@ -7,3 +7,4 @@ pub mod ReplacingRows
 pub mod LockedRows
 pub mod FittingRows
 pub mod LongNameRows
+pub mod SpellingRows

@@ -4,3 +4,4 @@ pub mod Replacing
 pub mod Locked
 pub mod Fitting
 pub mod LongNames
+pub mod Spelling

@@ -1,6 +1,5 @@
 -- Replace on card K, worked out by hand: rows as in `Worked`, after M4, in which ROUTE.CUT has 1,300 bytes in clusters 10, 11 and 12. The
 -- bytes are arbitrary.
-use Prim.Native.Nat.{ℕ}
 use mathlib.Core.Path.{_≡_}
 use mathlib.Core.List.{List, [], _∷_, map}
 use lib.ListN.{getD}
@@ -14,7 +13,7 @@ use Rattle.model.specs.declared.Outcome.the-variants.{Done, Stopped}
 use Rattle.operations.specs.Calls.{Call, creates, replaces, plan}
 use Rattle.operations.specs.Outcome.{made, left, largest}
 use Rattle.worked.specs.CardK.{k, span, route, trace, Row, row, file}
-use Rattle.worked.specs.Worked.{m4, k4, volume-k, CutRow, cut-at}
+use Rattle.worked.specs.Worked.{m4, k4, volume-k, cut-at}
 
 -- M3 and M4; then replace by 600 bytes, by none, an empty file by none, and by 100.
 abbrev pub replacements : Bytes → Bytes → List Call
