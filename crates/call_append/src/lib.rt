@@ -77,7 +77,7 @@ fn store_append(
         from,
         size,
     };
-    let q = log_steps::log_steps(w, v, log_steps::plain(o), limit - p.made);
+    let q = log_steps::plain_steps(w, v, o, limit - p.made);
     sector::joined(p, q)
 }
 

@@ -1,12 +1,19 @@
--- Create and rename ask grounds 1 to 7, and then what `create-on` and `rename-on` say.
-use mathlib.Core.Path.{_≡_}
-use Rattle.model.specs.Bytes.{Span}
+-- Create and rename ask grounds 1 to 7, and then what `create-on`, `create-long-on` and `rename-on` say.
+use mathlib.Core.Path.{_≡_, fun-ext}
+use Rattle.model.specs.Bytes.{Span, view, bytes-of}
 use Rattle.model.specs.Sector.{Window}
 use Rattle.model.specs.Ground.{refused, granted, _>>=_}
 use Rattle.model.specs.Volume.{clean}
 use Rattle.model.specs.declared.Ground.{Ground}
 use Rattle.model.specs.declared.Volume.{Volume}
-use Rattle.operations.specs.Calls.{create, rename, create-on, rename-on}
+use Rattle.operations.specs.Calls.{create, rename, create-on, rename-on, create-long, create-long-on}
+use Rattle.operations.specs.Plan.{text-of}
+use mathlib.Core.Logic.{⊎-elim}
+use mathlib.Core.List.{List}
+use Prim.Native.Nat.{ℕ}
+use lib.ListN.{length, List·getD-eq-default}
+use borrow.Author.Tests.{lt-ltb, le-ltb}
+use Rattle.model.proofs.Tests.{less?}
 
 module _ (w : Window) (n : Span) where
   pub create-refused : (g : Ground) → clean w ≡ refused g → create w n ≡ refused g
@@ -17,6 +24,15 @@ module _ (w : Window) (n : Span) where
   unfolding create _>>=_
   create-granted v e = rw e
 
+  module _ (t : Span) where
+    pub long-refused : (g : Ground) → clean w ≡ refused g → create-long w n t ≡ refused g
+    unfolding create-long _>>=_
+    long-refused g e = rw e
+
+    pub long-granted : (v : Volume) → clean w ≡ granted v → create-long w n t ≡ create-long-on v (w .card) n t
+    unfolding create-long _>>=_
+    long-granted v e = rw e
+
   module _ (m : Span) where
     pub rename-refused : (g : Ground) → clean w ≡ refused g → rename w n m ≡ refused g
     unfolding rename _>>=_
@@ -25,3 +41,8 @@ module _ (w : Window) (n : Span) where
     pub rename-granted : (v : Volume) → clean w ≡ granted v → rename w n m ≡ rename-on v (w .card) n m
     unfolding rename _>>=_
     rename-granted v e = rw e
+
+-- The characters in a slice, with nothing but zeros after them.
+pub view-text : (xs : List ℕ) → bytes-of xs ≡ text-of (view xs)
+view-text xs = fun-ext (λ i. ⊎-elim (λ less. rw (lt-ltb i (length xs) less))
+    (λ more. rw (le-ltb i (length xs) more) (List·getD-eq-default xs 0 {n = i} more)) (less? i (length xs)))

@@ -1,6 +1,5 @@
-// Create and rename: the calls that change the root directory and neither data nor FATs.
+// Create, with a long name or without, and rename: the calls that change the root directory and neither data nor FATs.
 use model::Access;
-use model::Change;
 use model::Entry;
 use model::File;
 use model::Ground;
@@ -13,40 +12,65 @@ use volume::Examined;
 ghost use mathlib.Core.Bool.{true, _&&_};
 ghost use mathlib.Core.Path.{_≡_};
 ghost use mathlib.Core.List.{[]};
-ghost use Prim.Native.Nat.{_<_};
-ghost use Rattle.model.specs.Bytes.{view};
+ghost use Prim.Native.Nat.{_%_, _≤_, _<_};
+ghost use lib.ListN.{length};
+ghost use Rattle.model.specs.Bytes.{bytes-of, view};
+ghost use Rattle.model.specs.Record.{with-text};
+ghost use Rattle.model.specs.Promises.{Texted, Room};
 ghost use Rattle.model.specs.Sector.{card-of, window-of};
 ghost use Rattle.model.specs.Root.{name-ok};
 ghost use Rattle.model.specs.Ground.{granted};
 ghost use Rattle.operations.specs.Finish.{Slots};
 ghost use Rattle.operations.specs.Plan.{operate, old-fat, create-stores, rename-stores};
-ghost use Rattle.operations.specs.Calls.{name-of, create-on, rename-as, rename-on, create, rename};
+ghost use Rattle.operations.specs.Calls.{name-of, create-as, create-on, create-long-on, rename-as, rename-on, create, create-long, rename};
 ghost use Rattle.volume.specs.Opened.{Ready};
 ghost use Rattle.log_steps.specs.Did.{Did};
 
-// The stores of a change that needs neither data nor FAT stores.
-fn record_change(w: &mut [u8], v: Volume, x: Change, limit: u32) -> Outcome
+// The stores of an operation with a text that needs neither data nor FAT stores.
+fn record_change(w: &mut [u8], v: Volume, o: Operation, text: &[u8], limit: u32) -> Outcome
     requires { ⌜ Ready v (now w) ⌝ }
-    requires { ⌜ Slots (v .layout .entries) x ⌝ }
+    requires { ⌜ Slots (v .layout .entries) (with-text o (bytes-of (now text))) × Texted (now text) × Room o (now text) ⌝ }
     ensures { λ r. ⌜
-        Did limit (granted (operate v (card-of (now (w .entry))) [] (old-fat v (card-of (now (w .entry)))) x)) (now (w .entry)) (now (w .exit)) r ⌝ }
+        Did limit
+        (granted (operate v (card-of (now (w .entry))) [] (old-fat v (card-of (now (w .entry)))) (with-text o (bytes-of (now (text .entry))))))
+        (now (w .entry)) (now (w .exit)) r ⌝ }
 {
-    log_steps::ended(log_steps::log_steps(w, v, x, limit))
+    log_steps::ended(log_steps::log_steps(w, v, o, text, limit))
 }
 
 // The stores of a create, once its slot is known.
-fn create_at(w: &mut [u8], v: Volume, name: &[u8], slot: u32, limit: u32) -> Outcome
+fn create_at(w: &mut [u8], v: Volume, name: &[u8], text: &[u8], slot: u32, limit: u32) -> Outcome
     requires { ⌜ Ready v (now w) ⌝ }
-    requires { ⌜ (slot < v .layout .entries) × (name-ok (view (now name)) ≡ true) ⌝ }
+    requires { ⌜
+        (slot < v .layout .entries) × (name-ok (view (now name)) ≡ true) × (length (now text) % 2 ≡ 0) × (length (now text) ≤ 416) ⌝ }
     ensures { λ r. ⌜
-        Did limit (granted (create-stores v (card-of (now (w .entry))) slot (name-of (view (now (name .entry)))))) (now (w .entry)) (now (w .exit)) r ⌝ }
+        Did limit (granted (create-stores v (card-of (now (w .entry))) slot (name-of (view (now (name .entry)))) (view (now (text .entry)))))
+        (now (w .entry)) (now (w .exit)) r ⌝ }
 {
     let entry = Entry {
         slot,
         name: root_names::name_of(name),
         attributes: 0x20,
     };
-    record_change(w, v, log_steps::plain(Operation::Create { entry }), limit)
+    let o = Operation::Create {
+        entry,
+        count: ((text.len() / 2 + 12) / 13) as u32,
+    };
+    record_change(w, v, o, text, limit)
+}
+
+// Create with a text, once NAME and LONGNAME are asked.
+fn create_as(w: &mut [u8], v: Volume, name: &[u8], text: &[u8], limit: u32) -> Outcome
+    requires { ⌜ Ready v (now w) ⌝ }
+    requires { ⌜ (name-ok (view (now name)) ≡ true) × (length (now text) % 2 ≡ 0) × (length (now text) ≤ 416) ⌝ }
+    ensures { λ r. ⌜
+        Did limit (create-as v (card-of (now (w .entry))) (view (now (name .entry))) (view (now (text .entry)))) (now (w .entry)) (now (w .exit)) r ⌝ }
+{
+    let p = root_lookup::new_slot(w, v, name, text);
+    match p {
+        Vacancy::Denied(g) => Outcome::Refused(g),
+        Vacancy::Slot(s) => create_at(w, v, name, text, s, limit),
+    }
 }
 
 // Create, on a clean card.
@@ -57,11 +81,8 @@ fn create_on(w: &mut [u8], v: Volume, name: &[u8], limit: u32) -> Outcome
     if !root_names::is_name(name) {
         return Outcome::Refused(Ground::Name);
     }
-    let p = root_lookup::new_slot(w, v, name);
-    match p {
-        Vacancy::Denied(g) => Outcome::Refused(g),
-        Vacancy::Slot(s) => create_at(w, v, name, s, limit),
-    }
+    let none = [0u8; 0];
+    create_as(w, v, name, &none, limit)
 }
 
 pub fn create(w: &mut [u8], name: &[u8], limit: u32) -> Outcome
@@ -71,6 +92,32 @@ pub fn create(w: &mut [u8], name: &[u8], limit: u32) -> Outcome
     match e {
         Examined::Refused(g) => Outcome::Refused(g),
         Examined::Granted(v) => create_on(w, v, name, limit),
+    }
+}
+
+// Create with a long name, on a clean card.
+fn create_long_on(w: &mut [u8], v: Volume, name: &[u8], text: &[u8], limit: u32) -> Outcome
+    requires { ⌜ Ready v (now w) ⌝ }
+    ensures { λ r. ⌜
+        Did limit (create-long-on v (card-of (now (w .entry))) (view (now (name .entry))) (view (now (text .entry)))) (now (w .entry)) (now (w .exit)) r ⌝ }
+{
+    if !root_names::is_name(name) {
+        return Outcome::Refused(Ground::Name);
+    }
+    if !root_names::is_text(text) {
+        return Outcome::Refused(Ground::Longname);
+    }
+    create_as(w, v, name, text, limit)
+}
+
+pub fn create_long(w: &mut [u8], name: &[u8], text: &[u8], limit: u32) -> Outcome
+    ensures { λ r. ⌜
+        Did limit (create-long (window-of (now (w .entry))) (view (now (name .entry))) (view (now (text .entry)))) (now (w .entry)) (now (w .exit)) r ⌝ }
+{
+    let e = volume::clean(w);
+    match e {
+        Examined::Refused(g) => Outcome::Refused(g),
+        Examined::Granted(v) => create_long_on(w, v, name, text, limit),
     }
 }
 
@@ -91,7 +138,8 @@ fn rename_to(w: &mut [u8], v: Volume, f: File, name: &[u8], to: u32, limit: u32)
         to,
         renamed: root_names::name_of(name),
     };
-    record_change(w, v, log_steps::plain(o), limit)
+    let none = [0u8; 0];
+    record_change(w, v, o, &none, limit)
 }
 
 // Rename of a file, whose new name keeps the name rule.
@@ -100,7 +148,8 @@ fn rename_as(w: &mut [u8], v: Volume, f: File, name: &[u8], limit: u32) -> Outco
     requires { ⌜ (f .entry .slot < v .layout .entries) × (name-ok (view (now name)) ≡ true) ⌝ }
     ensures { λ r. ⌜ Did limit (rename-as v (card-of (now (w .entry))) f (view (now (name .entry)))) (now (w .entry)) (now (w .exit)) r ⌝ }
 {
-    let p = root_lookup::new_slot(w, v, name);
+    let none = [0u8; 0];
+    let p = root_lookup::new_slot(w, v, name, &none);
     match p {
         Vacancy::Denied(g) => Outcome::Refused(g),
         Vacancy::Slot(s) => rename_to(w, v, f, name, s, limit),

@@ -1,5 +1,6 @@
-// Read and list: a card that is clean, and what they leave in a lent buffer.
+// Read, list and the reading of a long name: a card that is clean, and what they leave in a lent buffer.
 use model::Access;
+use model::Ground;
 use model::Layout;
 use model::Outcome;
 use model::Volume;
@@ -9,11 +10,12 @@ ghost use lib.ListN.{length, getD};
 ghost use Rattle.model.specs.Bytes.{view, bytes-of, overlay};
 ghost use Rattle.model.specs.Sector.{card-of, window-of};
 ghost use Rattle.model.specs.Promises.{Held};
-ghost use Rattle.operations.specs.Reading.{read-on, read, list, shown, directory-listing};
+ghost use Rattle.operations.specs.Reading.{read-on, read, list, shown, directory-listing, long-reading, long-name-on, long-name};
 ghost use Rattle.call_read.specs.Gave.{Gave};
 ghost use mathlib.Core.Path.{_≡_};
-ghost use Prim.Native.Nat.{ℕ, _+_, _≤_, _<_};
+ghost use Prim.Native.Nat.{ℕ, _+_, _*_, _/_, _≤_, _<_, min};
 ghost use Rattle.model.specs.Root.{slot-at};
+ghost use Rattle.model.specs.LongName.{long-byte};
 ghost use Rattle.operations.specs.Promises.{Fills};
 ghost use Rattle.call_read.specs.Filled.{Listed};
 
@@ -101,5 +103,66 @@ pub fn read(w: &[u8], name: &[u8], offset: u64, buffer: &mut [u8]) -> Outcome
     match e {
         Examined::Refused(g) => Outcome::Refused(g),
         Examined::Granted(v) => read_from(w, v, name, offset, buffer),
+    }
+}
+
+// The first n characters in the long entries of slot s, as many as fit.
+fn copy_characters(out: &mut [u8], w: &[u8], l: Layout, s: u32, n: u32)
+    requires { ⌜ Held l (now w) × (s < l .entries) × (n ≤ 13 * s) ⌝ }
+    ensures { λ _. ⌜
+        ((i : ℕ) → getD (now (out .exit)) i 0
+        ≡ overlay (2 * min (length (now (out .entry)) / 2) n) (long-byte (slot-at l (card-of (now (w .entry)))) s) 0 (bytes-of (now (out .entry))) i) ⌝ }
+{
+    let room = out.len() / 2 * 2;
+    let end = 2 * n;
+    let mut i = 0;
+    while i < end {
+        let at = sector::index(i);
+        if room <= at {
+            return;
+        }
+        out[at] = root_long::long_byte(w, l, s, i) as u8;
+        i += 1;
+    }
+}
+
+// The long name of slot s, as many characters as fit, and how many there are.
+fn copy_name(out: &mut [u8], w: &[u8], l: Layout, s: u32) -> u32
+    requires { ⌜ Held l (now w) × (s < l .entries) ⌝ }
+    ensures { λ r. ⌜
+        Fills (long-reading (slot-at l (card-of (now (w .entry)))) s (length (now (out .entry)))) (now (out .entry)) (now (out .exit)) r ⌝ }
+{
+    let n = root_long::long_length(w, l, s);
+    copy_characters(out, w, l, s, n);
+    n
+}
+
+// NAME and ABSENT; a directory's long name is read too.
+fn long_name_on(w: &[u8], v: Volume, name: &[u8], buffer: &mut [u8]) -> Outcome
+    requires { ⌜ Held (v .layout) (now w) ⌝ }
+    ensures { λ r. ⌜
+        Gave (long-name-on v (card-of (now (w .entry))) (view (now (name .entry))) (length (now (buffer .entry)))) (now (buffer .entry))
+        (now (buffer .exit)) r ⌝ }
+{
+    if !root_names::is_name(name) {
+        return Outcome::Refused(Ground::Name);
+    }
+    let l = v.layout;
+    let s = root_lookup::slot_of(w, v, name);
+    if l.entries <= s {
+        return Outcome::Refused(Ground::Absent);
+    }
+    Outcome::Done(copy_name(buffer, w, l, s))
+}
+
+pub fn long_name(w: &[u8], name: &[u8], buffer: &mut [u8]) -> Outcome
+    ensures { λ r. ⌜
+        Gave (long-name (window-of (now (w .entry))) (view (now (name .entry))) (length (now (buffer .entry)))) (now (buffer .entry))
+        (now (buffer .exit)) r ⌝ }
+{
+    let e = volume::clean(w);
+    match e {
+        Examined::Refused(g) => Outcome::Refused(g),
+        Examined::Granted(v) => long_name_on(w, v, name, buffer),
     }
 }

@@ -7,13 +7,11 @@ use mathlib.Core.List.{List}
 use lib.ListN.{length}
 use Rattle.model.specs.Bytes.{Bytes}
 use Rattle.model.specs.Sector.{Window, card-of}
-use Rattle.model.specs.Root.{first-bytes, end-slot}
 use Rattle.model.specs.Log.{Log, log-of}
-use Rattle.model.specs.Record.{record-at, change-of, group-in}
-use Rattle.model.specs.Pending.{pending, accepted, group-ok, records-ok}
+use Rattle.model.specs.Record.{Group, record-at, text-in, change-of, group-in}
+use Rattle.model.specs.Pending.{seen-end, pending, accepted, group-ok, records-ok}
 use Rattle.model.specs.Ground.{refused, granted, _>>=_}
 use Rattle.model.specs.Volume.{examine}
-use Rattle.model.specs.declared.Group.{Group}
 use Rattle.model.specs.declared.Ground.{Ground}
 use Rattle.model.specs.declared.Volume.{Volume}
 use Rattle.model.specs.declared.Pending.the-variants as Pending
@@ -48,11 +46,12 @@ pub record Redoable (v : Volume) (g : Group) : Type 0 where
 
 -- The group in sector s, which is pending.
 module _ (v : Volume) (xs : List ℕ) (h : Legible v xs) (s : ℕ) (held : v .pending ≡ Pending.Held s) where
-  abbrev z : ℕ
-  z = end-slot (v .layout .entries) (first-bytes (v .layout) (card-of xs))
+  -- The lowest slot beginning 0, as RECORD reads it for the group in a sector.
+  abbrev z : Bytes → ℕ
+  z = seen-end (v .layout) (card-of xs)
 
   place : (i : ℕ) × (i < v .log .sectors) × (s ≡ v .log .sector + i)
-      × (accepted (v .layout .entries) z (v .log .sectors) (log-of (v .log) (card-of xs)) (16 * i) ≡ true)
+      × (accepted (v .layout .entries) (z (log-of (v .log) (card-of xs) i)) (v .log .sectors) (log-of (v .log) (card-of xs)) (16 * i) ≡ true)
   unfolding pending
   place =
       let e = examined (length xs) (card-of xs) v (h .passes) .1 in
@@ -67,14 +66,14 @@ module _ (v : Volume) (xs : List ℕ) (h : Legible v xs) (s : ℕ) (held : v .pe
   sector-high = omega (arith, h .lies .inside, place .1, place .2)
 
   pub redoable : Redoable v (group-in s (card-of xs s))
-  unfolding group-in
+  unfolding group-in change-of
   redoable =
       let b : Bytes = log-of (v .log) (card-of xs) (place .0) in
       let at : b ≡ card-of xs s = ap (card-of xs) (sym (place .2)) in
-      let ok = held-ok (v .layout .entries) z (v .log .sectors) (log-of (v .log) (card-of xs)) (place .0) (place .3) in
+      let ok = held-ok (v .layout .entries) (z b) (v .log .sectors) (log-of (v .log) (card-of xs)) (place .0) (place .3) in
       record {
-        slots = subst (λ (x : Bytes). Slots (v .layout .entries) (change-of (record-at x))) at
-            (told-slots (v .layout .entries) z (record-at b) (records-of (v .layout .entries) z b ok));
+        slots = subst (λ (x : Bytes). Slots (v .layout .entries) (change-of x)) at
+            (told-slots (v .layout .entries) (z b) (record-at b) (text-in b) (records-of (v .layout .entries) (z b) b ok));
         low = sector-low;
         high = sector-high;
       }

@@ -21,8 +21,9 @@ fn recover_on(w: &mut [u8], v: Volume, limit: u32) -> Outcome
         Pending::Nothing => log_steps::ended(fat_copy::to_fat2(w, l, limit)),
         Pending::Broken => Outcome::Done(0),
         Pending::Held(s) => {
-            let g = log_group::group_at(w, s);
-            log_steps::ended(log_steps::redo(w, l, g, limit))
+            let plan = log_group::plan_at(w, s);
+            let text = log_group::text_at(w, s);
+            log_steps::ended(log_steps::redo(w, l, plan, &text, limit))
         }
     }
 }

@@ -99,7 +99,7 @@ fn store_replace(w: &mut [u8], v: Volume, f: File, n: u32, bytes: &[u8], limit: 
         from,
         size,
     };
-    let q = log_steps::log_steps(w, v, log_steps::plain(o), limit - p.made);
+    let q = log_steps::plain_steps(w, v, o, limit - p.made);
     sector::joined(p, q)
 }
 

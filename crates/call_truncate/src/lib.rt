@@ -1,6 +1,5 @@
 // Truncate and delete: the calls that free clusters.
 use model::Access;
-use model::Change;
 use model::File;
 use model::Ground;
 use model::Layout;
@@ -16,6 +15,7 @@ ghost use Rattle.model.specs.Bytes.{view};
 ghost use Rattle.model.specs.Sector.{card-of, window-of};
 ghost use Rattle.model.specs.Fat.{entry, fat1-of};
 ghost use Rattle.model.specs.Chain.{chain};
+ghost use Rattle.model.specs.Record.{plain};
 ghost use Rattle.model.specs.Promises.{Held, Ran};
 ghost use Rattle.operations.specs.Finish.{Slots};
 ghost use Rattle.operations.specs.Program.{stores};
@@ -35,13 +35,13 @@ pub struct Tail {
     pub freed: u32,
 }
 
-// The stores of a change that cuts a chain: FAT2's, then those that its group makes to be done.
-fn shorten(w: &mut [u8], v: Volume, c: Tail, x: Change, limit: u32) -> Progress
+// The stores of an operation that cuts a chain: FAT2's, then those that its group makes to be done.
+fn shorten(w: &mut [u8], v: Volume, c: Tail, o: Operation, limit: u32) -> Progress
     requires { ⌜ Ready v (now w) ⌝ }
     requires { ⌜ Inside (v .layout) (chain (entry (fat1-of (v .layout) (card-of (now w)))) (c .freed) (c .from)) ⌝ }
-    requires { ⌜ Slots (v .layout .entries) x ⌝ }
+    requires { ⌜ Slots (v .layout .entries) (plain o) ⌝ }
     ensures { λ r. ⌜
-        Ran limit (stores (operate v (card-of (now (w .entry))) [] (cut (old-fat v (card-of (now (w .entry)))) (c .kept) (c .from) (c .freed)) x))
+        Ran limit (stores (operate v (card-of (now (w .entry))) [] (cut (old-fat v (card-of (now (w .entry)))) (c .kept) (c .from) (c .freed)) (plain o)))
         (now (w .entry)) (now (w .exit)) (r .made) (r .whole) ⌝ }
 {
     let l = v.layout;
@@ -49,7 +49,7 @@ fn shorten(w: &mut [u8], v: Volume, c: Tail, x: Change, limit: u32) -> Progress
     if !p.whole {
         return p;
     }
-    let q = log_steps::log_steps(w, v, x, limit - p.made);
+    let q = log_steps::plain_steps(w, v, o, limit - p.made);
     sector::joined(p, q)
 }
 
@@ -72,7 +72,7 @@ fn delete_file(w: &mut [u8], v: Volume, f: File, limit: u32) -> Progress
         first: f.first,
         size: f.size,
     };
-    shorten(w, v, c, log_steps::plain(o), limit)
+    shorten(w, v, c, o, limit)
 }
 
 // Delete, on a clean card.
@@ -141,7 +141,7 @@ fn truncate_file(w: &mut [u8], v: Volume, f: File, size: u32, limit: u32) -> Pro
         from: c.from,
         size,
     };
-    shorten(w, v, c, log_steps::plain(o), limit)
+    shorten(w, v, c, o, limit)
 }
 
 // LENGTH, and a size that is the present one. Any other fits 32 bits.

@@ -7,9 +7,9 @@ ghost use Rattle.model.specs.Bytes.{view};
 ghost use Rattle.model.specs.Sector.{window-of};
 ghost use Rattle.model.specs.Ground.{ground-number};
 ghost use Rattle.operations.specs.Outcome.{outcome-number};
-ghost use Rattle.operations.specs.Reading.{read, list};
+ghost use Rattle.operations.specs.Reading.{read, list, long-name};
 ghost use Rattle.operations.specs.Fitting.{fits, fit-outcome};
-ghost use Rattle.operations.specs.Calls.{create, append, replace, truncate, delete, rename, recover};
+ghost use Rattle.operations.specs.Calls.{create, create-long, append, replace, truncate, delete, rename, recover};
 ghost use Rattle.operations.specs.Promises.{Called, Answered};
 
 fn ground_number(g: Ground) -> u32
@@ -32,6 +32,7 @@ fn ground_number(g: Ground) -> u32
         Ground::Length => 14,
         Ground::Nospace => 15,
         Ground::Locked => 16,
+        Ground::Longname => 17,
     }
 }
 
@@ -53,6 +54,16 @@ pub extern "C" fn lfat_create(card: &mut [u8], name: &[u8], limit: u32) -> u64
     ensures { λ r. ⌜ Called limit (create (window-of (now (card .entry))) (view (now (name .entry)))) (now (card .entry)) (now (card .exit)) r ⌝ }
 {
     number_of(call_create::create(card, name, limit))
+}
+
+// A new file of no bytes with a long name, its characters as two bytes each.
+#[no_mangle]
+pub extern "C" fn lfat_create_long(card: &mut [u8], name: &[u8], chars: &[u8], limit: u32) -> u64
+    ensures { λ r. ⌜
+        Called limit (create-long (window-of (now (card .entry))) (view (now (name .entry))) (view (now (chars .entry)))) (now (card .entry))
+        (now (card .exit)) r ⌝ }
+{
+    number_of(call_create::create_long(card, name, chars, limit))
 }
 
 // Bytes at a file's end.
@@ -124,6 +135,16 @@ pub extern "C" fn lfat_read(card: &[u8], name: &[u8], offset: u64, buffer: &mut 
         (now (buffer .exit)) r ⌝ }
 {
     number_of(call_read::read(card, name, offset, buffer))
+}
+
+// Copies the characters of a file's or a directory's long name into the buffer, two bytes each, as many as fit; counts how many there are.
+#[no_mangle]
+pub extern "C" fn lfat_long_name(card: &[u8], name: &[u8], buffer: &mut [u8]) -> u64
+    ensures { λ r. ⌜
+        Answered (long-name (window-of (now (card .entry))) (view (now (name .entry))) (length (now (buffer .entry)))) (now (buffer .entry))
+        (now (buffer .exit)) r ⌝ }
+{
+    number_of(call_read::long_name(card, name, buffer))
 }
 
 // Whether so many bytes would fit into an empty file, and up to which cluster.

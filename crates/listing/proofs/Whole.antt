@@ -1,4 +1,4 @@
--- The pieces, one after the other, are the text.
+-- The pieces, one after the other, are the text; the lines that they hold.
 use Prim.Native.Nat.{ℕ, zero, suc, _+_, _-_, _*_, _/_, _%_, _≤_, _<_}
 use native.Mathlib.Omega.{arith}
 use native.Mathlib.Numerals.{add-one}
@@ -7,13 +7,16 @@ use mathlib.Core.Logic.{_⊎_, inl, inr}
 use mathlib.Core.Bool.{Bool, true, false}
 use mathlib.Core.List.{List, [], _∷_, _++_, map, append-nil, append-assoc, map-append}
 use lib.Dec.{leb, eqb}
-use borrow.Author.Tests.{leb-true}
-use Rattle.model.specs.Bytes.{Bytes, Span, pick, part}
+use borrow.Author.Tests.{leb-true, eqb-true}
+use Rattle.model.specs.Bytes.{Bytes, Span, pick, part, bytes-of}
 use Rattle.model.specs.Scan.{walk, indices-from, range}
+use Rattle.model.specs.Sector.{card-of}
 use Rattle.model.specs.Text.{join}
+use Rattle.model.specs.Record.{leads, tells}
 use Rattle.model.specs.Listing.{record-line, record-lines, has-line, is-table, table-text, log-text}
 use Rattle.model.proofs.Tests.{told, every-at}
 use Rattle.model.proofs.Scan.{indices-none, indices-step}
+use Rattle.model.proofs.Sectors.{byte-in}
 use Rattle.listing.specs.Pieces.{heading, record-text, pieces, piece, text-from}
 
 join-append : (xs ys : List (List ℕ)) → join (xs ++ ys) ≡ join xs ++ join ys
@@ -89,16 +92,26 @@ pub table-short : (t : Span) → is-table t ≡ true → t .size ≤ 65536
 unfolding is-table
 table-short t h = leb-true (t .size) 65536 (every-at (leb 1 (t .size) ∷ leb (t .size) 65536 ∷ eqb (t .size % 512) 0 ∷ []) h 1)
 
--- Piece i is that of record i - 1, which the table holds.
+-- Piece i is that of record i - 1, whose sector the table holds.
 pub piece-record : (t : Span) (i : ℕ) → (i ≡ 0 → ⊥) → piece t i ≡ record-text (t .byte) (i - 1)
 unfolding piece
 piece-record t zero h = absurd (h refl)
 piece-record t (suc k) h = let e : k ≡ suc k - 1 = omega arith in ap (record-text (t .byte)) e
 
-pub record-within : (t : Span) (i : ℕ) → (i ≡ 0 → ⊥) → i < pieces t → 32 * (i - 1) + 32 ≤ t .size
-unfolding pieces
+pub record-within : (t : Span) (i : ℕ) → (i ≡ 0 → ⊥) → i < pieces t → 512 * ((i - 1) / 16) + 512 ≤ t .size
+unfolding pieces is-table
 record-within t i h l = go (told (is-table t))
   where
-    go : (is-table t ≡ true) ⊎ (is-table t ≡ false) → 32 * (i - 1) + 32 ≤ t .size
-    go (inl e) = let z : i < t .size / 32 + 1 = rw e at l in omega arith
+    go : (is-table t ≡ true) ⊎ (is-table t ≡ false) → 512 * ((i - 1) / 16) + 512 ≤ t .size
+    go (inl e) =
+        let z : i < t .size / 32 + 1 = rw e at l in
+        let whole : t .size % 512 ≡ 0 = eqb-true _ _ (every-at _ e 2) in
+        omega arith
     go (inr e) = let z : i < 1 = rw e at l in absurd (omega arith)
+
+-- Whether a record has a line is told by its sector.
+pub line-told : (xs : List ℕ) (k : ℕ) → tells (card-of xs (k / 16)) (k % 16) ≡ has-line (bytes-of xs) k
+unfolding has-line tells leads
+line-told xs k =
+    let s : ℕ = k / 16 in
+    rw (byte-in xs s (32 * (k % 16)) (omega arith), byte-in xs s 0 (omega arith), byte-in xs s 12 (omega arith), byte-in xs s 13 (omega arith))

@@ -1,6 +1,6 @@
 // The text of a log table, piece by piece: its heading, then the line of each record that has one.
 ghost use mathlib.Core.Path.{_≡_};
-ghost use Prim.Native.Nat.{_+_, _*_, _≤_, _<_};
+ghost use Prim.Native.Nat.{_+_, _*_, _/_, _≤_, _<_};
 ghost use lib.ListN.{length};
 ghost use Rattle.model.specs.Bytes.{view, bytes-of};
 ghost use Rattle.model.specs.Listing.{is-table};
@@ -49,11 +49,11 @@ fn put_heading(out: &mut [u8], at: usize, table: &[u8]) -> usize
 
 // The line of record k, if it has one.
 fn put_line(out: &mut [u8], at: usize, table: &[u8], k: u32) -> usize
-    requires { ⌜ (32 * k + 32 ≤ length (now table)) × (at + 119 ≤ length (now out)) ⌝ }
+    requires { ⌜ (512 * (k / 16) + 512 ≤ length (now table)) × (at + 119 ≤ length (now out)) ⌝ }
     ensures { λ e. ⌜
         Wrote (record-text (bytes-of (now (table .entry))) k) (now (out .entry)) (now (out .exit)) at e × (e ≤ at + 119) ⌝ }
 {
-    if sector::byte(table, k / 16, 32 * (k % 16)) == 0 {
+    if !log_record::tells(table, k / 16, k % 16) {
         return at;
     }
     listing_line::put_record(out, at, table, k)

@@ -1,9 +1,25 @@
--- The operation that records tell of, by its number.
-use Prim.Native.Nat.{ℕ}
-use mathlib.Core.Path.{_≡_}
+-- The operation that records tell of, by its number; the characters after them.
+use Prim.Native.Nat.{ℕ, _+_, _*_, _≤_, _<_}
+use native.Mathlib.Omega.{arith}
+use mathlib.Core.Path.{_≡_, sym, ap, _∙_, fun-ext}
+use mathlib.Core.Logic.{⊎-elim}
+use mathlib.Core.List.{List}
+use mathlib.Core.Bool.{true, false, not}
 use lib.Dec.{eqb}
-use borrow.Author.Tests.{ne-eqb}
-use Rattle.model.specs.Record.{entry-in, operation-of}
+use lib.ListN.{length, getD, take, drop, length-take, length-drop, List·getD-eq-default}
+use lib.Seq.{getD-take, getD-drop}
+use borrow.Author.Tests.{ne-eqb, lt-ltb, le-ltb}
+use Rattle.model.specs.Bytes.{Bytes, bytes-of, overlay, part, zeros}
+use Rattle.model.specs.Scan.{all}
+use Rattle.model.specs.Sector.{card-of}
+use Rattle.model.specs.LongName.{character, forbidden, all-allowed}
+use Rattle.model.specs.Record.{entry-in, operation-records, operation-of, record-at, text-length, leads, text-in, group-size}
+use Rattle.model.proofs.Tests.{told, less?, every-at}
+use Rattle.model.proofs.Scan.{first-le0, all-of0}
+use Rattle.model.proofs.Overlays.{over-first}
+use Rattle.model.proofs.Sectors.{byte-in}
+use Rattle.model.proofs.Records.{zeros-length}
+use Rattle.model.proofs.Texts.{told-records}
 use Rattle.model.specs.declared.Record.{Record}
 use Rattle.model.specs.declared.Operation.the-variants.{Create, Update, Delete, Truncate, Rename, Replace}
 
@@ -11,7 +27,7 @@ module _ (rs : ℕ → Record) where
   tests : (k : ℕ) → rs 0 .number ≡ k → (j : ℕ) → eqb (rs 0 .number) j ≡ eqb k j
   tests k e j = λ i. eqb (e i) j
 
-  pub told-create : rs 0 .number ≡ 1 → operation-of rs ≡ Create (entry-in (rs 0))
+  pub told-create : rs 0 .number ≡ 1 → operation-of rs ≡ Create (entry-in (rs 0)) (rs 0 .count)
   unfolding operation-of
   told-create n = rw (tests 1 n 1)
 
@@ -36,3 +52,69 @@ module _ (rs : ℕ → Record) where
   unfolding operation-of
   told-replace n1 n2 n3 n4 n5 =
       let n = rs 0 .number in rw (ne-eqb n 1 n1, ne-eqb n 2 n2, ne-eqb n 3 n3, ne-eqb n 4 n4, ne-eqb n 5 n5)
+
+-- ---- the characters of a sector
+
+-- A sector that is not led has none.
+pub text-none : (b : Bytes) → leads b ≡ false → text-in b ≡ zeros
+unfolding text-in
+text-none b h = fun-ext (λ i. rw h)
+
+pub none-there : (b : Bytes) → leads b ≡ false → text-length (text-in b) ≡ 0
+none-there b h = ap text-length (text-none b h) ∙ zeros-length
+
+-- One record tells the operation of a sector that is led; two at most tell any.
+led-size : (b : Bytes) → leads b ≡ true → group-size (record-at b) ≡ 1
+unfolding leads group-size operation-of operation-records
+led-size b h = rw (every-at _ h 1)
+
+size-few : (rs : ℕ → Record) → group-size rs ≤ 2
+unfolding group-size
+size-few rs = told-records (operation-of rs) .1
+
+pub text-few : (b : Bytes) → text-length (text-in b) ≤ 240
+unfolding text-length
+text-few b = first-le0 (λ q. eqb (character (text-in b) q) 0) 240
+
+-- There is room for both.
+pub text-room : (b : Bytes) → 32 * group-size (record-at b) + 2 * text-length (text-in b) ≤ 512
+text-room b = ⊎-elim (λ h. omega (arith, led-size b h, text-few b)) (λ h. omega (arith, none-there b h, size-few (record-at b))) (told (leads b))
+
+-- Those of sector s are the part of the table that follows its record 0.
+module _ (xs : List ℕ) (s k : ℕ) (fits : 512 * s + 512 ≤ length xs) (is : k ≡ 480) where
+  abbrev lent : List ℕ
+  lent = take k (drop (512 * s + 32) xs)
+
+  pub lent-length : length lent ≡ 480
+  lent-length = simp (length-take, length-drop) (omega arith)
+
+  lent-byte : (i : ℕ) → i < 480 → getD lent i 0 ≡ card-of xs s (32 + i)
+  lent-byte i less =
+      let inside : i < k = omega arith in
+      let small : 32 + i < 512 = omega arith in
+      let at : 512 * s + 32 + i ≡ 512 * s + (32 + i) = omega arith in
+      getD-take k (drop (512 * s + 32) xs) i 0 inside ∙ getD-drop (512 * s + 32) xs i 0 ∙ ap (λ (j : ℕ). getD xs j 0) at ∙ sym (byte-in xs s (32 + i) small)
+
+  pub lent-text : leads (card-of xs s) ≡ true → bytes-of lent ≡ text-in (card-of xs s)
+  unfolding text-in
+  lent-text h = fun-ext (λ i. rw h (⊎-elim
+      (λ less. rw (lt-ltb i 480 less) (lent-byte i less))
+      (λ more. rw (le-ltb i 480 more) (List·getD-eq-default lent 0 {n = i} (omega (arith, lent-length)))) (less? i 480)))
+
+  -- They are judged by this part, whether it is led or not.
+  pub lent-allowed : (n : ℕ) → n ≡ text-length (text-in (card-of xs s)) → all-allowed (bytes-of lent) n ≡ all-allowed (text-in (card-of xs s)) n
+  unfolding all-allowed
+  lent-allowed n e = ⊎-elim
+      (λ h. ap (λ (t : Bytes). all (λ q. not (forbidden (character t q))) n) (lent-text h))
+      (λ h. let none : n ≡ 0 = e ∙ none-there (card-of xs s) h in
+      all-of0 _ n (λ q less. absurd (omega arith)) ∙ sym (all-of0 _ n (λ q less. absurd (omega arith)))) (told (leads (card-of xs s)))
+
+-- A copy of that part over zeros.
+pub copied-text : (xs : List ℕ) (s : ℕ) (old r : Bytes) → 512 * s + 512 ≤ length xs → leads (card-of xs s) ≡ true → old ≡ zeros
+    → ((j : ℕ) → r j ≡ overlay 480 (part (bytes-of xs) (512 * s + 32)) 0 old j) → r ≡ text-in (card-of xs s)
+unfolding text-in
+copied-text xs s old r fits h blank is = fun-ext (λ i. is i ∙ over-first 480 (part (bytes-of xs) (512 * s + 32)) old i ∙ rw h (⊎-elim
+    (λ less. let at : 512 * s + 32 + i ≡ 512 * s + (32 + i) = omega arith in
+    let small : 32 + i < 512 = omega arith in
+    rw (lt-ltb i 480 less) (ap (λ (j : ℕ). getD xs j 0) at ∙ sym (byte-in xs s (32 + i) small)))
+    (λ more. rw (le-ltb i 480 more) (λ t. blank t i)) (less? i 480)))

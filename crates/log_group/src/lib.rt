@@ -1,23 +1,23 @@
 // The group in a log sector: whether RECORD takes its records, and the operation that they tell of.
-use model::Change;
 use model::Entry;
-use model::Group;
 use model::Operation;
+use model::Plan;
 ghost use mathlib.Core.Path.{_≡_};
-ghost use Prim.Native.Nat.{_+_, _*_, _≤_, _<_};
+ghost use Prim.Native.Nat.{_+_, _*_, _/_, _≤_, _<_};
 ghost use lib.ListN.{length};
 ghost use Rattle.model.specs.Sector.{card-of};
+ghost use mathlib.Core.Bool.{_&&_};
 ghost use Rattle.model.specs.Scan.{all};
-ghost use Rattle.model.specs.Record.{record-at, records, operation-of, change-of, group-size, group-in, pends};
-ghost use Rattle.model.specs.Pending.{empty-from, group-ok};
+ghost use Rattle.model.specs.Bytes.{bytes-of};
+ghost use Rattle.model.specs.Record.{record-at, operation-records, operation-of, text-length, text-in, change-of, group-size, planned, group-in, pends};
+ghost use Rattle.model.specs.Pending.{fills, characters-ok, empty-from, group-ok};
 
-// How many records the group of a change has.
-pub fn records_of(x: Change) -> u32
-    ensures { λ r. ⌜ (r ≡ length (records x)) × (1 ≤ r) × (r ≤ 16) ⌝ }
+// How many records tell an operation.
+pub fn records_of(o: Operation) -> u32
+    ensures { λ r. ⌜ (r ≡ length (operation-records o)) × (1 ≤ r) × (r ≤ 2) ⌝ }
 {
-    let o = x.operation;
     match o {
-        Operation::Create { entry: _ } => 1,
+        Operation::Create { entry: _, count: _ } => 1,
         Operation::Update {
             entry: _,
             last: _,
@@ -53,8 +53,57 @@ pub fn records_of(x: Change) -> u32
     }
 }
 
+// How many records a group has: those that tell its operation, and those of n characters.
+pub fn group_records(o: Operation, n: u32) -> u32
+    requires { ⌜ 32 * length (operation-records o) + 2 * n ≤ 512 ⌝ }
+    ensures { λ r. ⌜ (r ≡ length (operation-records o) + (n + 15) / 16) × (r ≤ 16) ⌝ }
+{
+    records_of(o) + (n + 15) / 16
+}
+
+// How many long slots an operation fills.
+fn fills(o: Operation) -> u32
+    ensures { λ r. ⌜ r ≡ fills o ⌝ }
+{
+    match o {
+        Operation::Create { entry: _, count } => count,
+        Operation::Update {
+            entry: _,
+            last: _,
+            from: _,
+            size: _,
+        } => 0,
+        Operation::Delete {
+            entry: _,
+            count: _,
+            first: _,
+            size: _,
+        } => 0,
+        Operation::Truncate {
+            entry: _,
+            first: _,
+            from: _,
+            size: _,
+        } => 0,
+        Operation::Rename {
+            entry: _,
+            count: _,
+            first: _,
+            size: _,
+            to: _,
+            renamed: _,
+        } => 0,
+        Operation::Replace {
+            entry: _,
+            first: _,
+            from: _,
+            size: _,
+        } => 0,
+    }
+}
+
 // The operation that the records tell of.
-fn decode(log: &[u8], s: u32) -> Operation
+pub fn operation_at(log: &[u8], s: u32) -> Operation
     requires { ⌜ 512 * s + 512 ≤ length (now log) ⌝ }
     ensures { λ r. ⌜ r ≡ operation-of (record-at (card-of (now (log .entry)) s)) ⌝ }
 {
@@ -67,7 +116,10 @@ fn decode(log: &[u8], s: u32) -> Operation
     };
     let number = r.number;
     match number {
-        1 => Operation::Create { entry },
+        1 => Operation::Create {
+            entry,
+            count: r.count,
+        },
         2 => Operation::Update {
             entry,
             last: r.cluster,
@@ -107,22 +159,49 @@ fn decode(log: &[u8], s: u32) -> Operation
     }
 }
 
-// The change that the records tell.
-fn change_at(log: &[u8], s: u32) -> Change
-    requires { ⌜ 512 * s + 512 ≤ length (now log) ⌝ }
-    ensures { λ r. ⌜ r ≡ change-of (record-at (card-of (now (log .entry)) s)) ⌝ }
-{
-    Change {
-        operation: decode(log, s),
-    }
-}
-
-// How many records the group has.
+// How many records of the group tell its operation.
 pub fn group_size(log: &[u8], s: u32) -> u32
     requires { ⌜ 512 * s + 512 ≤ length (now log) ⌝ }
-    ensures { λ r. ⌜ (r ≡ group-size (record-at (card-of (now (log .entry)) s))) × (1 ≤ r) × (r ≤ 16) ⌝ }
+    ensures { λ r. ⌜ (r ≡ group-size (record-at (card-of (now (log .entry)) s))) × (1 ≤ r) × (r ≤ 2) ⌝ }
 {
-    records_of(change_at(log, s))
+    records_of(operation_at(log, s))
+}
+
+// How many characters stand in the records after record 0: none where that leads nothing.
+fn text_length(log: &[u8], s: u32) -> u32
+    requires { ⌜ 512 * s + 512 ≤ length (now log) ⌝ }
+    ensures { λ r. ⌜ r ≡ text-length (text-in (card-of (now (log .entry)) s)) ⌝ }
+{
+    if !log_record::leads(log, s) {
+        return 0;
+    }
+    let from = 512 * sector::index(s) + 32;
+    root_names::text_length(&log[from..from + 480])
+}
+
+// Whether the characters are allowed ones, as many as the long slots of the operation need.
+fn characters_ok(log: &[u8], s: u32, n: u32) -> bool
+    requires { ⌜ (512 * s + 512 ≤ length (now log)) × (n ≡ text-length (text-in (card-of (now log) s))) ⌝ }
+    ensures { λ r. ⌜ r ≡ characters-ok (change-of (card-of (now (log .entry)) s)) ⌝ }
+{
+    if (n + 12) / 13 != fills(operation_at(log, s)) {
+        return false;
+    }
+    let from = 512 * sector::index(s) + 32;
+    root_names::all_allowed(&log[from..from + 480], sector::index(n))
+}
+
+// The characters, with zeros after them.
+pub fn text_at(w: &[u8], s: u32) -> [u8; 480]
+    requires { ⌜ 512 * s + 512 ≤ length (now w) ⌝ }
+    ensures { λ r. ⌜ bytes-of r ≡ text-in (card-of (now (w .entry)) s) ⌝ }
+{
+    let mut t = [0u8; 480];
+    if !log_record::leads(w, s) {
+        return t;
+    }
+    sector::copy(&mut t, 0, w, 512 * sector::index(s) + 32, 480);
+    t
 }
 
 // Whether the first m records of the sector are pending.
@@ -155,6 +234,20 @@ fn is_empty(log: &[u8], s: u32, from: u32) -> bool
     true
 }
 
+// The characters after the m records that tell the operation, and only zeros after them.
+fn text_ok(log: &[u8], s: u32, m: u32) -> bool
+    requires { ⌜ (512 * s + 512 ≤ length (now log)) × (m ≡ group-size (record-at (card-of (now log) s))) ⌝ }
+    ensures { λ r. ⌜
+        r ≡ (characters-ok (change-of (card-of (now (log .entry)) s))
+        && empty-from (32 * m + 2 * text-length (text-in (card-of (now (log .entry)) s))) (card-of (now (log .entry)) s)) ⌝ }
+{
+    let n = text_length(log, s);
+    if !characters_ok(log, s, n) {
+        return false;
+    }
+    is_empty(log, s, 32 * m + 2 * n)
+}
+
 // Whether the records of sector s are a group; z is the lowest root slot beginning 0.
 pub fn group_ok(log: &[u8], s: u32, entries: u32, z: u32) -> bool
     requires { ⌜ 512 * s + 512 ≤ length (now log) ⌝ }
@@ -167,18 +260,18 @@ pub fn group_ok(log: &[u8], s: u32, entries: u32, z: u32) -> bool
     if !all_pend(log, s, m) {
         return false;
     }
-    is_empty(log, s, 32 * m)
+    text_ok(log, s, m)
 }
 
-// The group in sector s of a card.
-pub fn group_at(w: &[u8], s: u32) -> Group
+// The plan of what the group in sector s of a card makes to be done.
+pub fn plan_at(w: &[u8], s: u32) -> Plan
     requires { ⌜ 512 * s + 512 ≤ length (now w) ⌝ }
-    ensures { λ r. ⌜ (r ≡ group-in s (card-of (now (w .entry)) s)) × (r .records ≤ 16) ⌝ }
+    ensures { λ r. ⌜ (planned r (text-in (card-of (now (w .entry)) s)) ≡ group-in s (card-of (now (w .entry)) s)) × (r .records ≤ 16) ⌝ }
 {
-    let change = change_at(w, s);
-    Group {
+    let operation = operation_at(w, s);
+    Plan {
         sector: s,
-        records: records_of(change),
-        change,
+        records: group_records(operation, text_length(w, s)),
+        operation,
     }
 }

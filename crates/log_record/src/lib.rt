@@ -5,19 +5,46 @@ ghost use Prim.Native.Nat.{_+_, _*_, _≤_, _<_};
 ghost use lib.ListN.{length};
 ghost use Rattle.model.specs.Sector.{card-of};
 ghost use Rattle.model.specs.Scan.{all};
-ghost use Rattle.model.specs.Record.{record-at, group-size, pends};
+ghost use Rattle.model.specs.Record.{record-at, group-size, leads, tells, pends};
 ghost use Rattle.model.specs.Pending.{slot-ok, most-counted, count-ok, record-ok, alike, apart, part-ok, records-ok};
+
+// Whether record 0 of sector s leads it: a create with a long name, whose characters stand in the records after it.
+pub fn leads(log: &[u8], s: u32) -> bool
+    requires { ⌜ 512 * s + 512 ≤ length (now log) ⌝ }
+    ensures { λ p. ⌜ p ≡ leads (card-of (now (log .entry)) s) ⌝ }
+{
+    if sector::byte(log, s, 0) == 0 {
+        return false;
+    }
+    if sector::byte(log, s, 13) != 1 {
+        return false;
+    }
+    1 <= sector::byte(log, s, 12)
+}
+
+// Whether record r of sector s tells something: all do that do not begin 0, in a sector that is led only the first.
+pub fn tells(log: &[u8], s: u32, r: u32) -> bool
+    requires { ⌜ (512 * s + 512 ≤ length (now log)) × (r < 16) ⌝ }
+    ensures { λ p. ⌜ p ≡ tells (card-of (now (log .entry)) s) r ⌝ }
+{
+    if sector::byte(log, s, 32 * r) == 0 {
+        return false;
+    }
+    if r == 0 {
+        return true;
+    }
+    !leads(log, s)
+}
 
 // Whether record r of sector s is pending.
 pub fn pends(log: &[u8], s: u32, r: u32) -> bool
     requires { ⌜ (512 * s + 512 ≤ length (now log)) × (r < 16) ⌝ }
     ensures { λ p. ⌜ p ≡ pends (card-of (now (log .entry)) s) r ⌝ }
 {
-    let b = sector::byte(log, s, 32 * r);
-    if b == 0 {
+    if !tells(log, s, r) {
         return false;
     }
-    b != 0xE5
+    sector::byte(log, s, 32 * r) != 0xE5
 }
 
 // A slot that a record may name: below the root entries, and not above z, the lowest slot beginning 0.
@@ -63,6 +90,9 @@ pub fn load(log: &[u8], s: u32, k: u32) -> Record
 fn most_counted(number: u32) -> u32
     ensures { λ r. ⌜ r ≡ most-counted number ⌝ }
 {
+    if number == 1 {
+        return 16;
+    }
     if number == 3 {
         return root_names::MOST_LONG;
     }

@@ -1,29 +1,30 @@
 -- Laws of the scan of a log table.
 use Prim.Native.Nat.{ℕ, _+_, _-_, _*_, _/_, _%_, _<_, _≤_}
 use native.Mathlib.Omega.{arith}
-use mathlib.Core.Path.{_≡_, refl, sym, ap, _∙_}
-use mathlib.Core.Logic.{⊎-elim}
+use mathlib.Core.Path.{_≡_, refl, sym, ap, _∙_, subst}
+use mathlib.Core.Logic.{⊎-elim, _⊎_, inl, inr}
 use mathlib.Core.Bool.{Bool, true, false, _&&_, _||_, not}
 use mathlib.Core.List.{List}
 use lib.ListN.{length, take, drop, length-take, length-drop}
 use lib.Dec.{leb, ltb, eqb}
 use borrow.Author.Tests.{ltb-true, ltb-false, lt-ltb, le-ltb, le-leb, lt-leb}
-use Rattle.model.specs.Bytes.{pick}
+use Rattle.model.specs.Bytes.{pick, Bytes}
 use Rattle.model.specs.Scan.{every, all, all-from, first-from}
-use Rattle.model.specs.Sector.{card-of}
+use Rattle.model.specs.Sector.{card-of, Card}
 use Rattle.model.specs.Log.{Log, log-of}
 use Rattle.model.specs.Record.{tells, pends, record-at, group-size}
-use Rattle.model.specs.Pending.{pending-at, first-pending, group-ok, alone, accepted, pending-in}
+use Rattle.model.specs.Pending.{pending-at, first-pending, group-ok, alone, accepted, pending-in, seen-end, pending}
 use Rattle.model.specs.declared.Area.{Area}
 use Rattle.model.specs.declared.Pending.{Pending}
 use Rattle.model.specs.declared.Pending.the-variants as Pending
-use Rattle.model.proofs.Tests.{less?}
+use Rattle.model.proofs.Tests.{less?, told}
 use Rattle.model.proofs.Scan.{Sofar, none-below, first-is, first-has, first-ge, first-before, all-of, all-not, all-at0}
 use Rattle.model.proofs.Sectors.{part-sector}
 use Rattle.model.proofs.Logs.{first-pending-same, pending-same}
-use Rattle.log_scan.specs.Place.{place-of, judged}
+use Rattle.log_scan.specs.Place.{place-of, judged, Seen}
 use Rattle.log_scan.specs.declared.Place.{Place}
 use Rattle.log_scan.specs.declared.Place.the-variants.{At, Nowhere}
+use Rattle.model.specs.declared.Layout.{Layout}
 
 -- Record r of sector s.
 pub at-place : (g : Log) (s r : ℕ) → r < 16 → pending-at g (16 * s + r) ≡ pends (g s) r
@@ -147,7 +148,7 @@ pub first-part : (a : Area) (xs : List ℕ) (k : ℕ) → k ≡ 512 * a .sectors
 first-part a xs k e =
     first-pending-same (a .sectors) (card-of (take k (drop (512 * a .sector) xs))) (log-of a (card-of xs)) (λ s h. part-sector xs (a .sector) k s (omega arith))
 
-pub pending-part : (entries z : ℕ) (a : Area) (xs : List ℕ) (k : ℕ) → k ≡ 512 * a .sectors
+pub pending-part : (entries : ℕ) (z : Bytes → ℕ) (a : Area) (xs : List ℕ) (k : ℕ) → k ≡ 512 * a .sectors
     → pending-in entries z a (card-of (take k (drop (512 * a .sector) xs))) ≡ pending-in entries z a (log-of a (card-of xs))
 pending-part entries z a xs k e =
     pending-same entries z a (card-of (take k (drop (512 * a .sector) xs))) (log-of a (card-of xs)) (λ s h. part-sector xs (a .sector) k s (omega arith))
@@ -163,3 +164,22 @@ place-part a xs k p e fits is =
     let n : length (take k (drop (512 * a .sector) xs)) / 512 ≡ a .sectors = omega (arith, part-length xs (512 * a .sector) k (omega arith)) in
     is ∙ (λ i. place-of (first-pending (n i) (card-of (take k (drop (512 * a .sector) xs)))) (n i))
     ∙ ap (λ (j : ℕ). place-of j (a .sectors)) (first-part a xs k e)
+
+-- What is pending is judged with the slot that RECORD reads for the group that is found.
+pub seen-pending : (l : Layout) (a : Area) (c : Card) (z : ℕ) (p : Place) → p ≡ place-of (first-pending (a .sectors) (log-of a c)) (a .sectors) → Seen l a c p z
+    → pending-in (l .entries) (λ _. z) a (log-of a c) ≡ pending l a c
+unfolding pending pending-in place-of
+seen-pending l a c z p is seen = go (told (ltb i (16 * a .sectors)))
+  where
+    i : ℕ
+    i = first-pending (a .sectors) (log-of a c)
+
+    held : ℕ → Pending
+    held z = pick (accepted (l .entries) z (a .sectors) (log-of a c) i) (Pending.Held (a .sector + i / 16)) Pending.Broken
+
+    go : (ltb i (16 * a .sectors) ≡ true) ⊎ (ltb i (16 * a .sectors) ≡ false)
+        → pick (ltb i (16 * a .sectors)) (held z) Pending.Nothing ≡ pick (ltb i (16 * a .sectors)) (held (seen-end l c (log-of a c (i / 16)))) Pending.Nothing
+    go (inl e) =
+        let at : p ≡ At (i / 16) (i % 16) = is ∙ rw e in
+        rw (e, subst (λ (p : Place). Seen l a c p z) at seen)
+    go (inr e) = rw e

@@ -5,8 +5,10 @@ use mathlib.Core.List.{List}
 use lib.ListN.{length}
 use lib.Dec.{ltb}
 use Rattle.model.specs.Bytes.{pick}
-use Rattle.model.specs.Log.{Log}
-use Rattle.model.specs.Pending.{accepted}
+use Rattle.model.specs.Sector.{Card}
+use Rattle.model.specs.Log.{Log, log-of}
+use Rattle.model.specs.Pending.{accepted, seen-end}
+use Rattle.model.specs.declared.Layout.{Layout}
 use Rattle.model.specs.declared.Area.{Area}
 use Rattle.model.specs.declared.Pending.{Pending}
 use Rattle.model.specs.declared.Pending.the-variants as Pending
@@ -27,3 +29,8 @@ place-of i n = pick (ltb i (16 * n)) (At (i / 16) (i % 16)) Nowhere
 unfoldable pub judged : ℕ → ℕ → Area → Log → ℕ → Pending
 judged entries z a g i =
     pick (accepted entries z (a .sectors) g i) (Pending.Held (a .sector + i / 16)) Pending.Broken
+
+-- The lowest slot beginning 0 of a card, as RECORD reads it for the group of the record at a place of its log.
+abbrev pub Seen : Layout → Area → Card → Place → ℕ → Type 0
+Seen l a c Nowhere z = Unit {0}
+Seen l a c (At s r) z = z ≡ seen-end l c (log-of a c s)

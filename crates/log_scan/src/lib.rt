@@ -1,16 +1,20 @@
 // The log: the scan for pending records, and the group that they make.
 use model::Area;
 use model::Layout;
+use model::Operation;
 use model::Pending;
 ghost use mathlib.Core.Path.{_≡_};
 ghost use Prim.Native.Nat.{_+_, _-_, _*_, _/_, _≤_, _<_};
 ghost use lib.ListN.{length};
 ghost use Rattle.model.specs.Sector.{card-of};
-ghost use Rattle.model.specs.Scan.{first-from};
+ghost use Rattle.model.specs.Scan.{first-from, among};
 ghost use Rattle.model.specs.Promises.{Held};
 ghost use Rattle.model.specs.Log.{log-of};
-ghost use Rattle.model.specs.Pending.{pending-at, first-pending, alone, pending-in};
-ghost use Rattle.log_scan.specs.Place.{Lent, place-of, judged};
+ghost use lib.Dec.{eqb};
+ghost use Rattle.model.specs.Bytes.{pick};
+ghost use Rattle.model.specs.Root.{first-bytes, end-slot};
+ghost use Rattle.model.specs.Pending.{pending-at, first-pending, alone, named-slots, end-past, pending-in, pending};
+ghost use Rattle.log_scan.specs.Place.{Lent, place-of, judged, Seen};
 
 // Where a record stands in a log table: its sector, and its number there.
 pub enum Place {
@@ -96,10 +100,11 @@ fn judge(log: &[u8], entries: u32, z: u32, a: Area, s: u32, r: u32) -> Pending
     Pending::Held(a.sector + s)
 }
 
-// What is pending in a log table that lies at `a` and has its first pending record at `place`; z is the lowest root slot beginning 0.
+// What is pending in a log table that lies at `a` and has its first pending record at `place`; z is the lowest root slot beginning 0, as
+// RECORD reads it for that record's group.
 fn pending_in(log: &[u8], entries: u32, z: u32, a: Area, place: Place) -> Pending
     requires { ⌜ Lent a (now log) × (place ≡ place-of (first-pending (a .sectors) (card-of (now log))) (a .sectors)) ⌝ }
-    ensures { λ p. ⌜ p ≡ pending-in entries z a (card-of (now (log .entry))) ⌝ }
+    ensures { λ p. ⌜ p ≡ pending-in entries (λ _. z) a (card-of (now (log .entry))) ⌝ }
 {
     match place {
         Place::Nowhere => Pending::Nothing,
@@ -117,14 +122,57 @@ pub fn place_in(w: &[u8], l: Layout, a: Area) -> Place
     scan(&w[from..end])
 }
 
-// What is pending on a card, whose first pending record stands at `place`.
-pub fn pending_of(w: &[u8], l: Layout, a: Area, z: u32, place: Place) -> Pending
-    requires { ⌜
-        Held l (now w) × (a .sector + a .sectors ≤ l .total) × (a .sectors ≤ 128)
-        × (place ≡ place-of (first-pending (a .sectors) (log-of a (card-of (now w)))) (a .sectors)) ⌝ }
-    ensures { λ p. ⌜ p ≡ pending-in (l .entries) z a (log-of a (card-of (now (w .entry)))) ⌝ }
+// Whether slot k begins 0, where an operation does not name it.
+fn is_open(w: &[u8], l: Layout, o: Operation, k: u32) -> bool
+    requires { ⌜ Held l (now w) × (k < l .entries) ⌝ }
+    ensures { λ r. ⌜ r ≡ eqb (pick (among (named-slots o) k) 0xE5 (first-bytes l (card-of (now (w .entry))) k)) 0 ⌝ }
 {
+    if root_names::names(o, k) {
+        return false;
+    }
+    root_read::slot_byte(w, l, k, 0) == 0
+}
+
+// The lowest slot that does; z is the lowest that begins 0, named or not.
+fn end_past(w: &[u8], l: Layout, o: Operation, z: u32) -> u32
+    requires { ⌜ Held l (now w) × (z ≡ end-slot (l .entries) (first-bytes l (card-of (now w)))) × (z ≤ l .entries) ⌝ }
+    ensures { λ r. ⌜ r ≡ end-past o (l .entries) (first-bytes l (card-of (now (w .entry)))) ⌝ }
+{
+    let n = l.entries;
+    let mut k = z;
+    while k < n {
+        if is_open(w, l, o, k) {
+            return k;
+        }
+        k += 1;
+    }
+    n
+}
+
+// The same for the group of the record at a place; z where there is none.
+fn seen_end(w: &[u8], l: Layout, a: Area, z: u32, place: Place) -> u32
+    requires { ⌜ Held l (now w) × (z ≡ end-slot (l .entries) (first-bytes l (card-of (now w)))) × (z ≤ l .entries) ⌝ }
+    requires { ⌜
+        (a .sector + a .sectors ≤ l .total)
+        × (place ≡ place-of (first-pending (a .sectors) (log-of a (card-of (now w)))) (a .sectors)) ⌝ }
+    ensures { λ r. ⌜ Seen l a (card-of (now (w .entry))) place r ⌝ }
+{
+    match place {
+        Place::Nowhere => z,
+        Place::At(s, _) => end_past(w, l, log_group::operation_at(w, a.sector + s), z),
+    }
+}
+
+// What is pending on a card, whose first pending record stands at `place`; z is its lowest slot beginning 0.
+pub fn pending_of(w: &[u8], l: Layout, a: Area, z: u32, place: Place) -> Pending
+    requires { ⌜ Held l (now w) × (z ≡ end-slot (l .entries) (first-bytes l (card-of (now w)))) × (z ≤ l .entries) ⌝ }
+    requires { ⌜
+        (a .sector + a .sectors ≤ l .total) × (a .sectors ≤ 128)
+        × (place ≡ place-of (first-pending (a .sectors) (log-of a (card-of (now w)))) (a .sectors)) ⌝ }
+    ensures { λ p. ⌜ p ≡ pending l a (card-of (now (w .entry))) ⌝ }
+{
+    let seen = seen_end(w, l, a, z, place);
     let from = 512 * sector::index(a.sector);
     let end = from + 512 * sector::index(a.sectors);
-    pending_in(&w[from..end], l.entries, z, a, place)
+    pending_in(&w[from..end], l.entries, seen, a, place)
 }

@@ -11,8 +11,8 @@ use Rattle.model.specs.Root.{root-place}
 use Rattle.model.specs.Record.{committed, commit}
 use Rattle.model.specs.Promises.{Shape, Ran}
 use Rattle.model.specs.declared.Layout.{Layout}
-use Rattle.model.specs.declared.Group.{Group}
-use Rattle.model.specs.declared.Change.{Change}
+use Rattle.model.specs.Record.{Group}
+use Rattle.model.specs.Record.{Change}
 use Rattle.model.proofs.All.{all-append}
 use Rattle.model.proofs.Cards.{Away}
 use Rattle.model.proofs.Copies.{write-fat-away}

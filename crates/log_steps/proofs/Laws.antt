@@ -13,8 +13,8 @@ use Rattle.model.specs.Log.{Log, log-of, unused}
 use Rattle.model.specs.Promises.{Ran}
 use Rattle.model.specs.declared.Area.{Area}
 use Rattle.model.specs.declared.Layout.{Layout}
-use Rattle.model.specs.declared.Group.{Group}
-use Rattle.model.specs.declared.Change.{Change}
+use Rattle.model.specs.Record.{Group}
+use Rattle.model.specs.Record.{Change}
 use Rattle.model.specs.declared.Volume.{Volume}
 use Rattle.operations.specs.Program.{stores}
 use Rattle.operations.specs.Finish.{redo}

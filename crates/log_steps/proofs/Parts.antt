@@ -7,7 +7,7 @@ use mathlib.Core.List.{List, _++_, append-assoc}
 use Rattle.model.specs.Sector.{Card, card-of, Store, after}
 use Rattle.model.specs.Fat.{Fat, fat2-of, write-fat}
 use Rattle.model.specs.Promises.{Shape, Ran}
-use Rattle.model.specs.declared.Change.{Change}
+use Rattle.model.specs.Record.{Change}
 use Rattle.model.specs.declared.Volume.{Volume}
 use Rattle.model.proofs.Cards.{Away, after-away, after-append}
 use Rattle.model.proofs.Fats.{write-all}

@@ -1,24 +1,31 @@
 -- The log's clearing as a loop makes it, and records laid into a sector of zeros.
-use Prim.Native.Nat.{ℕ, _+_, _-_, _*_, _<_}
+use Prim.Native.Nat.{ℕ, _+_, _-_, _*_, _<_, _≤_}
 use native.Mathlib.Omega.{arith}
 use native.Mathlib.Numerals.{add-one}
-use mathlib.Core.Path.{_≡_, sym, ap, _∙_, subst}
+use mathlib.Core.Path.{_≡_, sym, ap, _∙_, subst, fun-ext}
 use mathlib.Core.Bool.{Bool}
 use mathlib.Core.List.{List, [], _∷_, _++_, map, map-append}
-use lib.ListN.{replicate, length, getD, take, length-map}
+use lib.ListN.{replicate, length, getD, take, length-map, List·getD-eq-default}
 use lib.Seq.{take-suc, length-take-le}
 use lib.Dec.{eqb}
-use Rattle.model.specs.Bytes.{Bytes, bytes-of, overlay, zeros}
+use Rattle.model.specs.Bytes.{Bytes, bytes-of, overlay, zeros, part}
 use Rattle.model.specs.Sector.{card-of, Store, store}
 use Rattle.model.specs.Log.{log-of}
-use Rattle.model.specs.Record.{lay, record-bytes, record-in}
+use Rattle.model.specs.Record.{lay, record-bytes, record-in, encode, with-text, records, operation-records}
 use Rattle.model.specs.declared.Record.{Record}
 use Rattle.model.specs.Promises.{Ran, up-to}
 use Rattle.model.specs.declared.Area.{Area}
 use Rattle.model.proofs.Pieces.{lay-none, lay-more}
 use Rattle.model.proofs.Turns.{map-falling}
 use Rattle.operations.specs.Plan.{clear-all}
-use Rattle.sector_build.proofs.Laws.{all-zero}
+use Rattle.model.proofs.Lists.{all-zero}
+use Rattle.model.specs.declared.Operation.{Operation}
+use mathlib.Core.Logic.{⊎-elim}
+use borrow.Author.Tests.{lt-ltb, le-ltb}
+use Rattle.model.proofs.Overlays.{overlay-below, overlay-in, overlay-above}
+use Rattle.model.proofs.Sectors.{part-zero}
+use Rattle.model.proofs.Records.{zero-after}
+use Rattle.model.proofs.Tests.{less?}
 
 -- Turn k clears the k-th sector from the log's end.
 abbrev pub clear-turn : Area → ℕ → List Store
@@ -47,6 +54,21 @@ lay-next rs k b old new less own so is =
     ∙ sym (lay-more (map record-bytes (take k rs)) (record-bytes (getD rs k (record-in zeros))))
     ∙ ap lay (sym (map-append record-bytes (take k rs) (getD rs k (record-in zeros) ∷ [])))
     ∙ ap (λ (qs : List Record). lay (map record-bytes qs)) (sym more)
+
+-- The characters copied after them.
+pub text-laid : (o : Operation) (xs : List ℕ) (buf r : Bytes) → buf ≡ lay (map record-bytes (operation-records o))
+    → ((j : ℕ) → r j ≡ overlay (length xs) (part (bytes-of xs) 0) (32 * length (operation-records o)) buf j) → r ≡ encode (with-text o (bytes-of xs))
+unfolding encode records
+text-laid o xs buf r laid is = fun-ext (λ j. is j ∙ ⊎-elim
+    (λ less. overlay-below (part (bytes-of xs) 0) m buf (length xs) j less ∙ (λ i. laid i j) ∙ sym (rw (lt-ltb j m less)))
+    (λ more. rw (le-ltb j m more) (⊎-elim
+    (λ (inside : j < m + length xs). overlay-in (part (bytes-of xs) 0) m buf (length xs) j more inside ∙ (λ i. part-zero (bytes-of xs) i (j - m)))
+    (λ (past : m + length xs ≤ j). overlay-above (part (bytes-of xs) 0) m buf (length xs) j past ∙ (λ i. laid i j)
+    ∙ zero-after (map record-bytes (operation-records o)) j (omega (arith, length-map (operation-records o) record-bytes))
+    ∙ sym (List·getD-eq-default xs 0 {n = j - m} (omega arith))) (less? j (m + length xs)))) (less? j m))
+  where
+    m : ℕ
+    m = 32 * length (operation-records o)
 
 -- After the last turn.
 pub clear-end : (a : Area) (k limit : ℕ) (e x : List ℕ) (m : ℕ) (w : Bool) → k ≡ a .sectors → Ran limit (up-to (clear-turn a) k) e x m w

@@ -1,20 +1,19 @@
 // Step 3: the log cleared if it is full, and the group of a change stored.
 use model::Area;
-use model::Change;
 use model::Entry;
-use model::Group;
 use model::Operation;
+use model::Plan;
 use model::Progress;
 use model::Record;
 ghost use mathlib.Core.Path.{_≡_};
-ghost use mathlib.Core.List.{[], _∷_};
+ghost use mathlib.Core.List.{[], _∷_, map};
 ghost use Prim.Native.Nat.{_+_, _-_, _*_, _≤_, _<_};
 ghost use lib.ListN.{length, getD};
 ghost use Rattle.model.specs.Bytes.{bytes-of, zeros};
 ghost use Rattle.model.specs.Sector.{card-of};
 ghost use Rattle.model.specs.Log.{log-of, unused};
-ghost use Rattle.model.specs.Record.{record-bytes, record-in, record-of, records, encode};
-ghost use Rattle.model.specs.Promises.{Ran};
+ghost use Rattle.model.specs.Record.{record-bytes, record-in, record-of, operation-records, lay, with-text, encode, planned};
+ghost use Rattle.model.specs.Promises.{Room, Ran};
 ghost use Rattle.operations.specs.Plan.{clear-all, clearing, group-sector, group-store};
 ghost use Rattle.log_write.specs.Place.{Within};
 
@@ -122,14 +121,13 @@ fn record_about(e: Entry, number: u32, count: u32, cluster: u32, from: u32, size
     }
 }
 
-// Record k of the group of a change.
-fn record_of(x: Change, k: u32) -> Record
-    requires { ⌜ k < length (records x) ⌝ }
-    ensures { λ r. ⌜ r ≡ getD (records x) k (record-in zeros) ⌝ }
+// Record k of those that tell an operation.
+fn record_of(o: Operation, k: u32) -> Record
+    requires { ⌜ k < length (operation-records o) ⌝ }
+    ensures { λ r. ⌜ r ≡ getD (operation-records o) k (record-in zeros) ⌝ }
 {
-    let o = x.operation;
     match o {
-        Operation::Create { entry } => record_about(entry, 1, 0, 0, 0, 0),
+        Operation::Create { entry, count } => record_about(entry, 1, count, 0, 0, 0),
         Operation::Update {
             entry,
             last,
@@ -175,15 +173,15 @@ fn record_of(x: Change, k: u32) -> Record
     }
 }
 
-// The group of a change, as its log sector: its records from record 0 on, the rest zero.
-fn encode_group(x: Change) -> [u8; 512]
-    ensures { λ r. ⌜ bytes-of r ≡ encode x ⌝ }
+// The records that tell an operation, in a sector from record 0 on, the rest zero.
+fn lay_records(o: Operation) -> [u8; 512]
+    ensures { λ r. ⌜ bytes-of r ≡ lay (map record-bytes (operation-records o)) ⌝ }
 {
-    let n = log_group::records_of(x);
+    let n = log_group::records_of(o);
     let mut buf = [0u8; 512];
     let mut k = 0;
     while k < n {
-        let b = record_bytes(record_of(x, k));
+        let b = record_bytes(record_of(o, k));
         let more = sector_build::lay(buf, sector::index(k), b);
         buf = more;
         k += 1;
@@ -191,12 +189,29 @@ fn encode_group(x: Change) -> [u8; 512]
     buf
 }
 
-// The store of a group.
-pub fn store_group(w: &mut [u8], g: Group, limit: u32) -> Progress
-    requires { ⌜ 512 * g .sector + 512 ≤ length (now w) ⌝ }
-    ensures { λ r. ⌜ Ran limit (group-store g ∷ []) (now (w .entry)) (now (w .exit)) (r .made) (r .whole) ⌝ }
+// The group of an operation with a text, as its log sector: the characters stand after the records.
+fn encode_group(o: Operation, text: &[u8]) -> [u8; 512]
+    requires { ⌜ Room o (now text) ⌝ }
+    ensures { λ r. ⌜ bytes-of r ≡ encode (with-text o (bytes-of (now (text .entry)))) ⌝ }
 {
-    let x = g.change;
-    let buf = encode_group(x);
-    sector::store_sector(w, g.sector, &buf, limit)
+    let mut buf = lay_records(o);
+    sector::copy(
+        &mut buf,
+        32 * sector::index(log_group::records_of(o)),
+        text,
+        0,
+        text.len(),
+    );
+    buf
+}
+
+// The store of a group.
+pub fn store_group(w: &mut [u8], p: Plan, text: &[u8], limit: u32) -> Progress
+    requires { ⌜ (512 * p .sector + 512 ≤ length (now w)) × Room (p .operation) (now text) ⌝ }
+    ensures { λ r. ⌜
+        Ran limit (group-store (planned p (bytes-of (now (text .entry)))) ∷ []) (now (w .entry)) (now (w .exit)) (r .made) (r .whole) ⌝ }
+{
+    let o = p.operation;
+    let buf = encode_group(o, text);
+    sector::store_sector(w, p.sector, &buf, limit)
 }

@@ -1,14 +1,18 @@
 -- Files that were found by name, and what they are like; the slot for a new name.
-use Prim.Native.Nat.{ℕ, _<_}
+use Prim.Native.Nat.{ℕ, _+_, _-_, _<_}
 use mathlib.Core.Path.{_≡_}
 use mathlib.Core.Bool.{true}
+use lib.Dec.{ltb}
+use Rattle.model.specs.Bytes.{pick}
 use Rattle.model.specs.Sector.{Card}
 use Rattle.model.specs.Fat.{entry, fat1-of}
 use Rattle.model.specs.Chain.{keeps-chain}
-use Rattle.model.specs.Root.{file-at}
+use Rattle.model.specs.Root.{free-run, file-at}
 use Rattle.model.specs.Ground.{Answer, refused, granted}
 use Rattle.model.specs.declared.File.{File}
+use Rattle.model.specs.declared.Layout.{Layout}
 use Rattle.model.specs.declared.Volume.{Volume}
+use Rattle.model.specs.declared.Ground.the-variants as Ground
 use Rattle.root_lookup.specs.declared.Found.{Found}
 use Rattle.root_lookup.specs.declared.Found.the-variants.{Missing, At}
 use Rattle.root_lookup.specs.declared.Vacancy.{Vacancy}
@@ -45,3 +49,7 @@ vacancy-of (Slot s) = granted s
 abbrev pub Below : ℕ → Vacancy → Type 0
 Below n (Denied g) = Unit {0}
 Below n (Slot s) = s < n
+
+-- The last slot of the lowest run of n + 1 free ones, or ROOTFULL.
+unfoldable pub run-answer : Layout → Card → ℕ → Answer ℕ
+run-answer l c n = pick (ltb (free-run l c (n + 1)) (l .entries + 1 - (n + 1))) (granted (free-run l c (n + 1) + n)) (refused Ground.Rootfull)

@@ -2,6 +2,7 @@
 use model::Access;
 use model::File;
 use model::Ground;
+use model::Layout;
 use model::Lookup;
 use model::Volume;
 ghost use mathlib.Core.Path.{_≡_};
@@ -12,8 +13,9 @@ ghost use Rattle.model.specs.Sector.{card-of};
 ghost use Rattle.model.specs.Root.{name-ok, slot-holds, lookup};
 ghost use Rattle.model.specs.declared.Lookup.the-variants as Lookup;
 ghost use Rattle.model.specs.Promises.{Held};
-ghost use Rattle.operations.specs.Calls.{name-of, slot-of, admit, file-named, whole, file-of, taken, new-slot};
-ghost use Rattle.root_lookup.specs.Found.{found-of, Seated, Sits, Opens, vacancy-of, Below};
+ghost use Rattle.operations.specs.Calls.{name-of, slot-of, admit, file-named, whole, file-of, taken, text-taken, new-slot};
+ghost use lib.ListN.{length};
+ghost use Rattle.root_lookup.specs.Found.{found-of, Seated, Sits, Opens, vacancy-of, Below, run-answer};
 
 // A file, or the ground on which there is none.
 pub enum Found {
@@ -28,7 +30,7 @@ pub enum Vacancy {
 }
 
 // The slot that a name means; as many as there are slots where none has it.
-fn slot_of(w: &[u8], v: Volume, name: &[u8]) -> u32
+pub fn slot_of(w: &[u8], v: Volume, name: &[u8]) -> u32
     requires { ⌜ Held (v .layout) (now w) × (name-ok (view (now name)) ≡ true) ⌝ }
     ensures { λ r. ⌜ (r ≡ slot-of v (card-of (now (w .entry))) (view (now (name .entry)))) × (r ≤ v .layout .entries) ⌝ }
 {
@@ -132,18 +134,42 @@ fn is_taken(w: &[u8], v: Volume, name: &[u8]) -> bool
     slot_of(w, v, name) < v.layout.entries
 }
 
-// EXISTS and ROOTFULL: the slot for a new name.
-pub fn new_slot(w: &[u8], v: Volume, name: &[u8]) -> Vacancy
-    requires { ⌜ Held (v .layout) (now w) × (name-ok (view (now name)) ≡ true) ⌝ }
-    ensures { λ r. ⌜ (vacancy-of r ≡ new-slot v (card-of (now (w .entry))) (view (now (name .entry)))) × Below (v .layout .entries) r ⌝ }
+// EXISTS, of a text that is not empty.
+fn is_text_taken(w: &[u8], v: Volume, text: &[u8]) -> bool
+    requires { ⌜ Held (v .layout) (now w) ⌝ }
+    ensures { λ r. ⌜ r ≡ text-taken v (card-of (now (w .entry))) (view (now (text .entry))) ⌝ }
+{
+    if text.len() == 0 {
+        return false;
+    }
+    let l = v.layout;
+    root_long::find_text(w, l, text) < l.entries
+}
+
+// ROOTFULL: the last slot of the lowest run of n + 1 free ones.
+fn free_end(w: &[u8], l: Layout, n: u32) -> Vacancy
+    requires { ⌜ Held l (now w) × (n ≤ 16) ⌝ }
+    ensures { λ r. ⌜ (vacancy-of r ≡ run-answer l (card-of (now (w .entry))) n) × Below (l .entries) r ⌝ }
+{
+    let s = root_read::free_run(w, l, n + 1);
+    if s + n < l.entries {
+        return Vacancy::Slot(s + n);
+    }
+    Vacancy::Denied(Ground::Rootfull)
+}
+
+// EXISTS and ROOTFULL: the slot for a new name with a text.
+pub fn new_slot(w: &[u8], v: Volume, name: &[u8], text: &[u8]) -> Vacancy
+    requires { ⌜ Held (v .layout) (now w) × (name-ok (view (now name)) ≡ true) × (length (now text) ≤ 416) ⌝ }
+    ensures { λ r. ⌜
+        (vacancy-of r ≡ new-slot v (card-of (now (w .entry))) (view (now (name .entry))) (view (now (text .entry)))) × Below (v .layout .entries) r ⌝ }
 {
     if is_taken(w, v, name) {
         return Vacancy::Denied(Ground::Exists);
     }
-    let l = v.layout;
-    let s = root_read::free_slot(w, l);
-    if s < l.entries {
-        return Vacancy::Slot(s);
+    if is_text_taken(w, v, text) {
+        return Vacancy::Denied(Ground::Exists);
     }
-    Vacancy::Denied(Ground::Rootfull)
+    let l = v.layout;
+    free_end(w, l, ((text.len() / 2 + 12) / 13) as u32)
 }

@@ -10,7 +10,8 @@ ghost use lib.Dec.{eqb};
 ghost use Rattle.model.specs.Scan.{all-from};
 ghost use Rattle.model.specs.Sector.{card-of};
 ghost use Rattle.model.specs.Promises.{Fits, Held};
-ghost use Rattle.model.specs.Root.{root-place, slot-at, listed, is-directory, bears, find, free-slot, first-bytes, end-slot, root-ok, file-at};
+ghost use Rattle.model.specs.Root.{root-place, slot-at, listed, is-directory, bears, find, first-bytes, end-slot, root-ok, file-at};
+ghost use Rattle.model.specs.Root.{vacant, free-run};
 
 // Where root sector r lies on the card.
 pub fn root_place(l: Layout, r: u32) -> u32
@@ -131,24 +132,41 @@ pub fn find_slot(w: &[u8], l: Layout, name: Name) -> u32
     n
 }
 
-// The lowest slot that a new name can take; the number of slots where there is none.
-pub fn free_slot(w: &[u8], l: Layout) -> u32
-    requires { ⌜ Held l (now w) ⌝ }
-    ensures { λ r. ⌜ (r ≡ free-slot l (card-of (now (w .entry)))) × (r ≤ l .entries) ⌝ }
+// Whether a new entry can take slot k.
+fn is_vacant(w: &[u8], l: Layout, k: u32) -> bool
+    requires { ⌜ Held l (now w) × (k < l .entries) ⌝ }
+    ensures { λ r. ⌜ r ≡ vacant (slot-at l (card-of (now (w .entry))) k) ⌝ }
+{
+    let b = slot_byte(w, l, k, 0);
+    if b == 0 {
+        return true;
+    }
+    b == 0xE5
+}
+
+// The lowest slot that begins m that new entries can take; where none does, the lowest with fewer than m from it on.
+pub fn free_run(w: &[u8], l: Layout, m: u32) -> u32
+    requires { ⌜ Held l (now w) × (1 ≤ m) ⌝ }
+    ensures { λ r. ⌜ (r ≡ free-run l (card-of (now (w .entry))) m) × (r ≤ l .entries) ⌝ }
 {
     let n = l.entries;
+    let mut start = 0;
     let mut k = 0;
     while k < n {
-        let b = slot_byte(w, l, k, 0);
-        if b == 0 {
-            return k;
-        }
-        if b == 0xE5 {
-            return k;
+        if !is_vacant(w, l, k) {
+            k += 1;
+            start = k;
+            continue;
         }
         k += 1;
+        if k - start == m {
+            return start;
+        }
     }
-    n
+    if n < m {
+        return 0;
+    }
+    n + 1 - m
 }
 
 // The file in a slot.

@@ -1,47 +1,38 @@
 -- Bytes of a slot, its sector as it is built from slots, and the turns of the loop over root sectors.
-use Prim.Native.Nat.{ℕ, _+_, _-_, _*_, _/_, _%_, _<_, _≤_}
+use Prim.Native.Nat.{ℕ, zero, suc, _+_, _-_, _*_, _/_, _%_, _<_, _≤_}
 use native.Mathlib.Omega.{arith}
 use mathlib.Core.Path.{_≡_, refl, sym, ap, _∙_, subst}
 use mathlib.Core.Logic.{_⊎_, inl, inr, ⊎-elim}
-use mathlib.Core.Bool.{Bool, true, false, _||_}
-use mathlib.Core.List.{List, [], _∷_, _++_, map, append-nil}
-use lib.ListN.{getD}
+use mathlib.Core.Bool.{Bool, true, false}
+use mathlib.Core.List.{List, [], _∷_, map}
 use lib.Dec.{eqb}
 use Rattle.model.specs.Scan.{any, among}
 use Rattle.model.specs.Long.{name-slots}
 use Rattle.model.specs.Bytes.{Bytes, overlay, pick}
 use Rattle.model.specs.Sector.{Card, Store, card-of, clip}
 use Rattle.model.specs.Root.{Directory, root-place, slot-at}
-use Rattle.model.specs.Record.{plain}
+use Rattle.model.specs.Record.{Change, with-text}
+use Rattle.model.specs.Pending.{named-slots}
 use Rattle.model.specs.Promises.{Ran, up-to}
 use Rattle.model.specs.declared.Layout.{Layout}
 use Rattle.model.specs.declared.Name.{Name}
 use Rattle.model.specs.declared.Entry.{Entry}
-use Rattle.model.specs.declared.Change.{Change}
 use Rattle.model.specs.declared.Operation.the-variants.{Create, Update, Delete, Truncate, Rename, Replace}
 use borrow.Author.Tests.{eq-eqb, ne-eqb}
-use Rattle.model.proofs.Tests.{less?}
-use Rattle.model.proofs.Long.{of-name?, of-name, not-of-name, some-slot, no-slot}
+use Rattle.model.proofs.Tests.{less?, same?, clash}
+use Rattle.model.proofs.Long.{of-name?, of-name, not-of-name, some-slot, no-slot, either-among}
 use Rattle.model.proofs.All.{All, all-later}
 use Rattle.model.proofs.Cards.{store-same, put-case, clip-clip}
 use Rattle.model.proofs.Changes.{Keeps, after-keeps}
 use Rattle.model.proofs.Overlays.{overlay-in, overlay-below}
 use Rattle.model.proofs.Runs.{ran-card}
 use Rattle.model.proofs.Turns.{map-indices, upto-all}
-use Rattle.operations.specs.Finish.{Edit, edit-from, set-slots, marks, operation-edits, edits, Slots, effect, set-name, mark-deleted, new-entry}
+use Rattle.operations.specs.Finish.{Edit, edit, edit-from, set-slots, each, marks, name-slot, operation-edits, edits, Slots, effect, set-name, mark-deleted}
 use Rattle.operations.specs.Finish.{root-sector, concerns, root-stores}
-use Rattle.operations.proofs.Edits.{laid-new, laid-resized, laid-mark, laid-name, laid-local, edit-made, own-made, edits-out, marks-in, marks-out, marks-any}
-use Rattle.operations.proofs.Edits.{sector-mix}
+use Rattle.operations.proofs.Edits as Edits
+use Rattle.operations.proofs.Edits.{laid-resized, laid-mark, laid-name, laid-local, edit-made, own-made, each-in, each-out, only-in, sector-mix}
+use Rattle.operations.proofs.Seats.{unnamed}
 use Rattle.root_write.specs.Slots.{resized, root-store, root-turn}
-
-pub slot-byte : (l : Layout) (w : List ℕ) (k a j : ℕ) → a ≡ 512 * (l .root + k / 16) + 32 * (k % 16) → j < 32 → getD w (a + j) 0 ≡ slot-at l (card-of w) k j
-unfolding slot-at
-slot-byte l w k a j e h = ap (λ (z : ℕ). getD w z 0) (omega arith)
-
--- A list of one test, and of two.
-pub or-one : (t : Bool) → t ≡ (t || false)
-or-one true = refl
-or-one false = refl
 
 -- A root sector that has none of a name's slots, as the name's own lies before it; the one that has its own; and one before that, whose last
 -- slot is the nearest.
@@ -63,107 +54,86 @@ module _ (s n r : ℕ) where
 
 -- ---- operations
 
--- A slot that a change does not edit, as it was loaded.
-pub out : (o : Change) (d : Directory) (k : ℕ) (b : Bytes) → All (λ e. k ≡ e .slot → ⊥) (edits o) → ((j : ℕ) → j < 32 → b j ≡ d k j)
-    → (j : ℕ) → j < 32 → b j ≡ effect o d k j
-unfolding effect
-out o d k b ne same j h = same j h ∙ sym (λ t. edits-out (edits o) d k ne t j)
+-- A slot that a change does not name, as it was loaded.
+pub out : (x : Change) (d : Directory) (k : ℕ) (b : Bytes) → among (named-slots (x .operation)) k ≡ false → ((j : ℕ) → j < 32 → b j ≡ d k j)
+    → (j : ℕ) → j < 32 → b j ≡ effect x d k j
+out x d k b off same j h = same j h ∙ sym (λ i. unnamed x d k off i j)
 
--- The slot of an operation's first edit, of its own bytes, which makes r of those that were loaded.
-module _ (d : Directory) (k : ℕ) (b r : Bytes) (same : (j : ℕ) → j < 32 → b j ≡ d k j) where
-  pub in-create : (e : Entry) → k ≡ e .slot → r ≡ new-entry (e .name) → (j : ℕ) → j < 32 → r j ≡ effect (plain (Create e)) d k j
-  unfolding effect edits operation-edits
-  in-create e h is j s = ap (λ (x : Bytes). x j) is ∙ own-made (e .slot) (λ x. new-entry (e .name)) [] d k j b h (laid-new (e .name) j) (same j s)
+-- A slot that is one of a name without a long one is its own.
+own-slot : (s k : ℕ) → among (name-slots s 0) k ≡ true → k ≡ s
+unfolding name-slots any
+own-slot s k h = ⊎-elim (λ e. e) (λ ne. clash h (rw (ne-eqb k s ne))) (same? k s)
 
-  pub in-update : (e : Entry) (last from size : ℕ) → k ≡ e .slot → r ≡ resized b (eqb last 0) from size
-      → (j : ℕ) → j < 32 → r j ≡ effect (plain (Update e last from size)) d k j
-  unfolding effect edits operation-edits
-  in-update e last from size h is j s =
-      ap (λ (x : Bytes). x j) is ∙ own-made (e .slot) (λ x. resized x (eqb last 0) from size) [] d k j b h (laid-resized (eqb last 0) from size j) (same j s)
+-- One that it names, of which the change makes r; b was loaded.
+module _ (t : Bytes) (d : Directory) (k : ℕ) (b r : Bytes) (same : (j : ℕ) → j < 32 → b j ≡ d k j) where
+  pub in-create : (e : Entry) (count : ℕ) → among (named-slots (Create e count)) k ≡ true → r ≡ name-slot e t k
+      → (j : ℕ) → j < 32 → r j ≡ effect (with-text (Create e count) t) d k j
+  unfolding effect edits operation-edits named-slots
+  in-create e count h is j s = (λ i. is i j) ∙ sym (λ i. only-in (λ k b. name-slot e t k) (name-slots (e .slot) count) d k h i j)
+
+  -- An edit of its own bytes alone.
+  made : (x : Change) (s : ℕ) (f : Bytes → Bytes) → edits x ≡ edit s f ∷ [] → ((j : ℕ) → Edits.Laid f j) → k ≡ s → r ≡ f b
+      → (j : ℕ) → j < 32 → r j ≡ effect x d k j
+  unfolding effect
+  made x s f e laid at is j small = (λ i. is i j) ∙ own-made s f [] d k j b at (laid j) (same j small) ∙ ap (λ es. set-slots es d k j) (sym e)
+
+  pub in-update : (e : Entry) (last from size : ℕ) → among (named-slots (Update e last from size)) k ≡ true → r ≡ resized b (eqb last 0) from size
+      → (j : ℕ) → j < 32 → r j ≡ effect (with-text (Update e last from size) t) d k j
+  unfolding edits operation-edits named-slots
+  in-update e last from size h is =
+      made _ (e .slot) (λ x. resized x (eqb last 0) from size) refl (laid-resized (eqb last 0) from size) (own-slot (e .slot) k h) is
+
+  pub in-truncate : (e : Entry) (first from size : ℕ) → among (named-slots (Truncate e first from size)) k ≡ true → r ≡ resized b (eqb size 0) 0 size
+      → (j : ℕ) → j < 32 → r j ≡ effect (with-text (Truncate e first from size) t) d k j
+  unfolding edits operation-edits named-slots
+  in-truncate e first from size h is = made _ (e .slot) (λ x. resized x (eqb size 0) 0 size) refl (laid-resized (eqb size 0) 0 size) (own-slot (e .slot) k h) is
+
+  pub in-replace : (e : Entry) (first from size : ℕ) → among (named-slots (Replace e first from size)) k ≡ true → r ≡ resized b true from size
+      → (j : ℕ) → j < 32 → r j ≡ effect (with-text (Replace e first from size) t) d k j
+  unfolding edits operation-edits named-slots
+  in-replace e first from size h is = made _ (e .slot) (λ x. resized x true from size) refl (laid-resized true from size) (own-slot (e .slot) k h) is
 
   -- A slot that is marked as deleted.
-  marked : (ks : List ℕ) (es : List Edit) → among ks k ≡ true → r ≡ mark-deleted b → (j : ℕ) → j < 32 → r j ≡ set-slots (marks ks ++ es) d k j
-  marked ks es h is j s =
-      ap (λ (x : Bytes). x j) is ∙ laid-local (λ x. mark-deleted x) j (laid-mark j) (d k) b (same j s) ∙ sym (λ t. marks-in es ks d k h t j)
+  deleted : r ≡ mark-deleted b → (j : ℕ) → j < 32 → r j ≡ mark-deleted (d k) j
+  deleted is j s = (λ i. is i j) ∙ laid-local (λ x. mark-deleted x) j (laid-mark j) (d k) b (same j s)
 
-  pub in-delete : (e : Entry) (count first size : ℕ) → among (name-slots (e .slot) count) k ≡ true → r ≡ mark-deleted b
-      → (j : ℕ) → j < 32 → r j ≡ effect (plain (Delete e count first size)) d k j
-  unfolding effect edits operation-edits
-  in-delete e count first size h is j s =
-      let ks : List ℕ = name-slots (e .slot) count in
-      marked ks [] h is j s ∙ ap (λ es. set-slots es d k j) (append-nil (marks ks))
-
-  pub in-truncate : (e : Entry) (first from size : ℕ) → k ≡ e .slot → r ≡ resized b (eqb size 0) 0 size
-      → (j : ℕ) → j < 32 → r j ≡ effect (plain (Truncate e first from size)) d k j
-  unfolding effect edits operation-edits
-  in-truncate e first from size h is j s =
-      ap (λ (x : Bytes). x j) is ∙ own-made (e .slot) (λ x. resized x (eqb size 0) 0 size) [] d k j b h (laid-resized (eqb size 0) 0 size j) (same j s)
+  pub in-delete : (e : Entry) (count first size : ℕ) → among (named-slots (Delete e count first size)) k ≡ true → r ≡ mark-deleted b
+      → (j : ℕ) → j < 32 → r j ≡ effect (with-text (Delete e count first size) t) d k j
+  unfolding effect edits operation-edits named-slots
+  in-delete e count first size h is j s = deleted is j s ∙ sym (λ i. only-in (λ k x. mark-deleted x) (name-slots (e .slot) count) d k h i j)
 
   pub in-rename : (e : Entry) (count first size to : ℕ) (renamed : Name) → among (name-slots (e .slot) count) k ≡ true → r ≡ mark-deleted b
-      → (j : ℕ) → j < 32 → r j ≡ effect (plain (Rename e count first size to renamed)) d k j
+      → (j : ℕ) → j < 32 → r j ≡ effect (with-text (Rename e count first size to renamed) t) d k j
   unfolding effect edits operation-edits
   in-rename e count first size to renamed h is j s =
-      marked (name-slots (e .slot) count) (edit-from (e .slot) to (λ x. set-name renamed x) ∷ []) h is j s
-
-  pub in-replace : (e : Entry) (first from size : ℕ) → k ≡ e .slot → r ≡ resized b true from size
-      → (j : ℕ) → j < 32 → r j ≡ effect (plain (Replace e first from size)) d k j
-  unfolding effect edits operation-edits
-  in-replace e first from size h is j s =
-      ap (λ (x : Bytes). x j) is ∙ own-made (e .slot) (λ x. resized x true from size) [] d k j b h (laid-resized true from size j) (same j s)
+      deleted is j s ∙ sym (λ i. each-in (λ k x. mark-deleted x) (edit-from (e .slot) to (λ x. set-name renamed x) ∷ []) (name-slots (e .slot) count) d k h i j)
 
 -- A rename's new slot, made of the old one's bytes.
-pub in-renamed : (d : Directory) (k : ℕ) (e : Entry) (count first size to : ℕ) (renamed : Name) (b r : Bytes) → ((j : ℕ) → j < 32 → b j ≡ d (e .slot) j)
-    → among (name-slots (e .slot) count) k ≡ false → k ≡ to → r ≡ set-name renamed b
-    → (j : ℕ) → j < 32 → r j ≡ effect (plain (Rename e count first size to renamed)) d k j
-unfolding effect edits operation-edits
-in-renamed d k e count first size to renamed b r same off h is j s =
+pub in-renamed : (t : Bytes) (d : Directory) (k : ℕ) (e : Entry) (count first size to : ℕ) (renamed : Name) (b r : Bytes)
+    → ((j : ℕ) → j < 32 → b j ≡ d (e .slot) j) → among (named-slots (Rename e count first size to renamed)) k ≡ true
+    → among (name-slots (e .slot) count) k ≡ false → r ≡ set-name renamed b
+    → (j : ℕ) → j < 32 → r j ≡ effect (with-text (Rename e count first size to renamed) t) d k j
+unfolding effect edits operation-edits named-slots
+in-renamed t d k e count first size to renamed b r same on off is j s =
     let named : Edit = edit-from (e .slot) to (λ x. set-name renamed x) in
-    ap (λ (x : Bytes). x j) is ∙ edit-made named [] d k j b h (laid-name renamed j) (same j s)
-    ∙ sym (λ t. marks-out (named ∷ []) (name-slots (e .slot) count) d k off t j)
+    let at : k ≡ to = ⊎-elim (λ h. clash h off) (λ q. q) (either-among (name-slots (e .slot) count) to k on) in
+    ap (λ (x : Bytes). x j) is ∙ edit-made named [] d k j b at (laid-name renamed j) (same j s)
+    ∙ sym (λ i. each-out (λ k x. mark-deleted x) (named ∷ []) (name-slots (e .slot) count) d k off i j)
 
--- A slot that is none of those marked, and not the new one, as it was loaded.
-module _ (d : Directory) (k : ℕ) (b : Bytes) (same : (j : ℕ) → j < 32 → b j ≡ d k j) (e : Entry) (count first size : ℕ)
-    (off : among (name-slots (e .slot) count) k ≡ false) where
-  pub out-delete : (j : ℕ) → j < 32 → b j ≡ effect (plain (Delete e count first size)) d k j
-  unfolding effect edits operation-edits set-slots
-  out-delete j s =
-      let ks : List ℕ = name-slots (e .slot) count in
-      same j s ∙ sym (λ t. marks-out [] ks d k off t j) ∙ ap (λ es. set-slots es d k j) (append-nil (marks ks))
-
-  pub out-rename : (to : ℕ) (renamed : Name) → (k ≡ to → ⊥) → (j : ℕ) → j < 32 → b j ≡ effect (plain (Rename e count first size to renamed)) d k j
-  unfolding effect edits operation-edits
-  out-rename to renamed ne j s =
-      let named : Edit = edit-from (e .slot) to (λ x. set-name renamed x) in
-      same j s ∙ sym (λ t. edits-out (named ∷ []) d k (ne, tt) t j) ∙ sym (λ t. marks-out (named ∷ []) (name-slots (e .slot) count) d k off t j)
-
--- The slot that a rename's new one is made of is the root's.
-pub rename-source : (n : ℕ) (e : Entry) (count first size to : ℕ) (renamed : Name) → Slots n (plain (Rename e count first size to renamed)) → e .slot < n
+-- The slot that a rename's new one is made of is the root's, and so is a create's own.
+pub rename-source : (t : Bytes) (n : ℕ) (e : Entry) (count first size to : ℕ) (renamed : Name)
+    → Slots n (with-text (Rename e count first size to renamed) t) → e .slot < n
 unfolding edits operation-edits
-rename-source n e count first size to renamed h =
+rename-source t n e count first size to renamed h =
     all-later (λ e. (e .slot < n) × (e .source < n)) (marks (name-slots (e .slot) count)) (edit-from (e .slot) to (λ x. set-name renamed x) ∷ []) h .0 .1
 
--- Whether a delete or a rename concerns a sector.
-module _ (e : Entry) (count first size r : ℕ) where
-  abbrev reached : Bool
-  reached = any (map (λ k. eqb (k / 16) r) (name-slots (e .slot) count))
-
-  pub delete-concerns : concerns (plain (Delete e count first size)) r ≡ reached
-  unfolding concerns edits operation-edits any
-  delete-concerns =
-      let ks : List ℕ = name-slots (e .slot) count in
-      ap (λ es. any (map (λ e. eqb (e .slot / 16) r) es)) (sym (append-nil (marks ks))) ∙ marks-any [] (λ k. eqb (k / 16) r) ks
-      ∙ sym (or-one reached)
-
-  module _ (to : ℕ) (renamed : Name) where
-    either : concerns (plain (Rename e count first size to renamed)) r ≡ (reached || (eqb (to / 16) r || false))
-    unfolding concerns edits operation-edits any
-    either = marks-any (edit-from (e .slot) to (λ x. set-name renamed x) ∷ []) (λ k. eqb (k / 16) r) (name-slots (e .slot) count)
-
-    pub rename-old : reached ≡ true → concerns (plain (Rename e count first size to renamed)) r ≡ true
-    rename-old h = either ∙ ap (λ t. t || (eqb (to / 16) r || false)) h
-
-    pub rename-new : reached ≡ false → concerns (plain (Rename e count first size to renamed)) r ≡ eqb (to / 16) r
-    rename-new h = either ∙ ap (λ t. t || (eqb (to / 16) r || false)) h ∙ sym (or-one (eqb (to / 16) r))
+pub create-slot : (t : Bytes) (n : ℕ) (e : Entry) (count : ℕ) → Slots n (with-text (Create e count) t) → e .slot < n
+unfolding edits operation-edits name-slots
+create-slot t n e count h = last (e .slot) count h
+  where
+    last : (s m : ℕ) → All (λ e. (e .slot < n) × (e .source < n)) (each (λ k b. name-slot e t k) (name-slots s m)) → s < n
+    last s zero h = h .0 .0
+    last s (suc m) h = last s m (h .1)
 
 -- ---- a sector from its slots
 

@@ -6,7 +6,7 @@ use Rattle.model.specs.Bytes.{Bytes, pick}
 use Rattle.model.specs.Sector.{Card, Store, store}
 use Rattle.model.specs.Root.{root-place, slot-at}
 use Rattle.model.specs.declared.Layout.{Layout}
-use Rattle.model.specs.declared.Change.{Change}
+use Rattle.model.specs.Record.{Change}
 use Rattle.operations.specs.Finish.{set-first, set-size, effect, root-sector, concerns}
 
 -- An entry with a new size, and with another first cluster where that changes.

@@ -1,5 +1,4 @@
 // The root's part of a change.
-use model::Change;
 use model::Layout;
 use model::Operation;
 use model::Progress;
@@ -7,14 +6,16 @@ ghost use mathlib.Core.Path.{_≡_};
 ghost use mathlib.Core.List.{map};
 ghost use Prim.Native.Nat.{ℕ, _+_, _*_, _/_, _<_};
 ghost use lib.Dec.{eqb};
-ghost use lib.ListN.{getD};
+ghost use lib.ListN.{length, getD};
 ghost use Rattle.model.specs.Bytes.{bytes-of};
 ghost use Rattle.model.specs.Scan.{any};
 ghost use Rattle.model.specs.Sector.{card-of};
 ghost use Rattle.model.specs.Root.{slot-at};
 ghost use Rattle.model.specs.Long.{name-slots};
-ghost use Rattle.model.specs.Promises.{Held, Ran};
-ghost use Rattle.operations.specs.Finish.{Slots, mark-deleted, effect, root-sector, concerns, root-stores};
+ghost use Rattle.model.specs.Record.{with-text};
+ghost use Rattle.model.specs.Pending.{named-slots};
+ghost use Rattle.model.specs.Promises.{Held, Texted, Ran};
+ghost use Rattle.operations.specs.Finish.{Slots, mark-deleted, effect, root-sector, root-stores};
 ghost use Rattle.root_write.specs.Slots.{resized, root-turn};
 
 // The 32 bytes of slot k.
@@ -59,174 +60,124 @@ fn reaches(s: u32, n: u32, r: u32) -> bool
     root_names::has_slot(s, n, 16 * r + 15)
 }
 
-// Whether a change edits a slot in root sector r.
-fn concerns(x: Change, r: u32) -> bool
-    ensures { λ t. ⌜ t ≡ concerns x r ⌝ }
+// Whether an operation names a slot in root sector r.
+fn concerns(o: Operation, r: u32) -> bool
+    ensures { λ t. ⌜ t ≡ any (map (λ k. eqb (k / 16) r) (named-slots o)) ⌝ }
 {
-    let o = x.operation;
-    match o {
-        Operation::Create { entry } => entry.slot / 16 == r,
-        Operation::Update {
-            entry,
-            last: _,
-            from: _,
-            size: _,
-        } => entry.slot / 16 == r,
-        Operation::Delete {
-            entry,
-            count,
-            first: _,
-            size: _,
-        } => reaches(entry.slot, count, r),
-        Operation::Truncate {
-            entry,
-            first: _,
-            from: _,
-            size: _,
-        } => entry.slot / 16 == r,
-        Operation::Rename {
-            entry,
-            count,
-            first: _,
-            size: _,
-            to,
-            renamed: _,
-        } => {
-            if reaches(entry.slot, count, r) {
-                return true;
-            }
-            to / 16 == r
-        }
-        Operation::Replace {
-            entry,
-            first: _,
-            from: _,
-            size: _,
-        } => entry.slot / 16 == r,
+    let a = root_names::slots_of(o);
+    if reaches(a.slot, a.count, r) {
+        return true;
     }
+    a.to / 16 == r
 }
 
-// The 32 bytes of slot k after the edits of a change. The slots that they are made of may be edited already.
-fn slot_after(w: &[u8], l: Layout, x: Change, k: u32) -> [u8; 32]
+// The 32 bytes of slot k after the edits of an operation with a text. The slots that they are made of may be edited already.
+fn slot_after(w: &[u8], l: Layout, o: Operation, text: &[u8], k: u32) -> [u8; 32]
     requires { ⌜ Held l (now w) × (k < l .entries) ⌝ }
-    requires { ⌜ Slots (l .entries) x ⌝ }
-    ensures { λ b. ⌜ ((j : ℕ) → j < 32 → getD b j 0 ≡ effect x (slot-at l (card-of (now (w .entry)))) k j) ⌝ }
+    requires { ⌜ Slots (l .entries) (with-text o (bytes-of (now text))) × Texted (now text) ⌝ }
+    ensures { λ b. ⌜
+        ((j : ℕ) → j < 32 → getD b j 0 ≡ effect (with-text o (bytes-of (now (text .entry)))) (slot-at l (card-of (now (w .entry)))) k j) ⌝ }
 {
     let b = load_slot(w, l, k);
-    let o = x.operation;
+    if !root_names::names(o, k) {
+        return b;
+    }
     match o {
-        Operation::Create { entry } => {
-            if k == entry.slot {
-                return sector_build::new_entry(entry.name);
-            }
-            b
-        }
+        Operation::Create { entry, count: _ } => root_spell::name_slot(entry, text, k),
         Operation::Update {
-            entry,
+            entry: _,
             last,
             from,
             size,
-        } => {
-            if k == entry.slot {
-                return resize(b, last == 0, from, size);
-            }
-            b
-        }
+        } => resize(b, last == 0, from, size),
         Operation::Delete {
-            entry,
-            count,
+            entry: _,
+            count: _,
             first: _,
             size: _,
-        } => {
-            if root_names::has_slot(entry.slot, count, k) {
-                return mark(b);
-            }
-            b
-        }
+        } => mark(b),
         Operation::Truncate {
-            entry,
+            entry: _,
             first: _,
             from: _,
             size,
-        } => {
-            if k == entry.slot {
-                return resize(b, size == 0, 0, size);
-            }
-            b
-        }
+        } => resize(b, size == 0, 0, size),
         Operation::Rename {
             entry,
             count,
             first: _,
             size: _,
-            to,
+            to: _,
             renamed,
         } => {
             if root_names::has_slot(entry.slot, count, k) {
                 return mark(b);
             }
-            if k == to {
-                return sector_build::set_name(load_slot(w, l, entry.slot), renamed);
-            }
-            b
+            sector_build::set_name(load_slot(w, l, entry.slot), renamed)
         }
         Operation::Replace {
-            entry,
+            entry: _,
             first: _,
             from,
             size,
-        } => {
-            if k == entry.slot {
-                return resize(b, true, from, size);
-            }
-            b
-        }
+        } => resize(b, true, from, size),
     }
 }
 
-// Root sector r after the edits of a change.
-fn sector_after(w: &[u8], l: Layout, x: Change, r: u32) -> [u8; 512]
-    requires { ⌜ Held l (now w) × (r < l .entries / 16) ⌝ }
-    requires { ⌜ Slots (l .entries) x ⌝ }
-    ensures { λ b. ⌜ ((j : ℕ) → j < 512 → getD b j 0 ≡ root-sector (effect x (slot-at l (card-of (now (w .entry))))) r j) ⌝ }
+// Root sector r after the edits of an operation with a text, into a buffer.
+fn load_edited(w: &[u8], l: Layout, o: Operation, text: &[u8], r: u32, buf: &mut [u8])
+    requires { ⌜ Held l (now w) × (r < l .entries / 16) × (length (now buf) ≡ 512) ⌝ }
+    requires { ⌜ Slots (l .entries) (with-text o (bytes-of (now text))) × Texted (now text) ⌝ }
+    ensures { λ _. ⌜
+        ((j : ℕ) → j < 512
+        → getD (now (buf .exit)) j 0 ≡ root-sector (effect (with-text o (bytes-of (now (text .entry)))) (slot-at l (card-of (now (w .entry))))) r j) ⌝ }
 {
-    let mut buf = [0u8; 512];
     let mut i = 0;
     while i < 16 {
-        let b = slot_after(w, l, x, 16 * r + i);
-        let more = sector_build::lay(buf, sector::index(i), b);
-        buf = more;
+        let b = slot_after(w, l, o, text, 16 * r + i);
+        sector::copy(buf, 32 * sector::index(i), &b, 0, 32);
         i += 1;
     }
-    buf
 }
 
-// Root sector r after the edits of a change is stored, if the change concerns it.
-fn store_concerned(w: &mut [u8], l: Layout, x: Change, r: u32, limit: u32) -> Progress
+// Root sector r after these edits is stored, if the operation concerns it.
+fn store_concerned(
+    w: &mut [u8],
+    l: Layout,
+    o: Operation,
+    text: &[u8],
+    r: u32,
+    limit: u32,
+) -> Progress
     requires { ⌜ Held l (now w) × (r < l .entries / 16) ⌝ }
-    requires { ⌜ Slots (l .entries) x ⌝ }
-    ensures { λ p. ⌜ Ran limit (root-turn l x (card-of (now (w .entry))) r) (now (w .entry)) (now (w .exit)) (p .made) (p .whole) ⌝ }
+    requires { ⌜ Slots (l .entries) (with-text o (bytes-of (now text))) × Texted (now text) ⌝ }
+    ensures { λ p. ⌜
+        Ran limit (root-turn l (with-text o (bytes-of (now (text .entry)))) (card-of (now (w .entry))) r) (now (w .entry)) (now (w .exit)) (p .made)
+        (p .whole) ⌝ }
 {
-    if !concerns(x, r) {
+    if !concerns(o, r) {
         return Progress {
             made: 0,
             whole: true,
         };
     }
-    let buf = sector_after(w, l, x, r);
+    let mut buf = [0u8; 512];
+    load_edited(w, l, o, text, r, &mut buf);
     sector::store_sector(w, root_read::root_place(l, r), &buf, limit)
 }
 
-// The root sectors that a change concerns, rising.
-pub fn store_root(w: &mut [u8], l: Layout, x: Change, limit: u32) -> Progress
+// The root sectors that an operation with a text concerns, rising.
+pub fn store_root(w: &mut [u8], l: Layout, o: Operation, text: &[u8], limit: u32) -> Progress
     requires { ⌜ Held l (now w) ⌝ }
-    requires { ⌜ Slots (l .entries) x ⌝ }
-    ensures { λ r. ⌜ Ran limit (root-stores l x (card-of (now (w .entry)))) (now (w .entry)) (now (w .exit)) (r .made) (r .whole) ⌝ }
+    requires { ⌜ Slots (l .entries) (with-text o (bytes-of (now text))) × Texted (now text) ⌝ }
+    ensures { λ r. ⌜
+        Ran limit (root-stores l (with-text o (bytes-of (now (text .entry)))) (card-of (now (w .entry)))) (now (w .entry)) (now (w .exit)) (r .made)
+        (r .whole) ⌝ }
 {
     let mut made = 0;
     let mut r = 0;
     while r < l.entries / 16 {
-        let p = store_concerned(w, l, x, r, limit - made);
+        let p = store_concerned(w, l, o, text, r, limit - made);
         made += p.made;
         if !p.whole {
             return Progress { made, whole: false };

@@ -6,16 +6,12 @@ use Rattle.operations.specs.Calls.{rename-as}
 use borrow.Author.Needs.{needs}
 use Rattle.call_create.proofs.rename_as.Statement.{statement}
 use Rattle.call_create.proofs.rename_as.Tie as tie
-use Rattle.call_create.proofs.rename_as.Reads as reads
-use Rattle.call_create.proofs.rename_as.Lts as lts
-use Rattle.call_create.proofs.rename_to.Reads as rename-to-reads
-use Rattle.root_lookup.proofs.new_slot.Reads as new-slot-reads
 
 rename-to-requires : tie.Need-rename-to-requires
 rename-to-requires c κs =
-    let pre = c .before .before .before .before .before .before .before .before .pre in
-    let new-slot = c .before .before .before .before .new-slot in
-    (pre .0, (pre .1 .0, (rw (c .before .before .p2 .given .1) at (new-slot .ensures .1)), pre .1 .1))
+    let h = c .before .before .before .before .before .before .before .before .before .pre in
+    let the-new-slot = c .before .before .before .before .new-slot in
+    (h .0, (h .1 .0, (rw (c .before .before .p2 .given .1) at (the-new-slot .ensures .1)), h .1 .1))
 
 returns : tie.Need-returns
 unfolding rename-as _>>=_
@@ -24,12 +20,12 @@ returns c = rw (sym (c .before .before .before .new-slot .ensures .0) ∙ ap vac
 returns-2 : tie.Need-returns-2
 unfolding rename-as _>>=_
 returns-2 c =
-    let new-slot = c .before .before .before .before .before .before .before .new-slot in
-    let p2 = c .before .before .before .before .before .p2 in
-    rw (sym (new-slot .ensures .0) ∙ ap vacancy-of (p2 .given .1)) (c .before .before .rename-to .ensures)
+    let the-new-slot = c .before .before .before .before .before .before .before .new-slot in
+    let the-p2 = c .before .before .before .before .before .p2 in
+    rw (sym (the-new-slot .ensures .0) ∙ ap vacancy-of (the-p2 .given .1)) (c .before .before .rename-to .ensures)
 
 pub rename-as-spec : {M : Type 1} → statement M
 rename-as-spec =
     tie.close
-    (tie.spec (λ c κs. search needs) (λ c. search needs) (λ c. search needs) rename-to-requires (λ c. search needs) returns
+    (tie.spec (λ c. search needs) (λ c κs. search needs) (λ c. search needs) (λ c. search needs) rename-to-requires (λ c. search needs) returns
     (λ c. search needs) returns-2)

@@ -1,44 +1,39 @@
-use mathlib.Core.Path.{_≡_, sym, subst}
+use mathlib.Core.Path.{_≡_, refl}
 use lib.ListN.{length}
 use native.Mathlib.Omega.{arith}
 use borrow.Author.Tests.{eqb-true}
 use Rattle.model.specs.Root.{name-ok}
+use Rattle.model.specs.Record.{operation-records}
 use Rattle.model.proofs.Tests.{every-at}
-use Rattle.operations.specs.Finish.{Slots}
 use Rattle.operations.specs.Plan.{rename-stores}
 use Rattle.operations.proofs.Seats.{rename-slots}
 use borrow.Author.Needs.{needs}
 use Rattle.call_create.proofs.rename_to.Statement.{statement}
 use Rattle.call_create.proofs.rename_to.Tie as tie
-use Rattle.call_create.proofs.rename_to.Reads as reads
-use Rattle.call_create.proofs.rename_to.Lts as lts
-use Rattle.call_create.proofs.record_change.Reads as record-change-reads
-use Rattle.log_steps.proofs.plain.Reads as plain-reads
-use Rattle.root_long.proofs.long_count.Reads as long-count-reads
-use Rattle.root_names.proofs.name_of.Reads as name-of-reads
 
 name-of-requires : tie.Need-name-of-requires
 unfolding name-ok
 name-of-requires c κs =
-    let b = c .before .before .before .before .before .before in
-    let e : length (b .args .name .now) ≡ 11 = eqb-true _ _ (every-at _ (b .pre .1 .2) 0) in
+    let a = c .before .before .before .before .before .before .args in
+    let h = c .before .before .before .before .before .before .pre in
+    let e : length (a .name .now) ≡ 11 = eqb-true _ _ (every-at _ (h .1 .2) 0) in
     omega arith
 
 record-change-requires : tie.Need-record-change-requires
+unfolding operation-records
 record-change-requires c κs =
-    let b = c .before .before .before .before .before .before .before .before .before in
-    let p = b .pre in
-    let n = b .args .v .layout .entries in
-    (p .0, subst (Slots n) (sym (c .plain .ensures)) (rename-slots n _ _ _ _ (p .1 .0) _ _ (p .1 .1)))
+    let h = c .before .before .before .before .before .before .before .before .before .pre in
+    let a = c .before .before .before .before .before .before .before .before .before .args in
+    (h .0, (rename-slots (a .v .layout .entries) _ _ (h .1 .0) _ _ _ _ _ (h .1 .1), record { even = refl; short = omega arith }, omega arith))
 
 returns : tie.Need-returns
 unfolding rename-stores
 returns c =
-    let g = c .before .before .before in
-    let n = g .before .before in
-    rw (g .plain .ensures, n .name-of .ensures, n .before .long-count .ensures) at (c .before .before .record-change .ensures)
+    let the-long-count = c .before .before .before .before .before .before .long-count in
+    let the-name-of = c .before .before .before .before .before .name-of in
+    rw (the-name-of .ensures, the-long-count .ensures) at (c .before .before .record-change .ensures)
 
 pub rename-to-spec : {M : Type 1} → statement M
 rename-to-spec =
     tie.close
-    (tie.spec (λ c κs. search needs) name-of-requires (λ c κs. search needs) record-change-requires (λ c. search needs) returns)
+    (tie.spec (λ c κs. search needs) name-of-requires (λ c. search needs) record-change-requires (λ c. search needs) returns)

@@ -3,18 +3,12 @@ use mathlib.Core.Bool.{and-true}
 use borrow.Author.Tests.{not-true, not-false}
 use Rattle.model.specs.Sector.{card-of}
 use Rattle.model.specs.Scan.{every, all}
-use Rattle.model.specs.Record.{pends}
+use Rattle.model.specs.Record.{change-of, pends}
 use Rattle.model.specs.Pending.{group-ok}
 use Rattle.model.proofs.Tests.{every-not}
 use borrow.Author.Needs.{needs}
 use Rattle.log_group.proofs.group_ok.Statement.{statement}
 use Rattle.log_group.proofs.group_ok.Tie as tie
-use Rattle.log_group.proofs.group_ok.Reads as reads
-use Rattle.log_group.proofs.group_ok.Lts as lts
-use Rattle.log_group.proofs.all_pend.Reads as all-pend-reads
-use Rattle.log_group.proofs.group_size.Reads as group-size-reads
-use Rattle.log_group.proofs.is_empty.Reads as is-empty-reads
-use Rattle.log_record.proofs.records_ok.Reads as records-ok-reads
 
 returns : tie.Need-returns
 unfolding group-ok
@@ -23,27 +17,21 @@ returns c = sym (every-not _ 0 (sym (c .before .records-ok .ensures) ∙ not-tru
 returns-2 : tie.Need-returns-2
 unfolding group-ok
 returns-2 c =
-    let g = c .before .before .before .before in
-    let a = g .before .before .args in
-    sym (every-not _ 1 (ap (all (pends (card-of (a .log .now) (a .s)))) (sym (g .group-size .ensures .0))
-    ∙ sym (c .before .all-pend .ensures) ∙ not-true _ (c .if2 .taken)))
+    let a = c .before .before .before .before .before .before .args in
+    let the-group-size = c .before .before .before .before .group-size in
+    sym (every-not _ 1 (ap (all (pends (card-of (a .log .now) (a .s)))) (sym (the-group-size .ensures .0)) ∙ sym (c .before .all-pend .ensures)
+    ∙ not-true _ (c .if2 .taken)))
 
 returns-3 : tie.Need-returns-3
-unfolding group-ok every
+unfolding group-ok every change-of
 returns-3 c =
-    let t = c .before in
-    let p = t .before in
-    let o = p .before in
-    let r = o .before in
-    rw (
-      sym (r .records-ok .ensures) ∙ not-false _ (o .if1 .left),
-      ← r .before .group-size .ensures .0,
-      sym (p .all-pend .ensures) ∙ not-false _ (t .if2 .left),
-      and-true,
-    ) (c .is-empty .ensures)
+    let the-group-size = c .before .before .before .before .before .group-size in
+    let the-records-ok = c .before .before .before .before .records-ok in
+    let the-if1 = c .before .before .before .if1 in
+    rw (sym (the-records-ok .ensures) ∙ not-false _ (the-if1 .left), ← the-group-size .ensures .0, sym (c .before .before .all-pend .ensures)
+    ∙ not-false _ (c .before .if2 .left), and-true) (c .text-ok .ensures)
 
 pub group-ok-spec : {M : Type 1} → statement M
 group-ok-spec =
     tie.close
-    (tie.spec (λ c κs. search needs) (λ c κs. search needs) returns (λ c κs. search needs) returns-2 (λ c. search needs)
-    (λ c κs. search needs) returns-3)
+    (tie.spec (λ c κs. search needs) (λ c κs. search needs) returns (λ c κs. search needs) returns-2 (λ c κs. search needs) returns-3)

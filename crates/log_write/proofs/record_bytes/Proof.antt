@@ -2,7 +2,7 @@ use mathlib.Core.Path.{ap, _∙_}
 use Rattle.model.specs.Bytes.{Bytes, patch}
 use Rattle.model.specs.Record.{record-bytes}
 use Rattle.operations.specs.Finish.{set-name}
-use Rattle.sector_build.proofs.Laws.{all-zero}
+use Rattle.model.proofs.Lists.{all-zero}
 use borrow.Author.Needs.{needs}
 use Rattle.log_write.proofs.record_bytes.Statement.{statement}
 use Rattle.log_write.proofs.record_bytes.Tie as tie

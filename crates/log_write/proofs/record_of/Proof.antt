@@ -1,6 +1,6 @@
 use native.Mathlib.Omega.{arith}
 use mathlib.Core.Path.{_≡_}
-use Rattle.model.specs.Record.{records, operation-records}
+use Rattle.model.specs.Record.{operation-records}
 use borrow.Author.Needs.{needs}
 use Rattle.log_write.proofs.record_of.Statement.{statement}
 use Rattle.log_write.proofs.record_of.Tie as tie
@@ -9,11 +9,11 @@ use Rattle.log_write.proofs.record_of.Lts as lts
 use Rattle.log_write.proofs.record_about.Reads as record-about-reads
 
 returns : tie.Need-returns
-unfolding records operation-records
+unfolding operation-records
 returns c = rw (c .before .before .before .o5 .given .1, c .before .if1 .taken) (c .record-about5 .ensures)
 
 returns-2 : tie.Need-returns-2
-unfolding records operation-records
+unfolding operation-records
 returns-2 c =
     let pre = c .before .before .before .before .pre in
     let a = c .before .before .before .before .args in
@@ -21,7 +21,7 @@ returns-2 c =
     let less = rw (o .given .1) at (pre) in let first : a .k ≡ 0 = omega arith in rw (o .given .1, first) (c .record-about .ensures)
 
 returns-3 : tie.Need-returns-3
-unfolding records operation-records
+unfolding operation-records
 returns-3 c =
     let pre = c .before .before .before .before .pre in
     let a = c .before .before .before .before .args in
@@ -29,7 +29,7 @@ returns-3 c =
     let less = rw (o2 .given .1) at (pre) in let first : a .k ≡ 0 = omega arith in rw (o2 .given .1, first) (c .record-about2 .ensures)
 
 returns-4 : tie.Need-returns-4
-unfolding records operation-records
+unfolding operation-records
 returns-4 c =
     let pre = c .before .before .before .before .pre in
     let a = c .before .before .before .before .args in
@@ -37,7 +37,7 @@ returns-4 c =
     let less = rw (o3 .given .1) at (pre) in let first : a .k ≡ 0 = omega arith in rw (o3 .given .1, first) (c .record-about3 .ensures)
 
 returns-5 : tie.Need-returns-5
-unfolding records operation-records
+unfolding operation-records
 returns-5 c =
     let pre = c .before .before .before .before .pre in
     let a = c .before .before .before .before .args in
@@ -45,7 +45,7 @@ returns-5 c =
     let less = rw (o4 .given .1) at (pre) in let first : a .k ≡ 0 = omega arith in rw (o4 .given .1, first) (c .record-about4 .ensures)
 
 returns-6 : tie.Need-returns-6
-unfolding records operation-records
+unfolding operation-records
 returns-6 c =
     let pre = c .before .before .before .before .before .pre in
     let a = c .before .before .before .before .before .args in
@@ -54,7 +54,7 @@ returns-6 c =
     (c .record-about6 .ensures)
 
 returns-7 : tie.Need-returns-7
-unfolding records operation-records
+unfolding operation-records
 returns-7 c =
     let pre = c .before .before .before .before .pre in
     let a = c .before .before .before .before .args in

@@ -3,7 +3,7 @@ use Prim.Native.Nat.{_+_, _*_}
 use native.Mathlib.Omega.{arith}
 use Rattle.model.specs.Bytes.{bytes-of, part}
 use Rattle.model.proofs.Overlays.{overlay-front}
-use Rattle.root_write.proofs.Laws.{slot-byte}
+use Rattle.root_read.proofs.Laws.{slot-byte}
 use borrow.Author.Needs.{needs}
 use Rattle.root_write.proofs.load_slot.Statement.{statement}
 use Rattle.root_write.proofs.load_slot.Tie as tie

@@ -1,165 +1,129 @@
+use native.Mathlib.Omega.{arith}
 use mathlib.Core.Path.{sym, _∙_}
+use borrow.Author.Tests.{not-true, not-false}
 use Rattle.model.specs.Bytes.{bytes-of}
 use Rattle.model.specs.Sector.{card-of}
 use Rattle.model.specs.Root.{slot-at}
-use Rattle.operations.specs.Finish.{effect, edits, operation-edits}
-use Rattle.root_write.proofs.Laws.{out, in-create, in-update, in-delete, in-truncate, in-rename, in-renamed, in-replace, out-delete, out-rename}
-use Rattle.root_write.proofs.Laws.{rename-source}
+use Rattle.model.specs.Record.{with-text}
+use Rattle.model.specs.Pending.{named-slots}
+use Rattle.model.proofs.Long.{low-named}
+use Rattle.root_write.proofs.Laws.{out, in-create, in-update, in-delete, in-truncate, in-rename, in-renamed, in-replace}
+use Rattle.root_write.proofs.Laws.{rename-source, create-slot}
 use borrow.Author.Needs.{needs}
 use Rattle.root_write.proofs.slot_after.Statement.{statement}
 use Rattle.root_write.proofs.slot_after.Tie as tie
-use Rattle.root_write.proofs.slot_after.Reads as reads
-use Rattle.root_write.proofs.slot_after.Lts as lts
-use Rattle.root_names.proofs.has_slot.Reads as has-slot-reads
-use Rattle.sector_build.proofs.new_entry.Reads as new-entry-reads
-use Rattle.sector_build.proofs.set_name.Reads as set-name-reads
-use Rattle.root_write.proofs.load_slot.Reads as load-slot-reads
-use Rattle.root_write.proofs.mark.Reads as mark-reads
-use Rattle.root_write.proofs.resize.Reads as resize-reads
 
 returns : tie.Need-returns
-unfolding effect edits
 returns c =
-    let args = c .before .before .before .before .before .before .before .before .args in
-    let load-slot = c .before .before .before .before .before .before .load-slot in
-    let o-2 = c .before .before .before .before .o in
-    rw (o-2 .given .1) (in-create (slot-at (args .l) (card-of (args .w .now))) (args .k) (bytes-of (load-slot .result))
-    (bytes-of (c .new-entry .result)) (load-slot .ensures) (o-2 .given .0 .0) (c .before .if1 .taken) (c .new-entry .ensures))
+    let a = c .before .before .before .before .before .args in
+    let the-load-slot = c .before .before .load-slot in
+    out (with-text (a .o) (bytes-of (a .text .now))) (slot-at (a .l) (card-of (a .w .now))) (a .k) (bytes-of (the-load-slot .result))
+    (sym (c .before .names .ensures) ∙ not-true _ (c .if1 .taken)) (the-load-slot .ensures)
+
+name-slot-requires : tie.Need-name-slot-requires
+unfolding named-slots
+name-slot-requires c κs =
+    let o = c .before in
+    let n = o .before .before in
+    let b = n .before .before .before .before .before in
+    let a = b .args in
+    let g = o .o .given in
+    let low = low-named (g .0 .0 .slot) (g .0 .1 .0) (a .k) (rw (g .1) at (sym (n .before .names .ensures) ∙ not-false _ (n .if1 .left))) in
+    let in-root = create-slot (bytes-of (a .text .now)) (a .l .entries) (g .0 .0) (g .0 .1 .0) (rw (g .1) at (b .pre .1 .0)) in
+    (b .pre .1 .1 .even, b .pre .1 .1 .short, low, omega (arith, b .pre .0 .0 .fits .entries-high))
 
 returns-2 : tie.Need-returns-2
-unfolding effect edits
 returns-2 c =
-    let args = c .before .before .before .before .before .before .before .before .args in
-    let load-slot = c .before .before .before .before .before .before .load-slot in
-    let o2 = c .before .before .before .before .o2 in
-    rw (o2 .given .1) (in-update (slot-at (args .l) (card-of (args .w .now))) (args .k) (bytes-of (load-slot .result)) (bytes-of (c .resize .result))
-    (load-slot .ensures) (o2 .given .0 .0) (o2 .given .0 .1 .0) (o2 .given .0 .1 .1 .0) (o2 .given .0 .1 .1 .1 .0) (c .before .if2 .taken)
-    (c .resize .ensures))
-
-returns-3 : tie.Need-returns-3
-unfolding effect edits
-returns-3 c =
-    let args = c .before .before .before .before .before .before .before .before .args in
-    let load-slot = c .before .before .before .before .before .before .load-slot in
-    let o3 = c .before .before .before .before .o3 in
-    rw (o3 .given .1) (in-delete (slot-at (args .l) (card-of (args .w .now))) (args .k) (bytes-of (load-slot .result)) (bytes-of (c .mark .result))
-    (load-slot .ensures) (o3 .given .0 .0) (o3 .given .0 .1 .0) (o3 .given .0 .1 .1 .0) (o3 .given .0 .1 .1 .1 .0)
-    (sym (c .before .before .has-slot .ensures) ∙ c .before .if3 .taken) (c .mark .ensures))
-
-returns-4 : tie.Need-returns-4
-unfolding effect edits
-returns-4 c =
-    let args = c .before .before .before .before .before .before .before .before .args in
-    let load-slot = c .before .before .before .before .before .before .load-slot in
-    let o4 = c .before .before .before .before .o4 in
-    rw (o4 .given .1) (in-truncate (slot-at (args .l) (card-of (args .w .now))) (args .k) (bytes-of (load-slot .result))
-    (bytes-of (c .resize2 .result)) (load-slot .ensures) (o4 .given .0 .0) (o4 .given .0 .1 .0) (o4 .given .0 .1 .1 .0) (o4 .given .0 .1 .1 .1 .0)
-    (c .before .if4 .taken) (c .resize2 .ensures))
-
-returns-5 : tie.Need-returns-5
-unfolding effect edits
-returns-5 c =
-    let args = c .before .before .before .before .before .before .before .before .args in
-    let load-slot = c .before .before .before .before .before .before .load-slot in
-    let o5 = c .before .before .before .before .o5 in
-    rw (o5 .given .1) (in-rename (slot-at (args .l) (card-of (args .w .now))) (args .k) (bytes-of (load-slot .result)) (bytes-of (c .mark2 .result))
-    (load-slot .ensures) (o5 .given .0 .0) (o5 .given .0 .1 .0) (o5 .given .0 .1 .1 .0) (o5 .given .0 .1 .1 .1 .0) (o5 .given .0 .1 .1 .1 .1 .0)
-    (o5 .given .0 .1 .1 .1 .1 .1 .0) (sym (c .before .before .has-slot2 .ensures) ∙ c .before .if5 .taken) (c .mark2 .ensures))
+    let a = c .before .before .before .before .before .before .before .before .before .before .before .args in
+    let the-load-slot = c .before .before .before .before .before .before .before .before .load-slot in
+    let the-o4 = c .before .before .before .before .o4 in
+    rw (the-o4 .given .1) (in-rename (bytes-of (a .text .now)) (slot-at (a .l) (card-of (a .w .now))) (a .k) (bytes-of (the-load-slot .result))
+    (bytes-of (c .mark2 .result)) (the-load-slot .ensures) (the-o4 .given .0 .0) (the-o4 .given .0 .1 .0) (the-o4 .given .0 .1 .1 .0)
+    (the-o4 .given .0 .1 .1 .1 .0) (the-o4 .given .0 .1 .1 .1 .1 .0) (the-o4 .given .0 .1 .1 .1 .1 .1 .0) (sym (c .before .before .has-slot .ensures)
+    ∙ c .before .if2 .taken) (c .mark2 .ensures))
 
 load-slot-requires-2 : tie.Need-load-slot-requires-2
 load-slot-requires-2 c κs =
+    let h = c .before .before .before .before .before .before .before .before .before .before .pre in
+    let a = c .before .before .before .before .before .before .before .before .before .before .args in
+    let the-o4 = c .before .before .before .o4 in
+    (h .0 .0, rename-source (bytes-of (a .text .now)) (a .l .entries) (the-o4 .given .0 .0) (the-o4 .given .0 .1 .0) (the-o4 .given .0 .1 .1 .0)
+    (the-o4 .given .0 .1 .1 .1 .0) (the-o4 .given .0 .1 .1 .1 .1 .0) (the-o4 .given .0 .1 .1 .1 .1 .1 .0) (rw (the-o4 .given .1) at (h .1 .0)))
+
+returns-3 : tie.Need-returns-3
+returns-3 c =
+    let a = c .before .before .before .before .before .before .before .before .before .args in
+    let the-load-slot = c .before .before .before .before .before .before .load-slot in
+    let the-names = c .before .before .before .before .before .names in
+    let the-if1 = c .before .before .before .before .if1 in
+    let the-o = c .before .before .o in
+    rw (the-o .given .1) (in-create (bytes-of (a .text .now)) (slot-at (a .l) (card-of (a .w .now))) (a .k) (bytes-of (the-load-slot .result))
+    (bytes-of (c .name-slot .result)) (the-load-slot .ensures) (the-o .given .0 .0) (the-o .given .0 .1 .0)
+    (rw (the-o .given .1) at (sym (the-names .ensures) ∙ not-false _ (the-if1 .left))) (c .name-slot .ensures))
+
+returns-4 : tie.Need-returns-4
+returns-4 c =
+    let a = c .before .before .before .before .before .before .before .before .before .args in
+    let the-load-slot = c .before .before .before .before .before .before .load-slot in
+    let the-names = c .before .before .before .before .before .names in
+    let the-if1 = c .before .before .before .before .if1 in
+    let the-o2 = c .before .before .o2 in
+    rw (the-o2 .given .1) (in-update (bytes-of (a .text .now)) (slot-at (a .l) (card-of (a .w .now))) (a .k) (bytes-of (the-load-slot .result))
+    (bytes-of (c .resize .result)) (the-load-slot .ensures) (the-o2 .given .0 .0) (the-o2 .given .0 .1 .0) (the-o2 .given .0 .1 .1 .0)
+    (the-o2 .given .0 .1 .1 .1 .0) (rw (the-o2 .given .1) at (sym (the-names .ensures) ∙ not-false _ (the-if1 .left))) (c .resize .ensures))
+
+returns-5 : tie.Need-returns-5
+returns-5 c =
     let a = c .before .before .before .before .before .before .before .before .args in
-    let pre = c .before .before .before .before .before .before .before .before .pre in
-    let g = c .before .before .before .before .o5 .given in (
-      pre .0 .0,
-      rename-source (a .l .entries) (g .0 .0) (g .0 .1 .0) (g .0 .1 .1 .0) (g .0 .1 .1 .1 .0) (g .0 .1 .1 .1 .1 .0) (g .0 .1 .1 .1 .1 .1 .0)
-          (rw (g .1) at (pre .1)),
-    )
+    let the-load-slot = c .before .before .before .before .before .load-slot in
+    let the-names = c .before .before .before .before .names in
+    let the-if1 = c .before .before .before .if1 in
+    let the-enum-told = c .before .enum-told in
+    rw (the-enum-told .given .1) (in-delete (bytes-of (a .text .now)) (slot-at (a .l) (card-of (a .w .now))) (a .k) (bytes-of (the-load-slot .result))
+    (bytes-of (c .mark .result)) (the-load-slot .ensures) (the-enum-told .given .0 .0) (the-enum-told .given .0 .1 .0)
+    (the-enum-told .given .0 .1 .1 .0) (the-enum-told .given .0 .1 .1 .1 .0)
+    (rw (the-enum-told .given .1) at (sym (the-names .ensures) ∙ not-false _ (the-if1 .left))) (c .mark .ensures))
 
 returns-6 : tie.Need-returns-6
-unfolding effect edits
 returns-6 c =
-    let args = c .before .before .before .before .before .before .before .before .before .before .args in
-    let o5 = c .before .before .before .before .before .before .o5 in
-    let if5 = c .before .before .before .if5 in
-    rw (o5 .given .1) (in-renamed (slot-at (args .l) (card-of (args .w .now))) (args .k) (o5 .given .0 .0) (o5 .given .0 .1 .0)
-    (o5 .given .0 .1 .1 .0) (o5 .given .0 .1 .1 .1 .0) (o5 .given .0 .1 .1 .1 .1 .0) (o5 .given .0 .1 .1 .1 .1 .1 .0)
-    (bytes-of (c .before .load-slot2 .result)) (bytes-of (c .set-name .result)) (c .before .load-slot2 .ensures)
-    (sym (c .before .before .before .before .has-slot2 .ensures) ∙ if5 .left) (c .before .before .if6 .taken) (c .set-name .ensures))
+    let a = c .before .before .before .before .before .before .before .before .before .args in
+    let the-load-slot = c .before .before .before .before .before .before .load-slot in
+    let the-names = c .before .before .before .before .before .names in
+    let the-if1 = c .before .before .before .before .if1 in
+    let the-o3 = c .before .before .o3 in
+    rw (the-o3 .given .1) (in-truncate (bytes-of (a .text .now)) (slot-at (a .l) (card-of (a .w .now))) (a .k) (bytes-of (the-load-slot .result))
+    (bytes-of (c .resize2 .result)) (the-load-slot .ensures) (the-o3 .given .0 .0) (the-o3 .given .0 .1 .0) (the-o3 .given .0 .1 .1 .0)
+    (the-o3 .given .0 .1 .1 .1 .0) (rw (the-o3 .given .1) at (sym (the-names .ensures) ∙ not-false _ (the-if1 .left))) (c .resize2 .ensures))
 
 returns-7 : tie.Need-returns-7
-unfolding effect edits
 returns-7 c =
-    let args = c .before .before .before .before .before .before .before .before .args in
-    let load-slot = c .before .before .before .before .before .before .load-slot in
-    let o6 = c .before .before .before .before .o6 in
-    rw (o6 .given .1) (in-replace (slot-at (args .l) (card-of (args .w .now))) (args .k) (bytes-of (load-slot .result))
-    (bytes-of (c .resize3 .result)) (load-slot .ensures) (o6 .given .0 .0) (o6 .given .0 .1 .0) (o6 .given .0 .1 .1 .0) (o6 .given .0 .1 .1 .1 .0)
-    (c .before .if7 .taken) (c .resize3 .ensures))
+    let a = c .before .before .before .before .before .before .before .before .before .before .before .before .args in
+    let the-names = c .before .before .before .before .before .before .before .before .names in
+    let the-if1 = c .before .before .before .before .before .before .before .if1 in
+    let the-o4 = c .before .before .before .before .before .o4 in
+    let the-has-slot = c .before .before .before .has-slot in
+    let the-load-slot2 = c .before .load-slot2 in
+    rw (the-o4 .given .1) (in-renamed (bytes-of (a .text .now)) (slot-at (a .l) (card-of (a .w .now))) (a .k) (the-o4 .given .0 .0)
+    (the-o4 .given .0 .1 .0) (the-o4 .given .0 .1 .1 .0) (the-o4 .given .0 .1 .1 .1 .0) (the-o4 .given .0 .1 .1 .1 .1 .0)
+    (the-o4 .given .0 .1 .1 .1 .1 .1 .0) (bytes-of (the-load-slot2 .result)) (bytes-of (c .set-name .result)) (the-load-slot2 .ensures)
+    (rw (the-o4 .given .1) at (sym (the-names .ensures) ∙ not-false _ (the-if1 .left))) (sym (the-has-slot .ensures) ∙ c .before .before .if2 .left)
+    (c .set-name .ensures))
 
 returns-8 : tie.Need-returns-8
-unfolding edits operation-edits
 returns-8 c =
-    let o = c .before .before .before in
-    let l = o .before .before in
-    let b = l .before .before in
-    let a = b .args in
-    out (a .x) (slot-at (a .l) (card-of (a .w .now))) (a .k) (bytes-of (l .load-slot .result)) (rw (o .o .given .1) (c .if1 .left, tt))
-    (l .load-slot .ensures)
-
-returns-9 : tie.Need-returns-9
-unfolding edits operation-edits
-returns-9 c =
-    let o = c .before .before .before in
-    let l = o .before .before in
-    let b = l .before .before in
-    let a = b .args in
-    out (a .x) (slot-at (a .l) (card-of (a .w .now))) (a .k) (bytes-of (l .load-slot .result)) (rw (o .o2 .given .1) (c .if2 .left, tt))
-    (l .load-slot .ensures)
-
-returns-10 : tie.Need-returns-10
-returns-10 c =
-    let o = c .before .before .before in
-    let l = o .before .before in
-    let a = l .before .before .args in
-    let g = o .o3 .given in
-    rw (g .1) (out-delete (slot-at (a .l) (card-of (a .w .now))) (a .k) (bytes-of (l .load-slot .result)) (l .load-slot .ensures) (g .0 .0) (g .0 .1 .0)
-    (g .0 .1 .1 .0) (g .0 .1 .1 .1 .0) (sym (c .before .has-slot .ensures) ∙ c .if3 .left))
-
-returns-11 : tie.Need-returns-11
-unfolding edits operation-edits
-returns-11 c =
-    let o = c .before .before .before in
-    let l = o .before .before in
-    let b = l .before .before in
-    let a = b .args in
-    out (a .x) (slot-at (a .l) (card-of (a .w .now))) (a .k) (bytes-of (l .load-slot .result)) (rw (o .o4 .given .1) (c .if4 .left, tt))
-    (l .load-slot .ensures)
-
-returns-12 : tie.Need-returns-12
-returns-12 c =
-    let o = c .before .before .before .before in
-    let l = o .before .before in
-    let a = l .before .before .args in
-    let g = o .o5 .given in
-    rw (g .1) (out-rename (slot-at (a .l) (card-of (a .w .now))) (a .k) (bytes-of (l .load-slot .result)) (l .load-slot .ensures) (g .0 .0) (g .0 .1 .0)
-    (g .0 .1 .1 .0) (g .0 .1 .1 .1 .0) (sym (c .before .before .has-slot2 .ensures) ∙ c .before .if5 .left) (g .0 .1 .1 .1 .1 .0) (g .0 .1 .1 .1 .1 .1 .0)
-    (c .if6 .left))
-
-returns-13 : tie.Need-returns-13
-unfolding edits operation-edits
-returns-13 c =
-    let o = c .before .before .before in
-    let l = o .before .before in
-    let b = l .before .before in
-    let a = b .args in
-    out (a .x) (slot-at (a .l) (card-of (a .w .now))) (a .k) (bytes-of (l .load-slot .result)) (rw (o .o6 .given .1) (c .if7 .left, tt))
-    (l .load-slot .ensures)
+    let a = c .before .before .before .before .before .before .before .before .before .args in
+    let the-load-slot = c .before .before .before .before .before .before .load-slot in
+    let the-names = c .before .before .before .before .before .names in
+    let the-if1 = c .before .before .before .before .if1 in
+    let the-o5 = c .before .before .o5 in
+    rw (the-o5 .given .1) (in-replace (bytes-of (a .text .now)) (slot-at (a .l) (card-of (a .w .now))) (a .k) (bytes-of (the-load-slot .result))
+    (bytes-of (c .resize3 .result)) (the-load-slot .ensures) (the-o5 .given .0 .0) (the-o5 .given .0 .1 .0) (the-o5 .given .0 .1 .1 .0)
+    (the-o5 .given .0 .1 .1 .1 .0) (rw (the-o5 .given .1) at (sym (the-names .ensures) ∙ not-false _ (the-if1 .left))) (c .resize3 .ensures))
 
 pub slot-after-spec : {M : Type 1} → statement M
 slot-after-spec =
     tie.close
-    (tie.spec (λ c κs. search needs) (λ c. search needs) (λ c κs. search needs) returns (λ c. search needs) (λ c κs. search needs) returns-2
-    (λ c. search needs) (λ c κs. search needs) (λ c κs. search needs) returns-3 (λ c. search needs) (λ c κs. search needs) returns-4 (λ c.
-    search needs) (λ c κs. search needs) (λ c κs. search needs) returns-5 load-slot-requires-2 (λ c κs. search needs) returns-6 (λ c. search
-    needs) (λ c κs. search needs) returns-7 returns-8 returns-9 returns-10 returns-11 returns-12 returns-13)
+    (tie.spec (λ c κs. search needs) (λ c κs. search needs) returns (λ c. search needs) name-slot-requires (λ c. search needs) (λ c κs. search needs)
+    (λ c. search needs) (λ c κs. search needs) (λ c. search needs) (λ c κs. search needs) (λ c. search needs) (λ c κs. search needs)
+    (λ c κs. search needs) returns-2 load-slot-requires-2 (λ c κs. search needs) (λ c. search needs) (λ c κs. search needs) returns-3 returns-4
+    returns-5 returns-6 returns-7 returns-8)

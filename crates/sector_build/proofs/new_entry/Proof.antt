@@ -1,7 +1,7 @@
 use mathlib.Core.Path.{ap, _∙_}
 use Rattle.model.specs.Bytes.{Bytes, patch}
 use Rattle.operations.specs.Finish.{set-name, new-entry}
-use Rattle.sector_build.proofs.Laws.{all-zero}
+use Rattle.model.proofs.Lists.{all-zero}
 use borrow.Author.Needs.{needs}
 use Rattle.sector_build.proofs.new_entry.Statement.{statement}
 use Rattle.sector_build.proofs.new_entry.Tie as tie

@@ -23,13 +23,11 @@ returns c =
     )
 
 returns-2 : tie.Need-returns-2
-unfolding pending
 returns-2 c =
     let a = c .before .before .before .before .before .before .before .before .args in
-    let end-slot = c .before .before .before .before .before .end-slot in
     let pending-of = c .before .before .before .before .pending-of in
     let root-ok = c .before .before .before .root-ok in
-    let found : pending-of .result ≡ pending (a .l) (a .a) (card-of (a .w .now)) = (rw (end-slot .ensures .0) at (pending-of .ensures)) in (
+    let found : pending-of .result ≡ pending (a .l) (a .a) (card-of (a .w .now)) = pending-of .ensures in (
       sym (inspect-record (card-of (a .w .now)) (a .l) (a .a) (pending (a .l) (a .a) (card-of (a .w .now)))
           (sym (root-ok .ensures) ∙ not-false _ (c .before .before .if1 .left))
           (ap is-broken (sym found) ∙ sym (c .before .is-broken .ensures) ∙ c .if2 .taken)),
@@ -37,14 +35,12 @@ returns-2 c =
     )
 
 returns-3 : tie.Need-returns-3
-unfolding pending
 returns-3 c =
     let a = c .before .before .before .before .before .before .before .before .args in
     let pre = c .before .before .before .before .before .before .before .before .pre in
-    let end-slot = c .before .before .before .before .before .end-slot in
     let pending-of = c .before .before .before .before .pending-of in
     let root-ok = c .before .before .before .root-ok in
-    let found : pending-of .result ≡ pending (a .l) (a .a) (card-of (a .w .now)) = (rw (end-slot .ensures .0) at (pending-of .ensures)) in (
+    let found : pending-of .result ≡ pending (a .l) (a .a) (card-of (a .w .now)) = pending-of .ensures in (
       rw found (sym (inspect-volume (card-of (a .w .now)) (a .l) (a .a) (pending (a .l) (a .a) (card-of (a .w .now)))
           (sym (root-ok .ensures) ∙ not-false _ (c .before .before .if1 .left))
           (ap is-broken (sym found) ∙ sym (c .before .is-broken .ensures) ∙ c .if2 .left))),
