@@ -45,6 +45,7 @@ run: lfat
 	mkdir -p $(dir $(CARD))
 	$(LFAT) blank $(CARD)
 	$(LFAT) put $(CARD) ROUTE.CUT examples/route.cut
+	$(LFAT) put $(CARD) 'Hull 7 sheer panel.cut' examples/route.cut
 	$(LFAT) ls $(CARD)
 	$(LFAT) rack $(CARD) put PANEL.CUT examples/route.cut --svg $(dir $(CARD))cuts.svg
 	@echo 'The cuts as a picture: $(dir $(CARD))cuts.svg'

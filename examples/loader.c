@@ -1,12 +1,12 @@
 /*
- * What the router does at power-up: recover the card, list it, read a path into a buffer.
+ * What the router does at power-up: recover the card, list it with long names, read a path into a buffer.
  * A card or a name that is refused is refused here too, with the ground's name and number.
  *
  *     loader IMAGE          recovers and lists
  *     loader IMAGE NAME     then reads the path NAME, as ROUTE.CUT, and prints it
  *
  * Here the card is an image file that is read into memory; the file itself is left as it is.
- * Exit status: 0, or the ground's number (1 to 15), or 64 for wrong usage, 65 for a path that is longer than the
+ * Exit status: 0, or the ground's number (1 to 17), or 64 for wrong usage, 65 for a path that is longer than the
  * buffer (half a path is none), 66 if there is no reading the image.
  */
 #include "lfat.h"
@@ -65,7 +65,48 @@ static void print_part(const uint8_t *part, size_t length)
         putchar(part[i] > 0x20 && part[i] < 0x7F ? part[i] : '?');
 }
 
-static void print_entry(const uint8_t *entry)
+/* Prints a character in UTF-8. */
+static void print_utf8(uint32_t c)
+{
+    if (c < 0x80) {
+        putchar((int)c);
+    } else if (c < 0x800) {
+        putchar((int)(0xC0 | c >> 6));
+        putchar((int)(0x80 | (c & 0x3F)));
+    } else {
+        if (c < 0x10000) {
+            putchar((int)(0xE0 | c >> 12));
+        } else {
+            putchar((int)(0xF0 | c >> 18));
+            putchar((int)(0x80 | (c >> 12 & 0x3F)));
+        }
+        putchar((int)(0x80 | (c >> 6 & 0x3F)));
+        putchar((int)(0x80 | (c & 0x3F)));
+    }
+}
+
+/* Prints the long name of an entry in quotes, if it has one: surrogate pairs joined, and ? for half of one and for controls. */
+static void print_long_name(const uint8_t *card, size_t card_len, const uint8_t *entry)
+{
+    uint8_t chars[2 * LFAT_LONG_CHARACTERS];
+    uint64_t answer = lfat_long_name(card, card_len, entry, LFAT_NAME_BYTES, chars, sizeof chars);
+    uint32_t i, there = LFAT_COUNT(answer);
+    if (LFAT_CODE(answer) != LFAT_DONE || there == 0)
+        return;
+    printf(" \"");
+    for (i = 0; i < there; i++) {
+        uint32_t c = (uint32_t)chars[2 * i] | (uint32_t)chars[2 * i + 1] << 8;
+        if (c >= 0xD800 && c < 0xDC00 && i + 1 < there && (chars[2 * i + 3] & 0xFC) == 0xDC) {
+            uint32_t low = (uint32_t)chars[2 * i + 2] | (uint32_t)chars[2 * i + 3] << 8;
+            c = 0x10000 + ((c & 0x3FF) << 10 | (low & 0x3FF));
+            i++;
+        }
+        print_utf8(c < 0x20 || (c >= 0x7F && c < 0xA0) || (c >= 0xD800 && c < 0xE000) ? '?' : c);
+    }
+    putchar('"');
+}
+
+static void print_entry(const uint8_t *card, size_t card_len, const uint8_t *entry)
 {
     uint32_t size = (uint32_t)entry[28] | (uint32_t)entry[29] << 8 | (uint32_t)entry[30] << 16 |
                     (uint32_t)entry[31] << 24;
@@ -73,7 +114,9 @@ static void print_entry(const uint8_t *entry)
     if (entry[8] != ' ')
         putchar('.');
     print_part(entry + 8, 3);
-    printf(" %lu%s\n", (unsigned long)size, entry[11] & 0x10 ? " directory" : "");
+    printf(" %lu%s", (unsigned long)size, entry[11] & 0x10 ? " directory" : "");
+    print_long_name(card, card_len, entry);
+    putchar('\n');
 }
 
 /* Says why a call was refused. */
@@ -92,7 +135,7 @@ static int list_entries(const uint8_t *card, size_t card_len)
         return refuse("list", answer);
     printf("%lu entries\n", (unsigned long)there);
     for (i = 0; i < there && i < MOST_ENTRIES; i++)
-        print_entry(entries + (size_t)i * LFAT_ENTRY_BYTES);
+        print_entry(card, card_len, entries + (size_t)i * LFAT_ENTRY_BYTES);
     return 0;
 }
 

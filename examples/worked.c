@@ -1,5 +1,5 @@
 /*
- * Card K of the requirements, made from nothing, and its rows M3 to M10: all ten calls of the library from C.
+ * Card K of the requirements, made from nothing, and its rows M3 to M10: all twelve calls of the library from C.
  * Prints a line for each call with its answer. Exit status: 0 if every answer is the one that is due, else 1.
  */
 #include "lfat.h"
@@ -8,10 +8,13 @@
 #include <string.h>
 
 enum { SECTORS = 4150, FAT1 = 1, FAT2 = 17, PATH_BYTES = 1300, ATTRIBUTES = 33 * LFAT_SECTOR_BYTES + 11 /* of slot 0 */ };
+enum { CHARACTERS = 22 };
 
-static const uint8_t route[] = "ROUTE   CUT", panel[] = "PANEL   CUT";
+static const uint8_t route[] = "ROUTE   CUT", panel[] = "PANEL   CUT", hull[] = "HULL7S~1CUT";
+static const char long_text[] = "Hull 7 sheer panel.cut";
 static uint8_t card[SECTORS * LFAT_SECTOR_BYTES], saved[sizeof card];
 static uint8_t points[PATH_BYTES], back[PATH_BYTES + 1];
+static uint8_t chars[2 * CHARACTERS], text[2 * LFAT_LONG_CHARACTERS];
 static int wrong;
 
 /* 1 reserved sector, 1 sector per cluster, 16 per FAT, 512 root entries; log clusters 2 to 9; otherwise empty. */
@@ -54,6 +57,18 @@ static uint64_t create(const uint8_t *name)
     return lfat_create(card, sizeof card, name, LFAT_NAME_BYTES, LFAT_NO_LIMIT);
 }
 
+static uint64_t create_long(uint32_t limit)
+{
+    return lfat_create_long(card, sizeof card, hull, LFAT_NAME_BYTES, chars, sizeof chars, limit);
+}
+
+/* Reads the long name into text, of which it is lent so many bytes; the others are 0. */
+static uint64_t long_name(size_t room)
+{
+    memset(text, 0, sizeof text);
+    return lfat_long_name(card, sizeof card, hull, LFAT_NAME_BYTES, text, room);
+}
+
 static uint64_t recover(void)
 {
     return lfat_recover(card, sizeof card, LFAT_NO_LIMIT);
@@ -88,6 +103,8 @@ int main(void)
     size_t i;
     for (i = 0; i < PATH_BYTES; i++)
         points[i] = (uint8_t)(i * 7 + 1);
+    for (i = 0; i < CHARACTERS; i++)
+        chars[2 * i] = (uint8_t)long_text[i];
 
     make_card();
     memcpy(saved, card, sizeof card);
@@ -118,6 +135,21 @@ int main(void)
     wrong |= memcmp(back, points, 600) != 0;
     due("    replace by nothing", replace(0, LFAT_NO_LIMIT), LFAT_DONE, 5);
     due("    replace by nothing again", replace(0, LFAT_NO_LIMIT), LFAT_DONE, 3);
+    memcpy(card, saved, sizeof card);
+
+    /* A long name of 22 characters: two long slots before the file's own, and the name read back. */
+    due("    create with a long name", create_long(LFAT_NO_LIMIT), LFAT_DONE, 3);
+    due("    the long name", long_name(sizeof chars), LFAT_DONE, CHARACTERS);
+    wrong |= memcmp(text, chars, sizeof chars) != 0;
+    due("    its first five characters", long_name(11), LFAT_DONE, CHARACTERS);
+    wrong |= memcmp(text, chars, 10) != 0 || text[10] != 0;
+    due("    the same once more", create_long(LFAT_NO_LIMIT), LFAT_EXISTS, 0);
+    memcpy(card, saved, sizeof card);
+    due("    create with a long name, cut after 1 store", create_long(1), LFAT_STOPPED, 1);
+    due("    recover", recover(), LFAT_DONE, 2);
+    due("    the long name", long_name(sizeof chars), LFAT_DONE, CHARACTERS);
+    chars[2] = '*';
+    due("    a star in it", create_long(LFAT_NO_LIMIT), LFAT_LONGNAME, 0);
     memcpy(card, saved, sizeof card);
 
     /* Marked read-only by another machine: it is read, and not changed until the mark is taken away. */

@@ -37,10 +37,20 @@
  *     else
  *         puts(lfat_code_name(LFAT_CODE(answer)));
  *
+ * Example: a file with a long name, and the name read back. Characters are 16 bits each, lent as bytes, the low one first.
+ *
+ *     const uint8_t chars[] = {'P', 0, 'o', 0, 'r', 0, 't', 0, ' ', 0, '7', 0};
+ *     uint8_t text[2 * LFAT_LONG_CHARACTERS];
+ *     uint64_t answer = lfat_create_long(card, card_len, name, LFAT_NAME_BYTES, chars, sizeof chars, LFAT_NO_LIMIT);
+ *     if (LFAT_CODE(answer) == LFAT_DONE)
+ *         answer = lfat_long_name(card, card_len, name, LFAT_NAME_BYTES, text, sizeof text);
+ *
+ * The count is then 6, and the first 12 bytes of text are those of chars.
+ *
  * What is asked of the caller:
  *  - each pointer is good for the length beside it (a part of length 0 may have any pointer);
- *  - what a call writes overlaps nothing else that it is lent: that is the card, or the buffer of lfat_read and
- *    lfat_list. Parts that are only read may overlap: a name may lie in the card that is read, or in the data;
+ *  - what a call writes overlaps nothing else that it is lent: that is the card, or the buffer of lfat_read, lfat_list and
+ *    lfat_long_name. Parts that are only read may overlap: a name may lie in the card that is read, or in the data;
  *  - the window is the whole card, from its boot sector on; bytes after its last sector are not touched;
  *  - nobody else writes to the card during a call, nor between a cut and the end of recovery.
  * Anything else may be wrong: a damaged card, a bad name or a length out of range is refused.
@@ -76,8 +86,8 @@
  *    its own stack must leave both alone;
  *  - it has no variables of its own, so calls on different cards may run in parallel, and calls that read on one card;
  *  - it needs at most so many bytes of stack, return address and red zone included:
- *    lfat_list 512, lfat_read 512, lfat_fits 512, lfat_recover 3072, lfat_create 3072, lfat_rename 3072,
- *    lfat_truncate 4096, lfat_delete 4096, lfat_append 4096, lfat_replace 4096.
+ *    lfat_list 512, lfat_read 512, lfat_fits 512, lfat_long_name 1024, lfat_recover 3072, lfat_create 3072, lfat_create_long 3072,
+ *    lfat_rename 3072, lfat_truncate 4096, lfat_delete 4096, lfat_append 4096, lfat_replace 4096.
  *
  * examples/loader.c is a whole program.
  */
@@ -91,7 +101,10 @@
 extern "C" {
 #endif
 
-/* An answer is code * 2^32 + count. The count is the stores made, the bytes read, the entries there are or lfat_fits' cluster. */
+/*
+ * An answer is code * 2^32 + count. The count is the stores made, the bytes read, the entries or characters there are or lfat_fits'
+ * cluster.
+ */
 #define LFAT_CODE(answer) ((uint32_t)((uint64_t)(answer) >> 32))
 #define LFAT_COUNT(answer) ((uint32_t)((uint64_t)(answer) & 0xFFFFFFFFu))
 
@@ -103,10 +116,14 @@ extern "C" {
 #define LFAT_NAME_BYTES 11
 #define LFAT_ENTRY_BYTES 32
 
+/* The most characters of a long name that lfat_create_long takes, and that lfat_long_name finds on a card. */
+#define LFAT_NEW_CHARACTERS 208
+#define LFAT_LONG_CHARACTERS 260
+
 /*
- * The codes. 1 to 16 are the grounds of a refusal. They are asked in the order of their numbers, but for LFAT_LOCKED, which is
- * asked right after LFAT_DIRECTORY; the first that holds is answered. A refused call has stored nothing and altered no byte;
- * its count is 0.
+ * The codes. 1 to 17 are the grounds of a refusal. They are asked in the order of their numbers, but for LFAT_LOCKED, which is
+ * asked right after LFAT_DIRECTORY, and LFAT_LONGNAME, right after LFAT_NAME; the first that holds is answered. A refused call has
+ * stored nothing and altered no byte; its count is 0.
  */
 enum lfat_code {
     LFAT_DONE = 0,       /* all stores were made; for read and list: success; for lfat_fits: yes */
@@ -120,12 +137,13 @@ enum lfat_code {
     LFAT_NAME = 8,       /* a name is not 11 bytes or breaks the rule for names */
     LFAT_ABSENT = 9,     /* no file has the name */
     LFAT_DIRECTORY = 10, /* the name is that of a directory */
-    LFAT_EXISTS = 11,    /* the name is taken */
-    LFAT_ROOTFULL = 12,  /* the root directory has no free slot */
+    LFAT_EXISTS = 11,    /* the name is taken; for lfat_create_long the short name or the long one */
+    LFAT_ROOTFULL = 12,  /* the root directory has no free slot, for a long name no long enough run of them */
     LFAT_CHAIN = 13,     /* the file's clusters do not fit its size */
     LFAT_LENGTH = 14,    /* truncate was asked for more than the present size */
     LFAT_NOSPACE = 15,   /* the card has too few free clusters */
     LFAT_LOCKED = 16,    /* the file is marked read-only (append, replace, truncate, delete, rename by its old name) */
+    LFAT_LONGNAME = 17,  /* the characters are an odd number of bytes, not 1 to 208, or one of them is forbidden */
     LFAT_NO = 254,       /* lfat_fits: no, so many bytes do not fit */
     LFAT_STOPPED = 255   /* the limit ended the call before its last store: recover before anything else */
 };
@@ -135,7 +153,7 @@ static inline const char *lfat_code_name(uint32_t code)
 {
     static const char *const names[] = {
         "DONE", "SHORT", "BOOT", "WINDOW", "LOGAREA", "ROOT", "RECORD", "UNCLEAN",
-        "NAME", "ABSENT", "DIRECTORY", "EXISTS", "ROOTFULL", "CHAIN", "LENGTH", "NOSPACE", "LOCKED"};
+        "NAME", "ABSENT", "DIRECTORY", "EXISTS", "ROOTFULL", "CHAIN", "LENGTH", "NOSPACE", "LOCKED", "LONGNAME"};
     if (code < sizeof names / sizeof names[0])
         return names[code];
     if (code == LFAT_NO)
@@ -153,8 +171,8 @@ static inline const char *lfat_code_name(uint32_t code)
  * those that belong to the file as deleted, in the same operation, so that none are left behind. They belong to it if they
  * stand directly before it, all with attributes 0x0F (the whole byte), order numbers 1, 2, 3 going back, bit 0x40 set on the
  * last of these only, and at offset 13 the checksum of its 11 name bytes. If any of that fails, or there are over 20, none
- * belong, and all stay as they are. The other calls leave long names alone: a file that is appended to, replaced or truncated
- * keeps its own.
+ * belong, and all stay as they are. lfat_create_long writes such entries. The other calls leave long names alone: a file that is
+ * appended to, replaced or truncated keeps its own.
  */
 
 /* Finishes what a power cut left behind, or takes it back. Call it at power-up, until it answers LFAT_DONE. */
@@ -162,6 +180,17 @@ uint64_t lfat_recover(uint8_t *card, size_t card_len, uint32_t limit);
 
 /* Makes an empty file in the root directory. */
 uint64_t lfat_create(uint8_t *card, size_t card_len, const uint8_t *name, size_t name_len, uint32_t limit);
+
+/*
+ * Makes an empty file with a short name, by which all other calls find it, and a long one of 1 to 208 characters of 16 bits. `chars`
+ * has two bytes for each, the low one first. Forbidden (LFAT_LONGNAME) are those below 32 and " * / : < > ? \ |; all others are
+ * taken as they are, halves of surrogate pairs and 0xFFFF too. A long name that a file or directory has is taken (LFAT_EXISTS):
+ * characters are compared as numbers, so capitals and small letters differ, and never with short names. The entries take the lowest
+ * run of free slots that is long enough, one for every 13 characters, or part of 13, and the short one after them; without such a run
+ * the root directory is full (LFAT_ROOTFULL). After a cut and a recovery the file has both names, or is not there.
+ */
+uint64_t lfat_create_long(uint8_t *card, size_t card_len, const uint8_t *name, size_t name_len,
+                          const uint8_t *chars, size_t chars_len, uint32_t limit);
 
 /* Adds bytes at the end of a file. */
 uint64_t lfat_append(uint8_t *card, size_t card_len, const uint8_t *name, size_t name_len,
@@ -204,6 +233,14 @@ uint64_t lfat_read(const uint8_t *card, size_t card_len, const uint8_t *name, si
  * directory), size at 28 (4 bytes, little-endian).
  */
 uint64_t lfat_list(const uint8_t *card, size_t card_len, uint8_t *buffer, size_t buffer_len);
+
+/*
+ * Copies the characters of the long name of a file or a directory, two bytes for each, the low one first, as many as fit: half of
+ * buffer_len. They end before the first that is 0. The count is how many there are, also if fewer were copied; it is 0 without a
+ * long name, and where the entries before the file do not belong to it (see above). Names of other systems have up to 255.
+ */
+uint64_t lfat_long_name(const uint8_t *card, size_t card_len, const uint8_t *name, size_t name_len,
+                        uint8_t *buffer, size_t buffer_len);
 
 /*
  * Tells whether so many bytes fit, for a screen that asks before anything is saved. LFAT_DONE is yes: neither an append of them

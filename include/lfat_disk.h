@@ -25,6 +25,10 @@
  *
  *     answer = lfat_disk_replace(disk, name, LFAT_NAME_BYTES, data, 3);
  *
+ * To give a new file a long name too, which other systems show:
+ *
+ *     answer = lfat_disk_create_long(disk, name, LFAT_NAME_BYTES, chars, chars_len);
+ *
  * Link with liblfat_disk.a alone, which has the proved library in it (with a glibc before 2.34 also -lpthread -ldl). Linux on
  * x86-64. examples/save.c is a whole program.
  *
@@ -92,6 +96,12 @@ uint64_t lfat_disk_recover(lfat_disk *disk);
 /* Makes an empty file in the root directory. `name` is 8 and 3 bytes, filled up with spaces; name_len is 11. */
 uint64_t lfat_disk_create(lfat_disk *disk, const uint8_t *name, size_t name_len);
 
+/*
+ * Makes an empty file with a short name and a long one, of 1 to 208 characters of 16 bits, two bytes each, the low one first;
+ * lfat.h says which are allowed. In one operation: after a cut and a recovery the file has both names, or is not there.
+ */
+uint64_t lfat_disk_create_long(lfat_disk *disk, const uint8_t *name, size_t name_len, const uint8_t *chars, size_t chars_len);
+
 /* Adds bytes at the end of a file, in one operation: after a cut and a recovery all of them are there, or none. */
 uint64_t lfat_disk_append(lfat_disk *disk, const uint8_t *name, size_t name_len, const uint8_t *data, size_t data_len);
 
@@ -124,6 +134,12 @@ uint64_t lfat_disk_read(lfat_disk *disk, const uint8_t *name, size_t name_len, u
 
 /* Copies the root directory's entries, 32 bytes each, as lfat_list does. The count is how many there are. */
 uint64_t lfat_disk_list(lfat_disk *disk, uint8_t *buffer, size_t buffer_len);
+
+/*
+ * Copies the characters of a file's long name, two bytes each, as many as fit. The count is how many there are, 0 without a long
+ * name; at most LFAT_LONG_CHARACTERS.
+ */
+uint64_t lfat_disk_long_name(lfat_disk *disk, const uint8_t *name, size_t name_len, uint8_t *buffer, size_t buffer_len);
 
 /*
  * Tells whether so many bytes fit, as lfat_fits does: LFAT_DONE is yes, with the highest cluster that they would take as the count,

@@ -94,6 +94,23 @@ impl Card {
         card
     }
 
+    /// A card with a long name before every file, of three entries, up to the last sectors of the root directory: a run of 17 free
+    /// slots is there and no lower one.
+    pub fn with_long_names(shape: Shape) -> Card {
+        let mut card = Card::empty(shape);
+        let root = shape.root() * 512;
+        let slots = &mut card.bytes[root..root + (ROOT_ENTRIES - 20) * 32];
+        for (file, slots) in slots.chunks_exact_mut(4 * 32).enumerate() {
+            let name = format!("F{file:07}CUT");
+            let sum = checksum(name.as_bytes());
+            for (number, bytes) in (1..=3).rev().zip(slots.chunks_exact_mut(32)) {
+                bytes.copy_from_slice(&long_entry(number, number == 3, sum));
+            }
+            slots[3 * 32..][..11].copy_from_slice(name.as_bytes());
+        }
+        card
+    }
+
     /// A card with an empty file and room for so many bytes.
     pub fn with_room(shape: Shape, layout: Layout, size: usize) -> Card {
         let mut card = Card::with_file(shape, layout, 0);

@@ -4,6 +4,7 @@ use crate::call::Call;
 use crate::cards::{Card, Layout, Shape, LAYOUTS, LOG_SECTORS, NAME, SHAPES, SIZES};
 use crate::timing::compare;
 use reference::{plan, run, Operation};
+use testkit::characters::{bytes_of, letters};
 
 /// Makes the card for a call, and the call.
 type Setup = Box<dyn Fn(Shape) -> (Card, Call)>;
@@ -85,6 +86,32 @@ fn rows() -> Vec<(String, Setup)> {
             let card = Card::with_file(shape, Layout::OnePiece, 4_096);
             (card, Call::Rename(name(), b"PANEL   CUT".to_vec()))
         }),
+    );
+    for (count, text) in [
+        (22, "create, 22 characters"),
+        (208, "create, 208 characters"),
+    ] {
+        row(
+            text.into(),
+            Box::new(move |shape| {
+                let characters = bytes_of(&letters(count));
+                (Card::empty(shape), Call::CreateLong(name(), characters))
+            }),
+        );
+    }
+    row(
+        "create, 208 characters, 512 slots with long names".into(),
+        Box::new(move |shape| {
+            let characters = bytes_of(&letters(208));
+            (
+                Card::with_long_names(shape),
+                Call::CreateLong(name(), characters),
+            )
+        }),
+    );
+    row(
+        "long name of 260 characters".into(),
+        Box::new(move |shape| (Card::with_long_name(shape), Call::LongName(name(), 520))),
     );
     row(
         "rename, 20 long entries".into(),

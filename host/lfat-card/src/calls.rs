@@ -1,4 +1,4 @@
-//! The library's ten calls on byte slices, and their answers as values.
+//! The library's twelve calls on byte slices, and their answers as values.
 
 use crate::{raw, Refusal};
 
@@ -6,6 +6,7 @@ use crate::{raw, Refusal};
 #[derive(Clone, Copy, Debug, PartialEq, Eq)]
 pub enum Answer {
     /// All stores were made, so many. For read: the bytes read. For list: the entries there are. For fits: yes, with the cluster.
+    /// For long names: the characters there are.
     Done(u32),
     /// For fits: no.
     No,
@@ -59,7 +60,7 @@ fn on_name(
     Answer::decode(answer)
 }
 
-/// Makes a call on a name and another slice: data, or a second name.
+/// Makes a call on a name and another slice: data, characters, or a second name.
 fn on_two(
     call: unsafe extern "C" fn(*mut u8, usize, *const u8, usize, *const u8, usize, u32) -> u64,
     card: &mut [u8],
@@ -84,6 +85,11 @@ fn on_two(
 /// Makes an empty file, with at most so many stores.
 pub fn create(card: &mut [u8], name: &[u8], limit: u32) -> Answer {
     on_name(raw::lfat_create, card, name, limit)
+}
+
+/// Makes an empty file with a short name and a long one, with at most so many stores. The characters are bytes, two each.
+pub fn create_long(card: &mut [u8], name: &[u8], characters: &[u8], limit: u32) -> Answer {
+    on_two(raw::lfat_create_long, card, name, characters, limit)
 }
 
 /// Adds bytes at the end of a file, with at most so many stores.
@@ -144,6 +150,20 @@ pub fn read(card: &[u8], name: &[u8], offset: u64, buffer: &mut [u8]) -> Answer 
 pub fn list(card: &[u8], buffer: &mut [u8]) -> Answer {
     Answer::decode(unsafe {
         raw::lfat_list(card.as_ptr(), card.len(), buffer.as_mut_ptr(), buffer.len())
+    })
+}
+
+/// Copies the characters of a file's long name, two bytes each, as many as fit.
+pub fn long_name(card: &[u8], name: &[u8], buffer: &mut [u8]) -> Answer {
+    Answer::decode(unsafe {
+        raw::lfat_long_name(
+            card.as_ptr(),
+            card.len(),
+            name.as_ptr(),
+            name.len(),
+            buffer.as_mut_ptr(),
+            buffer.len(),
+        )
     })
 }
 

@@ -1,6 +1,6 @@
 //! A card in memory that is changed.
 
-use crate::{count, Answer, CardView, Entry, File, Name, Operation, Refusal, NO_LIMIT};
+use crate::{count, Answer, CardView, Entry, File, LongName, Name, Operation, Refusal, NO_LIMIT};
 
 /// A card over the bytes of its window. Methods that change it give the number of stores made.
 ///
@@ -8,7 +8,8 @@ use crate::{count, Answer, CardView, Entry, File, Name, Operation, Refusal, NO_L
 /// refuse it with [`Refusal::Locked`]. No method sets the mark or takes it away.
 ///
 /// The long name that other systems show for a file goes with it in delete and rename: its entries before the file's own are
-/// marked as deleted in the same operation. After a rename the file has its new name only. The other methods leave it alone.
+/// marked as deleted in the same operation. After a rename the file has its new name only. [`Card::create_long`] gives a new file
+/// one; the other methods leave it alone.
 ///
 /// ```
 /// use lfat_card::{Card, Name, Refusal};
@@ -55,6 +56,24 @@ impl<'a> Card<'a> {
     /// Makes an empty file.
     pub fn create(&mut self, name: Name) -> Result<u32, Refusal> {
         count(self.run(&Operation::Create { name }, NO_LIMIT))
+    }
+
+    /// Makes an empty file with a short name, by which the other methods find it, and a long one, which other systems show. In one
+    /// operation: a cut and a recovery leave both names or none. A long name that a file or directory has is taken
+    /// ([`Refusal::Exists`]), and the root directory needs a run of free slots: one for every 13 characters, and one more.
+    ///
+    /// ```
+    /// # use lfat_card::{Card, LongName, Name, Refusal};
+    /// # let mut window = reference::card_k();
+    /// # let mut card = Card::new(&mut window);
+    /// let long = LongName::parse("Hull 7 sheer panel.cut")?;
+    /// card.create_long(Name::parse("HULL7S~1.CUT")?, &long)?;
+    /// assert_eq!(card.long_name(Name::parse("HULL7S~1.CUT")?)?, long.characters());
+    /// assert_eq!(card.create_long(Name::parse("HULL7S~2.CUT")?, &long), Err(Refusal::Exists));
+    /// # Ok::<(), Refusal>(())
+    /// ```
+    pub fn create_long(&mut self, name: Name, long_name: &LongName) -> Result<u32, Refusal> {
+        count(self.run(&Operation::CreateLong { name, long_name }, NO_LIMIT))
     }
 
     /// Adds bytes at the end of a file.
@@ -114,6 +133,11 @@ impl<'a> Card<'a> {
     /// As [`CardView::fits`].
     pub fn fits(&self, bytes: u64) -> Result<Option<u32>, Refusal> {
         self.view().fits(bytes)
+    }
+
+    /// As [`CardView::long_name`].
+    pub fn long_name(&self, name: Name) -> Result<Vec<u16>, Refusal> {
+        self.view().long_name(name)
     }
 
     /// As [`CardView::open`].

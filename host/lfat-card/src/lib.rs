@@ -1,11 +1,11 @@
 //! FAT16 cards with a TI-LFAT journal: safe functions over the proved library.
 //!
 //! A card is a window of bytes, the whole card from its boot sector on. [`Card`] changes it, [`CardView`] only reads it, and a
-//! [`File`] is a file being read. [`calls`] has the library's ten calls as they are, with names of any bytes; [`raw`]
+//! [`File`] is a file being read. [`calls`] has the library's twelve calls as they are, with names of any bytes; [`raw`]
 //! has them as C does.
 //!
 //! ```
-//! use lfat_card::{Card, Name};
+//! use lfat_card::{Card, LongName, Name};
 //! use std::io::Read;
 //!
 //! # let image = reference::card_k();
@@ -24,6 +24,10 @@
 //!
 //! card.replace(name, b"G1 X5 Y5\n")?;
 //! assert_eq!(card.read_whole(name)?, b"G1 X5 Y5\n");
+//!
+//! let short = Name::parse("HULL7S~1.CUT")?;
+//! card.create_long(short, &LongName::parse("Hull 7 sheer panel.cut")?)?;
+//! assert_eq!(String::from_utf16(&card.long_name(short)?)?, "Hull 7 sheer panel.cut");
 //! # Ok::<(), Box<dyn std::error::Error>>(())
 //! ```
 //!
@@ -39,6 +43,7 @@ pub mod calls;
 mod card;
 mod entry;
 mod file;
+mod long_name;
 mod name;
 mod operation;
 pub mod raw;
@@ -49,6 +54,7 @@ pub use calls::Answer;
 pub use card::Card;
 pub use entry::{Entry, ENTRY_BYTES};
 pub use file::File;
+pub use long_name::LongName;
 pub use name::{printed, Name};
 pub use operation::{Operation, NO_LIMIT};
 pub use refusal::Refusal;

@@ -1,6 +1,6 @@
 //! The calls that store, as values.
 
-use crate::{calls, Answer, Name};
+use crate::{calls, Answer, LongName, Name};
 
 /// The limit that cuts nothing.
 pub const NO_LIMIT: u32 = u32::MAX;
@@ -13,6 +13,13 @@ pub enum Operation<'a> {
     Create {
         /// The new file's name.
         name: Name,
+    },
+    /// Makes an empty file with a short name and a long one.
+    CreateLong {
+        /// The new file's name, by which calls find it.
+        name: Name,
+        /// The long name, which other systems show.
+        long_name: &'a LongName,
     },
     /// Adds bytes at the end of a file.
     Append {
@@ -56,6 +63,9 @@ impl Operation<'_> {
     pub fn run(&self, card: &mut [u8], limit: u32) -> Answer {
         match self {
             Operation::Create { name } => calls::create(card, name.bytes(), limit),
+            Operation::CreateLong { name, long_name } => {
+                calls::create_long(card, name.bytes(), long_name.bytes(), limit)
+            }
             Operation::Append { name, data } => calls::append(card, name.bytes(), data, limit),
             Operation::Replace { name, data } => calls::replace(card, name.bytes(), data, limit),
             Operation::Truncate { name, size } => calls::truncate(card, name.bytes(), *size, limit),

@@ -10,6 +10,15 @@ extern "C" {
         name_len: usize,
         limit: u32,
     ) -> u64;
+    pub fn lfat_create_long(
+        card: *mut u8,
+        card_len: usize,
+        name: *const u8,
+        name_len: usize,
+        chars: *const u8,
+        chars_len: usize,
+        limit: u32,
+    ) -> u64;
     pub fn lfat_append(
         card: *mut u8,
         card_len: usize,
@@ -63,5 +72,13 @@ extern "C" {
         buffer_len: usize,
     ) -> u64;
     pub fn lfat_list(card: *const u8, card_len: usize, buffer: *mut u8, buffer_len: usize) -> u64;
+    pub fn lfat_long_name(
+        card: *const u8,
+        card_len: usize,
+        name: *const u8,
+        name_len: usize,
+        buffer: *mut u8,
+        buffer_len: usize,
+    ) -> u64;
     pub fn lfat_fits(card: *const u8, card_len: usize, bytes: u64) -> u64;
 }

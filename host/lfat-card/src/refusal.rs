@@ -5,7 +5,7 @@ use std::fmt;
 use std::io::{self, ErrorKind};
 
 /// The grounds on which a call refuses, in checking order. There may be more of them later. Numbers stay as they were first
-/// given, so that of LOCKED is the highest.
+/// given, so those of LOCKED and LONGNAME are the highest.
 #[derive(Clone, Copy, Debug, PartialEq, Eq)]
 #[non_exhaustive]
 pub enum Refusal {
@@ -25,6 +25,8 @@ pub enum Refusal {
     Unclean,
     /// The name breaks the rule for names of 8 and 3 characters.
     Name,
+    /// The long name has no characters, more than 208 or a forbidden one.
+    Longname,
     /// No file has the name.
     Absent,
     /// The name is that of a directory.
@@ -33,7 +35,7 @@ pub enum Refusal {
     Locked,
     /// The name is taken.
     Exists,
-    /// The root directory has no free slot.
+    /// The root directory has no free slot, or for a long name no long enough run of them.
     Rootfull,
     /// The file's clusters do not fit its size.
     Chain,
@@ -46,7 +48,7 @@ pub enum Refusal {
 }
 
 /// The refusals by number, from 1 on.
-const BY_NUMBER: [Refusal; 16] = [
+const BY_NUMBER: [Refusal; 17] = [
     Refusal::Short,
     Refusal::Boot,
     Refusal::Window,
@@ -63,6 +65,7 @@ const BY_NUMBER: [Refusal; 16] = [
     Refusal::Length,
     Refusal::Nospace,
     Refusal::Locked,
+    Refusal::Longname,
 ];
 
 impl Refusal {
@@ -118,11 +121,20 @@ impl Refusal {
                 "NAME",
                 "the name breaks the rule for names of 8 and 3 characters",
             ),
+            Refusal::Longname => (
+                17,
+                "LONGNAME",
+                "a long name has 1 to 208 characters, none below 32 and none of \" * / : < > ? \\ |",
+            ),
             Refusal::Absent => (9, "ABSENT", "no file has the name"),
             Refusal::Directory => (10, "DIRECTORY", "the name is that of a directory"),
             Refusal::Locked => (16, "LOCKED", "the file is marked read-only"),
             Refusal::Exists => (11, "EXISTS", "the name is taken"),
-            Refusal::Rootfull => (12, "ROOTFULL", "the root directory has no free slot"),
+            Refusal::Rootfull => (
+                12,
+                "ROOTFULL",
+                "the root directory has no free slot, or no long enough run of them",
+            ),
             Refusal::Chain => (13, "CHAIN", "the file's clusters do not fit its size"),
             Refusal::Length => (14, "LENGTH", "the file is shorter than the size asked for"),
             Refusal::Nospace => (15, "NOSPACE", "the card has too few free clusters"),
@@ -143,7 +155,7 @@ impl Error for Refusal {}
 impl From<Refusal> for io::Error {
     fn from(refusal: Refusal) -> io::Error {
         let kind = match refusal {
-            Refusal::Name | Refusal::Length => ErrorKind::InvalidInput,
+            Refusal::Name | Refusal::Longname | Refusal::Length => ErrorKind::InvalidInput,
             Refusal::Absent => ErrorKind::NotFound,
             Refusal::Directory => ErrorKind::IsADirectory,
             Refusal::Locked => ErrorKind::PermissionDenied,

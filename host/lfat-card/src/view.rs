@@ -82,6 +82,17 @@ impl<'a> CardView<'a> {
         }
     }
 
+    /// The characters of a file's or a directory's long name, none if it has no proper one. Other systems write up to 255; what
+    /// they wrote need not keep the rule of [`crate::LongName`]. `String::from_utf16_lossy` makes text of them.
+    pub fn long_name(&self, name: Name) -> Result<Vec<u16>, Refusal> {
+        // No more than 20 entries of 13 characters belong to a file.
+        let mut bytes = [0; 2 * 20 * 13];
+        let there = count(calls::long_name(self.window, name.bytes(), &mut bytes))? as usize;
+        let (pairs, _) = bytes.as_chunks();
+        let characters = pairs.iter().copied().map(u16::from_le_bytes);
+        Ok(characters.take(there).collect())
+    }
+
     /// The size of a file that can be read.
     fn size(&self, name: Name) -> Result<u32, Refusal> {
         // The file keeps the chain rule if this is granted, so its size is no more than the card's.

@@ -46,6 +46,25 @@ fn lengths() {
     }
 }
 
+/// A sector whose record 0 creates a long name is listed by that record alone, with any count above 0, pending or committed.
+#[test]
+fn sectors_that_are_led() {
+    for first in [b'R', 0xE5, 0] {
+        for count in [0, 1, 2, 16, 17, 0x80, 0xFF] {
+            for operation in 0..8 {
+                let mut table = vec![b'x'; 3 * 512];
+                table[512..523].copy_from_slice(ROUTE);
+                table[512] = first;
+                table[512 + 12] = count;
+                table[512 + 13] = operation;
+                same(&table);
+                table[1024..].fill(0);
+                same(&table);
+            }
+        }
+    }
+}
+
 #[test]
 fn random_tables() {
     let mut random = Random::new(0x8A5C_D789_635D_2DFF);

@@ -216,6 +216,21 @@ pub unsafe extern "C" fn lfat_disk_create(
 }
 
 /// # Safety
+/// As for `lfat_disk_close`; name and characters are good for their lengths.
+#[no_mangle]
+pub unsafe extern "C" fn lfat_disk_create_long(
+    disk: *mut Handle,
+    name: *const u8,
+    name_len: usize,
+    chars: *const u8,
+    chars_len: usize,
+) -> u64 {
+    let (name, chars) = ((name, name_len), (chars, chars_len));
+    let what = "a name or characters of NULL";
+    with_two(disk, name, chars, what, DiskCard::create_long)
+}
+
+/// # Safety
 /// As for `lfat_disk_close`; name and data are good for their lengths.
 #[no_mangle]
 pub unsafe extern "C" fn lfat_disk_append(
@@ -317,6 +332,22 @@ pub unsafe extern "C" fn lfat_disk_list(
         }
         Ok(entries.len())
     })
+}
+
+/// # Safety
+/// As for `lfat_disk_create`; the buffer is good for its length.
+#[no_mangle]
+pub unsafe extern "C" fn lfat_disk_long_name(
+    disk: *mut Handle,
+    name: *const u8,
+    name_len: usize,
+    buffer: *mut u8,
+    buffer_len: usize,
+) -> u64 {
+    let (Some(name), Some(buffer)) = (slice(name, name_len), slice_mut(buffer, buffer_len)) else {
+        return argument("a name or a buffer of NULL");
+    };
+    with(disk, |card| card.long_name(name, buffer))
 }
 
 /// # Safety

@@ -132,6 +132,11 @@ impl<D: Disk, L: Lists> DiskCard<D, L> {
         self.save(&[Operation::Create { name }], NO_LIMIT)
     }
 
+    /// Makes an empty file with a short name and a long one, of 16-bit characters as bytes, two each.
+    pub fn create_long(&mut self, name: &[u8], characters: &[u8]) -> Result<u32, Error> {
+        self.save(&[Operation::CreateLong { name, characters }], NO_LIMIT)
+    }
+
     /// Adds bytes at the end of a file.
     pub fn append(&mut self, name: &[u8], data: &[u8]) -> Result<u32, Error> {
         self.save(&[Operation::Append { name, data }], NO_LIMIT)
@@ -278,6 +283,12 @@ impl<D: Disk, L: Lists> DiskCard<D, L> {
     pub fn find(&self, name: &[u8]) -> Result<Option<Entry>, Error> {
         let mut entries = self.list()?.into_iter();
         Ok(entries.find(|entry| entry.name_bytes() == name))
+    }
+
+    /// Copies the characters of a file's long name into the buffer, two bytes each, as many as fit; gives how many there are.
+    pub fn long_name(&self, name: &[u8], buffer: &mut [u8]) -> Result<usize, Error> {
+        self.check_open()?;
+        count(calls::long_name(&self.memory.window, name, buffer))
     }
 
     /// Whether so many bytes fit, by free clusters alone: the highest cluster that they would take, 0 for no bytes; `None` is no.

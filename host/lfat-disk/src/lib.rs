@@ -46,5 +46,5 @@ pub use card::{DiskCard, Opening};
 pub use disk::{Access, Disk, Wait};
 pub use entry::Entry;
 pub use error::Error;
-pub use long_name::{InUse, LongName};
+pub use long_name::{InUse, Named, RemovedName};
 pub use reference::{Extent, Operation, Program, Segment};

@@ -4,7 +4,7 @@
 //! the barriers stand among them. The list is that of the plain implementation, which knows what each call is; here no kind of
 //! call is told from another. Before anything is written, the list is held against the library:
 //!
-//! - the barriers are the stores into the log that are no clearing;
+//! - the barriers are the stores into the log that are no clearing, and perhaps some into the root directory, whose order counts;
 //! - the library, stopped before and after each barrier and then left to its end, answers as many stores as the list has up to there;
 //! - and each time the list, played on the card as it was, gives the library's card: every sector of it.
 
@@ -38,6 +38,9 @@ impl Lists for Planned {}
 pub fn call(card: &mut [u8], operation: &Operation, limit: u32) -> Answer {
     match *operation {
         Operation::Create { name } => calls::create(card, name, limit),
+        Operation::CreateLong { name, characters } => {
+            calls::create_long(card, name, characters, limit)
+        }
         Operation::Append { name, data } => calls::append(card, name, data, limit),
         Operation::Replace { name, data } => calls::replace(card, name, data, limit),
         Operation::Truncate { name, size } => calls::truncate(card, name, size, limit),
@@ -126,7 +129,8 @@ impl Check<'_, '_> {
         Ok(holds)
     }
 
-    /// Every segment but the last ends in a barrier, and the barriers are the stores into the log that are no clearing.
+    /// Every segment but the last ends in a barrier. All stores into the log that are no clearing are barriers, and no others but
+    /// some into the root directory.
     fn barriers_stand(&self, program: &Program) -> bool {
         let is_mark = |sector: usize, stored: &[u8]| {
             self.areas.log.contains(&sector) && stored.iter().any(|&byte| byte != 0)
@@ -135,6 +139,7 @@ impl Check<'_, '_> {
         program.segments.iter().enumerate().all(|(at, segment)| {
             let mut others = segment.stores.iter().flat_map(|extent| extent.sectors());
             let barrier = match &segment.barrier {
+                Some(store) if self.areas.layout.root().contains(&store.sector) => true,
                 Some(store) => is_mark(store.sector, &store.bytes),
                 None => at == last,
             };

@@ -30,6 +30,14 @@ impl<D: Disk, L: Lists> DiskCard<D, L> {
         read
     }
 
+    /// Copies the characters of the long name of a slot into the buffer, as many as fit; gives how many there are.
+    pub fn long_name_slot(&mut self, slot: usize, buffer: &mut [u8]) -> Result<usize, Error> {
+        let (name, own) = self.lend_name(slot, &[])?;
+        let there = self.long_name(&name, buffer);
+        self.set_name(slot, &own);
+        there
+    }
+
     /// Removes the file in a slot, with the entries of its long name, and frees its clusters.
     pub fn delete_slot(&mut self, slot: usize, limit: u32) -> Result<u32, Error> {
         let (name, own) = self.lend_name(slot, &[])?;

@@ -34,7 +34,8 @@ impl<D: Disk> Writer<'_, D> {
     /// The stores before a barrier may reach the disk in any order, or not at all; so may those after it. None passes the
     /// barrier, since the disk is flushed before it and after it. That this order is enough is the theorem `held-back`
     /// (crates/safety/specs/Demand3.antt): on a card that lets no store pass a barrier, any choice of the stores since the
-    /// last one, then any recoveries cut in the same way, end in the state before the call or in the one after it.
+    /// last one, then any recoveries cut in the same way, end in the state before the call or in the one after it. The root sectors
+    /// of a new long name are barriers as well: they reach the disk in the list's order, of which `demand3` speaks.
     fn segment(&mut self, segment: &Segment) -> io::Result<()> {
         for extent in &segment.stores {
             self.extent(extent)?;

@@ -4,7 +4,7 @@ use crate::failure::Failure;
 use crate::json;
 use crate::output::print;
 use lfat_card::Name;
-use lfat_disk::{Entry, LongName};
+use lfat_disk::{Entry, RemovedName};
 
 /// A file that was removed, or has another name now.
 pub struct Ended {
@@ -13,7 +13,7 @@ pub struct Ended {
     /// What it was before.
     pub entry: Option<Entry>,
     pub new: Option<Name>,
-    pub long: Option<LongName>,
+    pub long: Option<RemovedName>,
     /// The stores made.
     pub stores: u32,
 }
@@ -28,7 +28,7 @@ impl Ended {
         }
     }
 
-    fn line(&self, long: &LongName) -> String {
+    fn line(&self, long: &RemovedName) -> String {
         let Ended { shown, new, .. } = self;
         let entries = match long.entries {
             1 => "1 entry".to_string(),

@@ -13,6 +13,8 @@ pub enum Failure {
     Stopped(u32),
     /// The answer to the question was no, and has been printed.
     No,
+    /// More than one file has the long name that was given.
+    Several(String),
     /// The rack found a card that recovery did not bring back.
     Mismatch(String),
     /// A file or the card could not be opened, read or written. The card is as it was.
@@ -26,7 +28,11 @@ pub enum Failure {
 impl Failure {
     pub fn status(&self) -> u8 {
         match self {
-            Failure::Refused(..) | Failure::Stopped(_) | Failure::No | Failure::Mismatch(_) => 1,
+            Failure::Refused(..)
+            | Failure::Stopped(_)
+            | Failure::No
+            | Failure::Several(_)
+            | Failure::Mismatch(_) => 1,
             Failure::Usage(_) => 2,
             Failure::Host(_) => 3,
             Failure::Disagree => 4,
@@ -77,7 +83,8 @@ fn advice(refusal: Refusal) -> &'static str {
              mattrib -r of mtools."
         }
         Refusal::Exists => "'lfat put --replace' saves over a file, 'lfat append' adds to it, 'lfat rm' removes it.",
-        Refusal::Rootfull => "Remove a file first: 'lfat rm'.",
+        Refusal::Longname => "'lfat put --help' says more.",
+        Refusal::Rootfull => "Remove a file first: 'lfat rm'. A long name needs a slot for every 13 characters, and one more, in a row.",
         Refusal::Length => "'lfat ls' shows the sizes; truncate only shortens.",
         Refusal::Nospace => "'lfat info' shows the free clusters; 'lfat rm' frees some.",
         // CHAIN, and grounds to come.
@@ -94,7 +101,9 @@ impl fmt::Display for Failure {
                 write!(f, "STOPPED after {made} stores, as asked. Run 'lfat recover' next.")
             }
             Failure::No => write!(f, "no"),
-            Failure::Mismatch(what) | Failure::Host(what) | Failure::Cut(what) => write!(f, "{what}"),
+            Failure::Several(what) | Failure::Mismatch(what) | Failure::Host(what) | Failure::Cut(what) => {
+                write!(f, "{what}")
+            }
             Failure::Disagree => write!(
                 f,
                 "DISAGREE: the list of stores and the library's card are not the same. Nothing was written; please report this."

@@ -13,11 +13,12 @@ Formatting real cards is not its purpose. A file that is there is not overwritte
 pub const LS: &str = "\
 A file whose name no rule allows, or has twice, is shown with its slot, as slot:3: get, rm and mv take that for its name.
 A file marked read-only is shown as (read-only) after its name: get reads it, commands that would change it refuse it.
-  --json      one JSON object: entries, each with slot, name, size, directory, attributes, read_only
+A long name is shown last, in quotes; commands take it for the file's name, if no other file has it.
+  --json      one JSON object: entries, each with slot, name, long_name (null for none), size, directory, attributes, read_only
 ";
 
 pub const GET: &str = "\
-NAME may be slot:N, as ls shows it, for a file whose name no rule allows.
+NAME may be a long name, or slot:N, as ls shows it, for a file whose name no rule allows.
   -o FILE     write to FILE instead, which is replaced once all is read; - is standard output
 ";
 
@@ -29,18 +30,22 @@ also needs a free slot in the root directory, which is not asked. A refusal ends
 ";
 
 pub const RM: &str = "\
-NAME may be slot:N, as ls shows it, for a file whose name no rule allows. The entries of a long name, as other systems write
-them before the file's own, are removed with it in the same call, and a line says so.
+NAME may be a long name, or slot:N, as ls shows it, for a file whose name no rule allows. The entries of a long name before the
+file's own are removed with it in the same call, and a line says so.
   --json      one JSON object: slot, name, new_name (null), long_name (null for none), long_entries, stores
 ";
 
 pub const MV: &str = "\
-OLD may be slot:N, as ls shows it, for a file whose name no rule allows. The file then has the name NEW alone: the entries of a
-long name, as other systems write them before the file's own, are removed in the same call, and a line says so.
+OLD may be a long name, or slot:N, as ls shows it, for a file whose name no rule allows. The file then has the name NEW alone, a
+short one: the entries of a long name before the file's own are removed in the same call, and a line says so. To give a file a long
+name, get it, put it under that name, and rm the old one.
   --json      one JSON object: slot, name, new_name, long_name (null for none), long_entries, stores
 ";
 
 pub const PUT: &str = "\
+NAME is a short name in capitals, as ROUTE.CUT, or a long one of 1 to 208 characters, none of \" * / : < > ? \\ | and no control
+characters: then the file also gets a short name, as HULL7S~1.CUT with the lowest number that is free, and a line says which. Other
+systems do not tell capitals from small letters, so a name that differs from one on the card in these only is refused.
 FILE may be - for standard input. A name that is taken is refused. For a new one two calls are made, create and append, once
 both are granted: after a power cut and a recovery there is no such file, an empty one, or the whole one.
   --replace   save over a file that is there, in one call: after a power cut and a recovery it has its old bytes or the new
@@ -64,7 +69,7 @@ partition that holds a FAT16 card is taken, where there are partitions.
 
 pub const RACK: &str = "\
 OPERATION is one of: create NAME, append NAME FILE, put NAME FILE, replace NAME FILE (put --replace), truncate NAME SIZE,
-rm NAME, mv OLD NEW.
+rm NAME, mv OLD NEW. Names may be long, but for NEW.
 The card is only read. Each cut is followed by recoveries, cut in turn, until one ends; then both FATs, the root
 directory and all files must be as before the operation (old) or, if the log record was on the card, as after it (new).
 Of more than 4,096 stores of data, cuts are tried in 2,048 places.
@@ -105,7 +110,7 @@ pub fn overview() -> String {
         text += &format!("  {:<9} {}\n", command.name, command.about);
     }
     text + "\n'lfat COMMAND --help' says more; 'lfat --version' the version. -- ends the options.\n\
-         IMAGE is an image, a block device such as /dev/sdX, or IMAGE:N for a partition. Names are as ROUTE.CUT, in capitals.\n\
+         IMAGE is an image, a block device such as /dev/sdX, or IMAGE:N for a partition. Names are as ROUTE.CUT, in capitals, or long ones.\n\
          Files marked read-only, which ls shows, can be read; they are not changed, renamed or removed.\n\
          Exit status: 0 done; 1 refused, stopped, a mismatch or no; 2 wrong usage; 3 a file or the card could not be used;\n\
          4 list and library disagree, nothing written; 5 the disk failed in mid-save: recover the card.\n"

@@ -8,6 +8,7 @@ const MOST_BYTES: usize = 65_536;
 const RECORD: usize = 32;
 const UNUSED: u8 = 0;
 const COMMITTED: u8 = 0xE5;
+const CREATE: u8 = 1;
 
 /// A record of the log, with its place.
 pub struct Record<'a> {
@@ -20,7 +21,8 @@ pub struct Record<'a> {
 pub fn records(table: &[u8]) -> impl Iterator<Item = Record<'_>> {
     let sectors = table.chunks_exact(SECTOR).enumerate();
     let records = sectors.flat_map(|(sector, bytes)| {
-        let records = bytes.chunks_exact(RECORD).enumerate();
+        let listed = if is_led(bytes) { 1 } else { SECTOR / RECORD };
+        let records = bytes.chunks_exact(RECORD).enumerate().take(listed);
         records.map(move |(index, bytes)| Record {
             sector,
             index,
@@ -28,6 +30,11 @@ pub fn records(table: &[u8]) -> impl Iterator<Item = Record<'_>> {
         })
     });
     records.filter(|record| record.bytes[0] != UNUSED)
+}
+
+/// Record 0 creates a file with a long name, whose characters stand after it: only that record tells what is pending.
+fn is_led(sector: &[u8]) -> bool {
+    sector[0] != UNUSED && sector[12] > 0 && sector[13] == CREATE
 }
 
 /// What is printed for a log table.
@@ -58,7 +65,7 @@ impl Record<'_> {
         printed(&self.bytes[..11])
     }
 
-    /// The long entries that a delete or rename takes along.
+    /// The long entries that a delete or rename takes along, or that a create writes.
     pub fn long_entries(&self) -> u8 {
         self.bytes[12]
     }

@@ -2,6 +2,7 @@
 
 use crate::args::Args;
 use crate::failure::Failure;
+use crate::naming::{one_line, Given};
 use crate::output::{print, Output};
 use crate::progress::Progress;
 use crate::remedy::Remedy;
@@ -11,7 +12,7 @@ use lfat_card::{calls, Answer, Refusal};
 use lfat_disk::layout::{bytes, SECTOR};
 use lfat_disk::partition::Partition;
 use lfat_disk::volume::{is_live, Volume};
-use lfat_disk::{Access, DiskCard, Entry};
+use lfat_disk::{Access, DiskCard, Named};
 use std::ffi::OsStr;
 use std::ops::Range;
 use std::path::Path;
@@ -28,14 +29,15 @@ fn open(args: &mut Args) -> Result<(Target, DiskCard), Failure> {
 }
 
 pub fn ls(mut args: Args) -> Result<(), Failure> {
-    let (target, card) = open(&mut args)?;
-    let entries = card.list().map_err(|error| target.failure(error))?;
+    let (target, mut card) = open(&mut args)?;
+    let entries = card.list_named().map_err(|error| target.failure(error))?;
     if args.has("--json") {
         let entries = json::array(entries.iter().map(entry_json));
         return print((json::object(&[("entries", &entries)]) + "\n").as_bytes());
     }
     let mut text = String::new();
-    for (index, entry) in entries.iter().enumerate() {
+    for (index, named) in entries.iter().enumerate() {
+        let entry = &named.entry;
         let mark = match entry.is_read_only() {
             true => "  (read-only)",
             false => "",
@@ -45,20 +47,25 @@ pub fn ls(mut args: Args) -> Result<(), Failure> {
             false => entry.size().to_string(),
         };
         let mut before = entries[..index].iter();
-        let is_second = before.any(|other| other.name_bytes() == entry.name_bytes());
+        let is_second = before.any(|other| other.entry.name_bytes() == entry.name_bytes());
         let slot = match entry.has_name() && !is_second {
             true => String::new(),
             false => format!("  (slot:{})", entry.slot),
         };
-        text += &format!("{size:>10}  {}{slot}{mark}\n", entry.name());
+        let long = named.long_name().map(|long| one_line(&long));
+        let long = long.map_or(String::new(), |long| format!("  '{long}'"));
+        text += &format!("{size:>10}  {}{slot}{mark}{long}\n", entry.name());
     }
     print(text.as_bytes())
 }
 
-fn entry_json(entry: &Entry) -> String {
+fn entry_json(named: &Named) -> String {
+    let entry = &named.entry;
+    let long_name = named.long_name().map(|long| json::text(&long));
     json::object(&[
         ("slot", &entry.slot),
         ("name", &json::text(&entry.name())),
+        ("long_name", &json::optional(long_name)),
         ("size", &entry.size()),
         ("directory", &entry.is_directory()),
         ("attributes", &entry.attributes()),
@@ -68,11 +75,12 @@ fn entry_json(entry: &Entry) -> String {
 
 pub fn get(mut args: Args) -> Result<(), Failure> {
     let target = Target::parse(args.word("IMAGE")?, &args)?;
-    let which = Which::parse(&args.word("NAME")?)?;
+    let given = Given::parse(&args.word("NAME")?)?;
     args.end()?;
     let path = args.option("-o").unwrap_or(OsStr::new("-"));
     target.check_other(Path::new(path), "-o")?;
     let mut card = target.open(&args, Access::Read)?;
+    let which = given.find(&target, &mut card)?;
     let size = size(&card, which);
     let mut piece = vec![0; PIECE.min(size)];
     let mut read = |offset: usize, piece: &mut [u8]| {

@@ -47,7 +47,7 @@ impl Remedy<'_> {
     }
 
     /// What to do where a put, or a new name, meets the name of a file.
-    pub fn taken(&self, entry: &Entry, name: Name) -> String {
+    pub fn taken(&self, entry: &Entry, name: &str) -> String {
         if entry.is_directory() {
             format!("{name} is a directory: save under another name.")
         } else if is_locked(entry) {

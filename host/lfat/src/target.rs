@@ -114,24 +114,16 @@ pub enum Which {
     Slot(usize),
 }
 
-impl Which {
-    pub fn parse(word: &OsStr) -> Result<Which, Failure> {
-        let slot = word.to_str().and_then(|text| text.strip_prefix("slot:"));
-        match slot {
-            Some(number) => crate::args::number(number, "slot").map(Which::Slot),
-            None => name(word).map(Which::Name),
-        }
-    }
-}
-
-/// A name given by the user.
-pub fn name(word: &OsStr) -> Result<Name, Failure> {
+/// The new name of a file, a short one: no call gives a file that is there a long one.
+pub fn new_name(word: &OsStr) -> Result<Name, Failure> {
     let text = word.to_string_lossy();
     Name::parse(&text).map_err(|refusal| {
         let capitals = text.to_ascii_uppercase();
-        match Name::parse(&capitals) {
-            Ok(_) => Failure::Refused(refusal, format!("Did you mean {capitals}?")),
-            Err(_) => refusal.into(),
-        }
+        let meant = match Name::parse(&capitals) {
+            Ok(_) => format!("Did you mean {capitals}? "),
+            Err(_) => String::new(),
+        };
+        let advice = "mv gives short names only. For a long one copy the file, 'lfat get' and 'lfat put', and 'lfat rm' the old one.";
+        Failure::Refused(refusal, format!("{meant}{advice}"))
     })
 }

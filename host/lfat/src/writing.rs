@@ -5,11 +5,12 @@ use crate::blank::Blank;
 use crate::ended::Ended;
 use crate::failure::Failure;
 use crate::listing;
+use crate::naming::{self, one_line, Found, Given, Known};
 use crate::output::print;
 use crate::progress::Progress;
 use crate::remedy::Remedy;
 use crate::source::Source;
-use crate::target::{name, Target, Which};
+use crate::target::{new_name, Target, Which};
 use lfat_card::{Name, Refusal};
 use lfat_disk::layout::bytes;
 use lfat_disk::volume::Volume;
@@ -49,6 +50,11 @@ impl Opened {
             target: &self.target,
             card: &self.card,
         }
+    }
+
+    /// The names on the card.
+    fn known(&mut self) -> Result<Known, Failure> {
+        Known::on(&self.target, &mut self.card)
     }
 
     /// Makes a call on a file.
@@ -99,9 +105,9 @@ fn image(args: &mut Args) -> Result<Target, Failure> {
 }
 
 /// The words IMAGE, NAME and FILE: the card opened, the name, and the bytes of the file of this machine.
-fn with_file(mut args: Args) -> Result<(Opened, Name, Source), Failure> {
+fn with_file(mut args: Args) -> Result<(Opened, String, Source), Failure> {
     let target = image(&mut args)?;
-    let name = name(&args.word("NAME")?)?;
+    let name = naming::text(&args.word("NAME")?)?;
     let file = args.word("FILE")?;
     let opened = Opened::new(target, &args)?;
     let source = Source::open(&file, opened.card.window().len(), &opened.target)?;
@@ -110,34 +116,76 @@ fn with_file(mut args: Args) -> Result<(Opened, Name, Source), Failure> {
 
 pub fn put(args: Args) -> Result<(), Failure> {
     let may_replace = args.has("--replace") || args.has("-f");
-    let (mut opened, given, source) = with_file(args)?;
-    let (name, data) = (given.bytes(), source.bytes());
-    let new = [Operation::Create { name }, Operation::Append { name, data }];
-    let over = [Operation::Replace { name, data }];
-    let there = opened.card.find(name);
-    // Where the card cannot be listed, every call is refused on the same ground.
-    let calls = match &there {
-        Ok(None) => &new[..],
-        _ if may_replace => &over,
-        _ => &new,
+    let (mut opened, text, source) = with_file(args)?;
+    let known = opened.known()?;
+    let there = match known.lookup(&text) {
+        Found::None => None,
+        Found::One(entry) => Some(*entry),
+        Found::Several(failure) => return Err(failure),
     };
-    opened.save(calls).map(drop).map_err(|failure| {
-        let (Failure::Refused(refusal, _), Ok(there)) = (&failure, &there) else {
-            return failure;
+    let data = source.bytes();
+    match there {
+        None => opened.put_new(&known, &text, data),
+        Some(_) if may_replace => opened.put_over(known.find_name(&text)?, data),
+        Some(entry) => {
+            let advice = opened.remedy().taken(&entry, &one_line(&text));
+            Err(Failure::Refused(Refusal::Exists, advice))
+        }
+    }
+}
+
+impl Opened {
+    /// Saves bytes under a new name, and tells which short name a long one got.
+    fn put_new(&mut self, known: &Known, text: &str, data: &[u8]) -> Result<(), Failure> {
+        let (name, long) = naming::new_file(known, text)?;
+        let name_bytes = name.bytes();
+        let append = Operation::Append {
+            name: name_bytes,
+            data,
         };
-        let advice = match (refusal, there) {
-            (Refusal::Exists, Some(entry)) => opened.remedy().taken(entry, given),
-            (Refusal::Nospace, Some(entry)) if entry.size() > 0 => {
-                format!("The old bytes of {given} keep their room until the new ones are saved. {NO_ROOM}")
+        let create = long
+            .as_ref()
+            .map_or(Operation::Create { name: name_bytes }, |long| {
+                Operation::CreateLong {
+                    name: name_bytes,
+                    characters: long.bytes(),
+                }
+            });
+        self.save(&[create, append]).map_err(with_room)?;
+        match long {
+            Some(long) => {
+                print(format!("'{}' is saved as {name}\n", one_line(&long.to_string())).as_bytes())
             }
-            (Refusal::Nospace, _) => NO_ROOM.to_string(),
-            _ => {
-                let which = Which::Name(given);
-                return opened.remedy().explain(failure, which, None);
+            None => Ok(()),
+        }
+    }
+
+    /// Saves bytes over a file.
+    fn put_over(&mut self, given: Name, data: &[u8]) -> Result<(), Failure> {
+        let name = given.bytes();
+        let made = self.save(&[Operation::Replace { name, data }]);
+        made.map(drop).map_err(|failure| match failure {
+            Failure::Refused(Refusal::Nospace, _) => {
+                let old = self.remedy().entry(Which::Name(given));
+                let advice = match old.is_some_and(|entry| entry.size() > 0) {
+                    true => format!("The old bytes of {given} keep their room until the new ones are saved. {NO_ROOM}"),
+                    false => NO_ROOM.to_string(),
+                };
+                Failure::Refused(Refusal::Nospace, advice)
             }
-        };
-        Failure::Refused(*refusal, advice)
-    })
+            failure => self.remedy().explain(failure, Which::Name(given), None),
+        })
+    }
+}
+
+/// New bytes that do not fit.
+fn with_room(failure: Failure) -> Failure {
+    match failure {
+        Failure::Refused(Refusal::Nospace, _) => {
+            Failure::Refused(Refusal::Nospace, NO_ROOM.to_string())
+        }
+        failure => failure,
+    }
 }
 
 /// What to do where new bytes do not fit.
@@ -146,22 +194,26 @@ const NO_ROOM: &str =
 
 pub fn append(args: Args) -> Result<(), Failure> {
     let (mut opened, given, source) = with_file(args)?;
+    let given = opened.known()?.find_name(&given)?;
     let (name, data) = (given.bytes(), source.bytes());
     opened.change(given, Operation::Append { name, data })
 }
 
 pub fn truncate(mut args: Args) -> Result<(), Failure> {
     let target = image(&mut args)?;
-    let given = name(&args.word("NAME")?)?;
+    let given = naming::text(&args.word("NAME")?)?;
     let size = number(&args.text("SIZE")?, "SIZE")?;
+    let mut opened = Opened::new(target, &args)?;
+    let given = opened.known()?.find_name(&given)?;
     let name = given.bytes();
-    Opened::new(target, &args)?.change(given, Operation::Truncate { name, size })
+    opened.change(given, Operation::Truncate { name, size })
 }
 
 pub fn rm(mut args: Args) -> Result<(), Failure> {
     let target = image(&mut args)?;
-    let which = Which::parse(&args.word("NAME")?)?;
-    let opened = Opened::new(target, &args)?;
+    let given = Given::parse(&args.word("NAME")?)?;
+    let mut opened = Opened::new(target, &args)?;
+    let which = given.find(&opened.target, &mut opened.card)?;
     opened.end(which, None, args.has("--json"), |card, limit| match which {
         Which::Name(name) => {
             let name = name.bytes();
@@ -173,9 +225,10 @@ pub fn rm(mut args: Args) -> Result<(), Failure> {
 
 pub fn mv(mut args: Args) -> Result<(), Failure> {
     let target = image(&mut args)?;
-    let old = Which::parse(&args.word("OLD")?)?;
-    let new = name(&args.word("NEW")?)?;
-    let opened = Opened::new(target, &args)?;
+    let old = Given::parse(&args.word("OLD")?)?;
+    let new = new_name(&args.word("NEW")?)?;
+    let mut opened = Opened::new(target, &args)?;
+    let old = old.find(&opened.target, &mut opened.card)?;
     opened.end(
         old,
         Some(new),

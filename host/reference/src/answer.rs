@@ -3,7 +3,7 @@
 use std::fmt;
 
 /// Why a call refused, by number. The numbers give the checking order, but for
-/// LOCKED, which is asked right after DIRECTORY.
+/// LOCKED, which is asked right after DIRECTORY, and LONGNAME, right after NAME.
 #[derive(Clone, Copy, Debug, PartialEq, Eq, PartialOrd, Ord, Hash)]
 pub enum Ground {
     Short = 1,
@@ -22,11 +22,12 @@ pub enum Ground {
     Length,
     Nospace,
     Locked,
+    Longname,
 }
 
 impl Ground {
     /// All grounds, by number.
-    pub const ALL: [Ground; 16] = [
+    pub const ALL: [Ground; 17] = [
         Ground::Short,
         Ground::Boot,
         Ground::Window,
@@ -43,9 +44,10 @@ impl Ground {
         Ground::Length,
         Ground::Nospace,
         Ground::Locked,
+        Ground::Longname,
     ];
 
-    /// The ground's number in the requirements, 1 to 16.
+    /// The ground's number in the requirements, 1 to 17.
     pub fn number(self) -> u32 {
         self as u32
     }
@@ -69,6 +71,7 @@ impl Ground {
             Ground::Length => "LENGTH",
             Ground::Nospace => "NOSPACE",
             Ground::Locked => "LOCKED",
+            Ground::Longname => "LONGNAME",
         }
     }
 }
@@ -85,7 +88,8 @@ pub enum Answer {
     /// Nothing was stored and no lent byte was altered.
     Refused(Ground),
     /// The whole list of stores was made. For read: the bytes read. For list:
-    /// the entries there are. For fits: yes, with the cluster.
+    /// the entries there are. For long names: the characters there are. For
+    /// fits: yes, with the cluster.
     Done(u32),
     /// Fits: no.
     No,

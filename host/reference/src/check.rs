@@ -2,7 +2,7 @@
 
 use crate::answer::Ground;
 use crate::journal::{scan, Journal, PendingGroup};
-use crate::root::{ends_once, lowest_unused};
+use crate::root::ends_once;
 use crate::volume::Volume;
 
 /// A card whose areas were all accepted.
@@ -19,7 +19,7 @@ pub fn recoverable(window: &[u8]) -> Result<(Mounted<'_>, Option<PendingGroup>),
     if !ends_once(volume.root()) {
         return Err(Ground::Root);
     }
-    let pending = scan(journal.table, nameable_slots(&volume))?;
+    let pending = scan(journal.table, volume.root())?;
     Ok((Mounted { volume, journal }, pending))
 }
 
@@ -31,12 +31,4 @@ pub fn clean(window: &[u8]) -> Result<Mounted<'_>, Ground> {
         return Err(Ground::Unclean);
     }
     Ok(mounted)
-}
-
-/// A record may name the slots up to the lowest one beginning 0, that one too.
-fn nameable_slots(volume: &Volume) -> usize {
-    match lowest_unused(volume.root()) {
-        Some(slot) => slot + 1,
-        None => volume.geometry.root_entries as usize,
-    }
 }

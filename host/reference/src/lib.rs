@@ -9,11 +9,12 @@
 //! - `check`: grounds 1 to 7, which judge the card;
 //! - `lookup`: grounds 8 to 10, 13 and 16, which judge a name and its file;
 //! - `long_entries`: the entries of a long name that go with its slot;
-//! - `operation`: the six writing operations;
+//! - `long_name`: its characters, written and read;
+//! - `operation`: the seven writing operations;
 //! - `data`: the sectors that get new bytes, in append and replace;
 //! - `transaction`, `program`: the order of stores, as a list and in segments;
 //! - `recovery`: redo of a pending group, undo of anything else;
-//! - `reading`: read, list and fits;
+//! - `reading`: read, list, fits and the reading of long names;
 //! - `listing`: the text of the log listing program;
 //! - `builder`, `inspect`: making cards for tests and looking into them.
 
@@ -32,6 +33,7 @@ mod inspect;
 mod journal;
 mod listing;
 mod long_entries;
+mod long_name;
 mod lookup;
 mod name;
 mod operation;
@@ -51,8 +53,9 @@ pub use inspect::{file_bytes, file_chain, free_clusters, is_sound};
 pub use listing::log_listing;
 pub use long_entries::checksum;
 pub use operation::{
-    append, create, delete, plan, program, recover, rename, replace, run, truncate, Operation,
+    append, create, create_long, delete, plan, program, recover, rename, replace, run, truncate,
+    Operation,
 };
 pub use program::{Extent, Program, Segment};
-pub use reading::{fits, list, read};
+pub use reading::{fits, list, long_name, read};
 pub use store::{Sector, Store, SECTOR_BYTES};

@@ -2,7 +2,7 @@
 
 use crate::bytes::{get16, get32};
 use crate::journal::record::{
-    CREATE, DELETE, PART, RECORD_BYTES, RENAME, REPLACE, TRUNCATE, UPDATE,
+    is_led, CREATE, DELETE, PART, RECORD_BYTES, RENAME, REPLACE, TRUNCATE, UPDATE,
 };
 use crate::name::{without_trailing_spaces, BASE_BYTES};
 use crate::root::{DELETED, UNUSED};
@@ -17,7 +17,8 @@ pub fn log_listing(input: &[u8]) -> Vec<u8> {
     }
     let mut text = format!("log {} sectors\n", input.len() / SECTOR_BYTES);
     for (sector, bytes) in input.chunks_exact(SECTOR_BYTES).enumerate() {
-        for (index, record) in bytes.chunks_exact(RECORD_BYTES).enumerate() {
+        let listed = if is_led(bytes) { 1 } else { usize::MAX };
+        for (index, record) in bytes.chunks_exact(RECORD_BYTES).enumerate().take(listed) {
             if record[0] != UNUSED {
                 text.push_str(&line(sector, index, record));
             }

@@ -5,9 +5,10 @@ use crate::root::{slot, Slot};
 /// No slot has more long entries.
 pub const MOST: usize = 20;
 
-const LONG_NAME: u8 = 0x0F;
+/// The attributes of a long entry.
+pub const LONG_NAME: u8 = 0x0F;
 /// In the first byte of the last entry, the one farthest back.
-const LAST: u8 = 0x40;
+pub const LAST: u8 = 0x40;
 
 /// What long entries keep of their slot's name, at offset 13.
 pub fn checksum(name: &[u8; 11]) -> u8 {

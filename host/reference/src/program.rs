@@ -1,5 +1,6 @@
 //! A call's stores in segments, for a disk that puts stores down in its own order.
 
+use crate::root_change::RootStores;
 use crate::store::{Store, SECTOR_BYTES};
 use std::borrow::Cow;
 
@@ -67,6 +68,29 @@ impl<'a> Segment<'a> {
         let barrier = barrier.map(|store| (store.sector, &store.bytes[..]));
         self.stores.iter().flat_map(Extent::sectors).chain(barrier)
     }
+}
+
+/// The stores from FAT1 on, with the commit mark as the last barrier. Root
+/// stores that have to keep their order are barriers too, but for the last.
+pub fn finish<'a>(
+    fat1: impl IntoIterator<Item = Store>,
+    root: RootStores,
+    commit: Store,
+) -> Vec<Segment<'a>> {
+    let mut segments = Vec::new();
+    let mut segment = Segment::new(fat1, None);
+    let last = root.stores.len().saturating_sub(1);
+    for (index, store) in root.stores.into_iter().enumerate() {
+        if root.is_ordered && index < last {
+            segment.barrier = Some(store);
+            segments.push(std::mem::take(&mut segment));
+        } else {
+            segment.push(store);
+        }
+    }
+    segment.barrier = Some(commit);
+    segments.push(segment);
+    segments
 }
 
 /// The list of stores of one call, in its order.

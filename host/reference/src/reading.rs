@@ -1,10 +1,13 @@
-//! The calls that store nothing: read, list and fits.
+//! The calls that store nothing: read, list, fits and the reading of long names.
 
-use crate::answer::Answer;
+use crate::answer::{Answer, Ground};
+use crate::bytes::put16;
 use crate::check;
 use crate::fat::FREE;
+use crate::long_name::of_slot;
 use crate::lookup::open_to_read;
-use crate::root::{slots, SLOT_BYTES};
+use crate::name;
+use crate::root::{self, slots, SLOT_BYTES};
 use crate::volume::Volume;
 
 /// Fills the buffer from the offset up to the end of the file and answers the
@@ -51,6 +54,28 @@ pub fn list(card: &[u8], buffer: &mut [u8]) -> Answer {
         count += 1;
     }
     Answer::Done(count)
+}
+
+/// Copies the characters of a long name, as many as fit, and answers how many
+/// there are, 0 without long entries. Of a directory too.
+pub fn long_name(card: &[u8], name: &[u8], buffer: &mut [u8]) -> Answer {
+    let characters = match characters_of(card, name) {
+        Ok(characters) => characters,
+        Err(ground) => return Answer::Refused(ground),
+    };
+    for (place, &character) in buffer.chunks_exact_mut(2).zip(&characters) {
+        put16(place, 0, character);
+    }
+    Answer::Done(characters.len() as u32)
+}
+
+/// Grounds 1 to 9.
+fn characters_of(card: &[u8], name: &[u8]) -> Result<Vec<u16>, Ground> {
+    let card = check::clean(card)?;
+    let name = name::parse(name)?;
+    let root = card.volume.root();
+    let slot = root::find(root, &name).ok_or(Ground::Absent)?;
+    Ok(of_slot(root, slot))
 }
 
 /// Whether an empty file could be given so many bytes, by free clusters alone.

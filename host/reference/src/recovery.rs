@@ -5,14 +5,20 @@ use crate::answer::Ground;
 use crate::check::{self, Mounted};
 use crate::journal::record::commit;
 use crate::journal::PendingGroup;
-use crate::program::{Program, Segment};
+use crate::program::{finish, Program, Segment};
+use crate::root_change::RootStores;
 use crate::store::{Sector, Store, SECTOR_BYTES};
 use crate::volume::Volume;
 
 pub fn plan(card: &[u8]) -> Result<Vec<Store>, Ground> {
     let (card, pending) = check::recoverable(card)?;
     Ok(match pending {
-        Some(group) => redo(&card, &group),
+        Some(group) => {
+            let (mut stores, root, commit) = redo(&card, &group);
+            stores.extend(root.stores);
+            stores.push(commit);
+            stores
+        }
         None => undo(&card.volume),
     })
 }
@@ -21,32 +27,28 @@ pub fn plan(card: &[u8]) -> Result<Vec<Store>, Ground> {
 /// has none.
 pub fn program(card: &[u8]) -> Result<Program<'static>, Ground> {
     let (card, pending) = check::recoverable(card)?;
-    let segment = match pending {
+    let segments = match pending {
         Some(group) => {
-            let mut stores = redo(&card, &group);
-            let commit = stores.pop();
-            Segment::new(stores, commit)
+            let (fat1, root, commit) = redo(&card, &group);
+            finish(fat1, root, commit)
         }
-        None => Segment::new(undo(&card.volume), None),
+        None => vec![Segment::new(undo(&card.volume), None)],
     };
-    Ok(Program {
-        segments: vec![segment],
-    })
+    Ok(Program { segments })
 }
 
 /// FAT2 to FAT1, then the root directory, then the commit.
-fn redo(card: &Mounted, group: &PendingGroup) -> Vec<Store> {
+fn redo(card: &Mounted, group: &PendingGroup) -> (Vec<Store>, RootStores, Store) {
     let volume = &card.volume;
     let start = volume.geometry.fat1_start();
-    let mut stores = fat_copy(volume.fat2().bytes, volume.fat1().bytes, start);
-    stores.extend(group.change.stores(volume));
+    let fat1 = fat_copy(volume.fat2().bytes, volume.fat1().bytes, start);
     let log_sector = card.journal.first_sector + group.sector as u32;
     let pending = volume.draft(log_sector);
-    stores.push(Store {
+    let commit = Store {
         sector: pending.sector,
         bytes: commit(pending.bytes, group.records),
-    });
-    stores
+    };
+    (fat1, group.change.stores(volume), commit)
 }
 
 /// FAT1 to FAT2.

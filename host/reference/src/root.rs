@@ -81,9 +81,23 @@ pub fn lowest_available(root: &[u8]) -> Option<usize> {
     slots(root).position(|slot| !slot.is_live())
 }
 
-/// The lowest slot beginning 0.
-pub fn lowest_unused(root: &[u8]) -> Option<usize> {
-    slots(root).position(|slot| slot.0[0] == UNUSED)
+/// The first slot of the lowest run of so many that new entries can take.
+pub fn lowest_run(root: &[u8], length: usize) -> Option<usize> {
+    let mut run = 0;
+    for (index, slot) in slots(root).enumerate() {
+        run = if slot.is_live() { 0 } else { run + 1 };
+        if run == length {
+            return Some(index + 1 - length);
+        }
+    }
+    None
+}
+
+/// The lowest slot beginning 0, where those that are named count as deleted.
+pub fn lowest_unused(root: &[u8], named: &[usize]) -> Option<usize> {
+    let mut unused = slots(root).enumerate();
+    let unused = unused.find(|(index, slot)| slot.0[0] == UNUSED && !named.contains(index));
+    unused.map(|(index, _)| index)
 }
 
 /// No slot after one beginning 0 begins otherwise.

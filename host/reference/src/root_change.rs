@@ -1,6 +1,7 @@
 //! What an operation does to the root directory.
 
 use crate::bytes::{put16, put32};
+use crate::long_name;
 use crate::name::Name;
 use crate::root::{slot, DELETED, SLOTS_PER_SECTOR, SLOT_BYTES};
 use crate::store::Store;
@@ -14,11 +15,17 @@ const FIRST_DATE: u16 = 0x0021;
 type SlotBytes = [u8; SLOT_BYTES];
 
 /// The effect of each operation on the root directory.
-#[derive(Clone, Copy, Debug, PartialEq, Eq)]
+#[derive(Clone, Debug, PartialEq, Eq)]
 pub enum RootChange {
     Create {
         slot: usize,
         name: Name,
+    },
+    /// The slot, and the long slots of the characters directly before it.
+    CreateLong {
+        slot: usize,
+        name: Name,
+        characters: Vec<u16>,
     },
     /// Append. The first cluster is given only where the file was empty.
     Update {
@@ -49,9 +56,17 @@ pub enum RootChange {
     },
 }
 
+/// The root sectors concerned, rising, one store each.
+pub struct RootStores {
+    pub stores: Vec<Store>,
+    /// On a disk that puts stores down in its own order, these must keep theirs:
+    /// a slot in use after one that still begins 0 would break ROOT.
+    pub is_ordered: bool,
+}
+
 impl RootChange {
-    /// The root sectors concerned, rising, one store each.
-    pub fn stores(&self, volume: &Volume) -> Vec<Store> {
+    /// The stores into the root directory.
+    pub fn stores(&self, volume: &Volume) -> RootStores {
         let mut changes = self.new_slots(volume.root());
         changes.sort_by_key(|&(slot, _)| slot);
         let mut stores: Vec<Store> = Vec::new();
@@ -65,13 +80,26 @@ impl RootChange {
                 store.bytes[at..at + SLOT_BYTES].copy_from_slice(&bytes);
             }
         }
-        stores
+        RootStores {
+            stores,
+            is_ordered: matches!(self, RootChange::CreateLong { .. }),
+        }
     }
 
     /// The slots concerned, with their new bytes.
     fn new_slots(&self, root: &[u8]) -> Vec<(usize, SlotBytes)> {
         match *self {
             RootChange::Create { slot, name } => vec![(slot, created(&name))],
+            RootChange::CreateLong {
+                slot,
+                name,
+                ref characters,
+            } => {
+                let mut entries = long_name::entries(&name, characters);
+                let first = slot - entries.len();
+                entries.push(created(&name));
+                (first..).zip(entries).collect()
+            }
             RootChange::Update {
                 slot,
                 size,

@@ -2,9 +2,8 @@
 
 use crate::check::Mounted;
 use crate::fat_draft::FatDraft;
-use crate::journal::record::{commit, group};
-use crate::journal::Record;
-use crate::program::{Extent, Program, Segment};
+use crate::journal::record::{commit, Group};
+use crate::program::{finish, Extent, Program, Segment};
 use crate::root_change::RootChange;
 use crate::store::{Sector, Store, SECTOR_BYTES};
 
@@ -13,8 +12,7 @@ pub struct Transaction<'a, 'd> {
     /// Data sectors, for append and replace only.
     pub data: Vec<Extent<'d>>,
     pub fat: FatDraft<'a>,
-    /// The log records of the group.
-    pub records: Vec<Record>,
+    pub group: Group,
     pub root: RootChange,
 }
 
@@ -51,8 +49,8 @@ impl<'a, 'd> Transaction<'a, 'd> {
 
     /// The log sector that serves, with the group pending and committed, and the stores that make room for it.
     fn group(&self, card: &Mounted) -> (Vec<Store>, Store, Store) {
-        let pending = group(&self.records);
-        let committed = commit(pending, self.records.len());
+        let pending = self.group.sector();
+        let committed = commit(pending, self.group.count());
         let (clearing, sector) = card.journal.make_room();
         let store = |bytes| Store { sector, bytes };
         (clearing, store(pending), store(committed))
@@ -73,7 +71,7 @@ impl<'a, 'd> Transaction<'a, 'd> {
         stores.extend(clearing);
         stores.push(pending);
         stores.extend(self.fat.stores(geometry.fat1_start()));
-        stores.extend(self.root.stores(&card.volume));
+        stores.extend(self.root.stores(&card.volume).stores);
         stores.push(committed);
         stores
     }
@@ -89,9 +87,8 @@ impl<'a, 'd> Transaction<'a, 'd> {
         let fat2 = self.fat.stores(geometry.fat2_start());
         fat2.chain(clearing).for_each(|store| prepare.push(store));
         let fat1 = self.fat.stores(geometry.fat1_start());
-        let finish = fat1.chain(self.root.stores(&card.volume));
-        Program {
-            segments: vec![prepare, Segment::new(finish, Some(committed))],
-        }
+        let mut segments = vec![prepare];
+        segments.extend(finish(fat1, self.root.stores(&card.volume), committed));
+        Program { segments }
     }
 }

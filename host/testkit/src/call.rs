@@ -5,10 +5,12 @@ use lfat_card::calls;
 use reference::{Answer, Operation};
 use std::fmt;
 
-/// One of the ten calls.
+/// One of the twelve calls.
 #[derive(Clone)]
 pub enum Call {
     Create(Vec<u8>),
+    /// Name, and the characters as bytes.
+    CreateLong(Vec<u8>, Vec<u8>),
     Append(Vec<u8>, Vec<u8>),
     Replace(Vec<u8>, Vec<u8>),
     Truncate(Vec<u8>, u64),
@@ -21,12 +23,15 @@ pub enum Call {
     List(usize),
     /// A number of bytes.
     Fits(u64),
+    /// Name and the buffer's length.
+    LongName(Vec<u8>, usize),
 }
 
 impl Call {
     pub fn word(&self) -> &'static str {
         match self {
             Call::Create(..) => "create",
+            Call::CreateLong(..) => "create_long",
             Call::Append(..) => "append",
             Call::Replace(..) => "replace",
             Call::Truncate(..) => "truncate",
@@ -36,13 +41,14 @@ impl Call {
             Call::Read(..) => "read",
             Call::List(..) => "list",
             Call::Fits(..) => "fits",
+            Call::LongName(..) => "long_name",
         }
     }
 
     /// The length of the buffer that the call fills.
     pub fn room(&self) -> usize {
         match *self {
-            Call::Read(_, _, room) | Call::List(room) => room,
+            Call::Read(_, _, room) | Call::List(room) | Call::LongName(_, room) => room,
             _ => 0,
         }
     }
@@ -51,13 +57,14 @@ impl Call {
     pub fn operation(&self) -> Option<Operation<'_>> {
         match self {
             Call::Create(name) => Some(Operation::Create { name }),
+            Call::CreateLong(name, characters) => Some(Operation::CreateLong { name, characters }),
             Call::Append(name, data) => Some(Operation::Append { name, data }),
             Call::Replace(name, data) => Some(Operation::Replace { name, data }),
             Call::Truncate(name, size) => Some(Operation::Truncate { name, size: *size }),
             Call::Delete(name) => Some(Operation::Delete { name }),
             Call::Rename(old, new) => Some(Operation::Rename { old, new }),
             Call::Recover => Some(Operation::Recover),
-            Call::Read(..) | Call::List(..) | Call::Fits(..) => None,
+            Call::Read(..) | Call::List(..) | Call::Fits(..) | Call::LongName(..) => None,
         }
     }
 
@@ -65,6 +72,7 @@ impl Call {
     pub fn on_library(&self, card: &mut [u8], limit: u32, buffer: &mut [u8]) -> calls::Answer {
         match self {
             Call::Create(name) => calls::create(card, name, limit),
+            Call::CreateLong(name, characters) => calls::create_long(card, name, characters, limit),
             Call::Append(name, data) => calls::append(card, name, data, limit),
             Call::Replace(name, data) => calls::replace(card, name, data, limit),
             Call::Truncate(name, size) => calls::truncate(card, name, *size, limit),
@@ -74,6 +82,7 @@ impl Call {
             Call::Read(name, offset, _) => calls::read(card, name, *offset, buffer),
             Call::List(_) => calls::list(card, buffer),
             Call::Fits(bytes) => calls::fits(card, *bytes),
+            Call::LongName(name, _) => calls::long_name(card, name, buffer),
         }
     }
 
@@ -82,6 +91,7 @@ impl Call {
             (_, Some(operation)) => reference::run(card, &operation, limit),
             (Call::Read(name, offset, _), _) => reference::read(card, name, *offset, buffer),
             (Call::Fits(bytes), _) => reference::fits(card, *bytes),
+            (Call::LongName(name, _), _) => reference::long_name(card, name, buffer),
             _ => reference::list(card, buffer),
         }
     }
@@ -94,6 +104,9 @@ impl fmt::Debug for Call {
         write!(f, "{}", self.word())?;
         match self {
             Call::Create(name) | Call::Delete(name) => write!(f, " '{}'", shown(name)),
+            Call::CreateLong(name, characters) => {
+                write!(f, " '{}' {characters:02x?}", shown(name))
+            }
             Call::Append(name, data) | Call::Replace(name, data) => {
                 write!(f, " '{}' {} bytes", shown(name), data.len())
             }
@@ -105,6 +118,7 @@ impl fmt::Debug for Call {
             }
             Call::List(room) => write!(f, ", room {room}"),
             Call::Fits(bytes) => write!(f, " {bytes} bytes"),
+            Call::LongName(name, room) => write!(f, " '{}', room {room}", shown(name)),
         }
     }
 }

@@ -150,7 +150,7 @@ impl Card {
 /// so that fragments, full cards and full logs come up often.
 pub fn random_card(random: &mut Random) -> Card {
     let sectors_per_cluster = random.pick(&[1u8, 1, 2, 4]);
-    let root_entries = random.pick(&[16u16, 32, 48]);
+    let root_entries = random.pick(&[16u16, 32, 48, 64]);
     let clusters = 4_085 + random.below(8) as u32;
     let reserved = 1 + random.below(3) as u16;
     let odd_sectors = random.below(usize::from(sectors_per_cluster)) as u32;

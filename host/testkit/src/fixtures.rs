@@ -22,7 +22,16 @@ pub fn furnished_card(random: &mut Random) -> Card {
     }
     for sector in 0..card.log().len() {
         let full = random.one_in(3);
-        for record in card.log_sector_mut(sector).chunks_exact_mut(32) {
+        // At times record 0 has created a long name: what stands in the records after it is then not looked at.
+        let leads = random.one_in(4);
+        let log = card.log_sector_mut(sector);
+        if leads {
+            log[0] = 0xE5;
+            log[12] = log[12].max(1);
+            log[13] = 1;
+            continue;
+        }
+        for record in log.chunks_exact_mut(32) {
             record[0] = if full || random.one_in(2) { 0xE5 } else { 0 };
         }
     }

@@ -99,11 +99,16 @@ pub fn judge(card: &[u8]) -> Judged {
     }
 }
 
-/// Whether a record in the log is pending.
+/// Whether a record in the log is pending. One at the start of a sector that creates a long name hides those after it.
 pub fn has_pending(card: &[u8]) -> bool {
     let layout = Layout::of(card);
     (2..layout.clusters + 2)
         .filter(|&cluster| layout.entry(card, cluster) == 0xFFF6)
-        .flat_map(|cluster| layout.cluster(card, cluster).chunks(32))
-        .any(|record| record[0] != 0 && record[0] != 0xE5)
+        .flat_map(|cluster| layout.cluster(card, cluster).chunks(512))
+        .any(|sector| {
+            let leads = sector[0] != 0 && sector[12] != 0 && sector[13] == 1;
+            let telling = if leads { 1 } else { 16 };
+            let mut records = sector.chunks(32).take(telling);
+            records.any(|record| record[0] != 0 && record[0] != 0xE5)
+        })
 }

@@ -2,6 +2,7 @@
 
 pub mod call;
 pub mod cards;
+pub mod characters;
 pub mod fixtures;
 pub mod judge;
 pub mod long_names;

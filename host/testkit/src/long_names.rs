@@ -9,7 +9,7 @@ use crate::ROUTE;
 pub const JUDGED: [usize; 3] = [0, 11, 13];
 
 /// Where the characters of a long entry stand, two bytes each.
-const CHARACTERS: [usize; 13] = [1, 3, 5, 7, 9, 14, 16, 18, 20, 22, 24, 28, 30];
+pub const CHARACTERS: [usize; 13] = [1, 3, 5, 7, 9, 14, 16, 18, 20, 22, 24, 28, 30];
 
 /// The short name's checksum, in plain numbers: half the sum, its odd bit on top, and the byte.
 pub fn checksum(name: &[u8]) -> u8 {

@@ -59,7 +59,7 @@ fn expect(twin: &mut Twin, call: &Call, ground: Ground) {
 }
 
 /// Each call with a bad name, where it takes one.
-fn all_calls(name: &[u8]) -> [Call; 10] {
+fn all_calls(name: &[u8]) -> [Call; 12] {
     let name = name.to_vec();
     [
         Call::Create(name.clone()),
@@ -68,6 +68,8 @@ fn all_calls(name: &[u8]) -> [Call; 10] {
         Call::Truncate(name.clone(), 701),
         Call::Delete(name.clone()),
         Call::Rename(name.clone(), ROUTE.to_vec()),
+        Call::CreateLong(name.clone(), b"*".to_vec()),
+        Call::LongName(name.clone(), 64),
         Call::Recover,
         Call::Read(name, 0, 64),
         Call::List(64),
@@ -86,7 +88,7 @@ fn grounds_of_the_card() {
         }
         mend(&mut twin, ground);
     }
-    for call in &all_calls(BAD_NAME)[..6] {
+    for call in &all_calls(BAD_NAME)[..8] {
         expect(&mut twin, call, Ground::Name);
     }
     twin.done(&Call::Recover);

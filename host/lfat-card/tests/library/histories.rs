@@ -7,6 +7,7 @@ use reference::{Answer, CardSpec, Ground};
 use std::collections::BTreeSet;
 use testkit::call::Call;
 use testkit::cards::Card;
+use testkit::characters::root_with_long_name;
 use testkit::fixtures::furnished_card;
 use testkit::long_names::{ended_slot, root_after};
 use testkit::random::Random;
@@ -25,6 +26,8 @@ struct Met {
     taken_along: BTreeSet<(&'static str, usize, usize)>,
     /// Calls on a slot whose long entries are not proper.
     broken: BTreeSet<&'static str>,
+    /// Characters of long names that were created.
+    created: BTreeSet<usize>,
 }
 
 impl Met {
@@ -39,6 +42,27 @@ impl Met {
             self.fragments |= chain.windows(2).any(|pair| pair[1] > pair[0] + 1);
             self.falling_chain |= chain.windows(2).any(|pair| pair[1] < pair[0]);
         }
+    }
+
+    /// A create with a long name that is done: the root directory is as it was to be, and the name is read back.
+    fn look_at_created(&mut self, before: &Card, call: &Call, twin: &mut Twin) {
+        let (Call::CreateLong(name, bytes), Some(root)) = (call, root_with_long_name(before, call))
+        else {
+            return;
+        };
+        let after = &twin.card;
+        assert!(
+            after.bytes[512 * after.root()..512 * after.data()] == root,
+            "{call:?}"
+        );
+        let mut buffer = vec![0xA5; bytes.len() + 3];
+        let answer = reference::long_name(&after.bytes, name, &mut buffer);
+        assert_eq!(answer, Answer::Done(bytes.len() as u32 / 2), "{call:?}");
+        assert_eq!(buffer, [&bytes[..], &[0xA5; 3]].concat(), "{call:?}");
+        for room in [0, 1, 3, bytes.len(), bytes.len() + 1] {
+            twin.call(&Call::LongName(name.clone(), room), ALL);
+        }
+        self.created.insert(bytes.len() / 2);
     }
 
     /// A delete or rename that is done: the root directory is as it was to be.
@@ -101,6 +125,11 @@ fn history(seed: u64, met: &mut Met) -> Seen {
             twin.call(&next, ALL);
             read_and_recover(&mut twin, &mut random);
             twin.done(&Call::Recover);
+        } else if let Call::CreateLong(..) = call {
+            let before = twin.card.clone();
+            if let Answer::Done(_) = twin.call(&call, ALL) {
+                met.look_at_created(&before, &call, &mut twin);
+            }
         } else if ended_slot(&twin.card, &call).is_some() {
             let before = twin.card.clone();
             if let Answer::Done(_) = twin.call(&call, ALL) {
@@ -122,6 +151,10 @@ fn random_histories() {
     }
     assert_seen(&seen, |code| code == 0 || code >= 7);
     assert!(met.clearing && met.fragments && met.falling_chain);
+    for length in [1, 13, 14, 26] {
+        assert!(met.created.contains(&length), "{length}: {:?}", met.created);
+    }
+    assert!(met.created.last() >= Some(&170), "{:?}", met.created);
     for call in ["delete", "rename"] {
         for few in [(call, 1, 0), (call, 2, 0), (call, 3, 0)] {
             assert!(met.taken_along.contains(&few), "{few:?}");

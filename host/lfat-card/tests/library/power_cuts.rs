@@ -5,6 +5,7 @@
 use lfat_card::calls::{recover, Answer};
 use std::collections::BTreeMap;
 use testkit::call::Call;
+use testkit::characters::{bytes_of, letters, root_with_long_name};
 use testkit::fixtures::{furnished_card, largest_fragmented_card, share_cluster};
 use testkit::judge::{has_pending, judge, Judged};
 use testkit::long_names::{ended_slot, root_after};
@@ -88,7 +89,9 @@ fn every_cut(card: &mut Vec<u8>, call: &Call, rows: u32, random: &mut Random) ->
 /// An operation with a list of stores that is not too long to cut everywhere.
 fn has_cuts(call: &Call) -> bool {
     match call {
-        Call::Recover | Call::Read(..) | Call::List(..) | Call::Fits(..) => false,
+        Call::Recover | Call::Read(..) | Call::List(..) | Call::Fits(..) | Call::LongName(..) => {
+            false
+        }
         Call::Append(_, data) | Call::Replace(_, data) => data.len() < 20_000,
         _ => true,
     }
@@ -124,11 +127,15 @@ fn history(seed: u64, tally: &mut Tally) {
         }
         let sound = judge(&card.bytes).files.is_some();
         let (ended, root) = (ended_slot(&card, &call), root_after(&card, &call));
+        let named = root_with_long_name(&card, &call);
         let count = ended.map_or(0, |slot| card.long_entries(slot));
         let answer = every_cut(&mut card.bytes, &call, 2, &mut random);
         let accepted = matches!(answer, Answer::Done(_));
         let key = (call.word(), accepted, sound);
         *tally.calls.entry(key).or_default() += 1;
+        if let (true, Some(root)) = (accepted, named) {
+            assert!(judge(&card.bytes).root == root, "{call:?}");
+        }
         if let (true, Some(slot), Some(root)) = (accepted, ended, root) {
             assert!(judge(&card.bytes).root == root, "{call:?}");
             if count > 0 {
@@ -146,7 +153,13 @@ fn every_cut_in_random_histories() {
         history(seed, &mut tally);
     }
     for word in [
-        "create", "append", "replace", "truncate", "delete", "rename",
+        "create",
+        "create_long",
+        "append",
+        "replace",
+        "truncate",
+        "delete",
+        "rename",
     ] {
         for (accepted, sound) in [(true, true), (true, false), (false, true), (false, false)] {
             let count = tally.calls.get(&(word, accepted, sound));
@@ -169,7 +182,7 @@ fn cuts_on_a_large_card() {
     let name = b"ROUTE   CUT".to_vec();
     let data = random.bytes(9 * 512 + 5);
     for call in [
-        Call::Create(name.clone()),
+        Call::CreateLong(name.clone(), bytes_of(&letters(208))),
         Call::Append(name.clone(), data.clone()),
         Call::Replace(name.clone(), data[..4 * 512].to_vec()),
         Call::Replace(name.clone(), Vec::new()),

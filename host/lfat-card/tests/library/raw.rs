@@ -7,11 +7,11 @@ use std::ptr::null;
 use testkit::random::Random;
 use testkit::{ALL, PANEL, ROUTE};
 
-/// What all ten calls answer, one after the other.
-fn answers(card: &mut [u8], name: &[u8], limit: u32) -> [u64; 10] {
+/// What all twelve calls answer, one after the other.
+fn answers(card: &mut [u8], name: &[u8], limit: u32) -> [u64; 12] {
     let (at, length) = (card.as_mut_ptr(), card.len());
     let (name, name_length) = (name.as_ptr(), name.len());
-    let data = [7u8; 600];
+    let (data, chars) = ([7u8; 600], *b"a\0b\0");
     let mut buffer = [0u8; 600];
     let out = buffer.as_mut_ptr();
     // Each slice is valid for its length, and none overlaps another.
@@ -27,6 +27,8 @@ fn answers(card: &mut [u8], name: &[u8], limit: u32) -> [u64; 10] {
             lfat_read(at, length, name, name_length, 0, out, 600),
             lfat_list(at, length, out, 600),
             lfat_fits(at, length, 600),
+            lfat_long_name(at, length, name, name_length, out, 600),
+            lfat_create_long(at, length, name, name_length, chars.as_ptr(), 4, limit),
         ]
     }
 }
@@ -42,38 +44,42 @@ fn ground(number: u64) -> u64 {
 fn refusals_have_no_count() {
     for limit in [0, 3, ALL] {
         let mut card = card_k();
-        assert_eq!(answers(&mut card[..511], ROUTE, limit), [ground(1); 10]);
-        assert_eq!(answers(&mut card[..512], ROUTE, limit), [ground(3); 10]);
+        assert_eq!(answers(&mut card[..511], ROUTE, limit), [ground(1); 12]);
+        assert_eq!(answers(&mut card[..512], ROUTE, limit), [ground(3); 12]);
         card[511] = 0;
-        assert_eq!(answers(&mut card, ROUTE, limit), [ground(2); 10]);
+        assert_eq!(answers(&mut card, ROUTE, limit), [ground(2); 12]);
         card[511] = 0xAA;
         card[512 + 2 * 100..][..2].copy_from_slice(&[0xF6, 0xFF]);
-        assert_eq!(answers(&mut card, ROUTE, limit), [ground(4); 10]);
+        assert_eq!(answers(&mut card, ROUTE, limit), [ground(4); 12]);
         let mut card = card_k();
         card[33 * 512 + 32] = 0xE5;
-        assert_eq!(answers(&mut card, ROUTE, limit), [ground(5); 10]);
+        assert_eq!(answers(&mut card, ROUTE, limit), [ground(5); 12]);
         let mut card = card_k();
         card[65 * 512] = b'A';
-        assert_eq!(answers(&mut card, ROUTE, limit), [ground(6); 10]);
+        assert_eq!(answers(&mut card, ROUTE, limit), [ground(6); 12]);
     }
     let (unclean, name) = (ground(7), ground(8));
     let mut card = card_k();
     card[16 * 512] = 1;
-    let mut expected = [unclean; 10];
+    let mut expected = [unclean; 12];
     expected[6] = STOPPED;
     assert_eq!(answers(&mut card, ROUTE, 0), expected);
-    let expected = [name, name, name, name, name, name, 0, name, 0, 11];
+    let expected = [
+        name, name, name, name, name, name, 0, name, 0, 11, name, name,
+    ];
     assert_eq!(answers(&mut card_k(), b"ROUTE.CUT", 0), expected);
 }
 
-/// ROUTE.CUT marked read-only: five calls are refused, with the number 16 and no count; create finds the name taken.
+/// ROUTE.CUT marked read-only: five calls are refused, with the number 16 and no count; both creates find the name taken.
 #[test]
 fn locked_file() {
     for limit in [0, 3, ALL] {
         let mut card = card_with(ROUTE);
         card[33 * 512 + 11] |= 0x01;
         let (exists, locked) = (ground(11), ground(16));
-        let expected = [exists, locked, locked, locked, locked, locked, 0, 0, 1, 11];
+        let expected = [
+            exists, locked, locked, locked, locked, locked, 0, 0, 1, 11, 0, exists,
+        ];
         assert_eq!(answers(&mut card, ROUTE, limit), expected);
     }
 }
@@ -82,12 +88,12 @@ fn locked_file() {
 fn counts_of_finished_and_stopped_calls() {
     let mut card = card_k();
     // Create, append, replace, truncate, delete and rename, one after the other; the last finds nothing.
-    let finished = [3, 7, 7, 5, 5, ground(9), 0, ground(9), 0, 11];
+    let finished = [3, 7, 7, 5, 5, ground(9), 0, ground(9), 0, 11, ground(9), 3];
     assert_eq!(answers(&mut card, ROUTE, ALL), finished);
     let mut card = card_k();
     let absent = ground(9);
     let stopped = [
-        STOPPED, absent, absent, absent, absent, absent, 0, absent, 0, 11,
+        STOPPED, absent, absent, absent, absent, absent, 0, absent, 0, 11, absent, STOPPED,
     ];
     assert_eq!(answers(&mut card, ROUTE, 0), stopped);
 }
@@ -115,6 +121,41 @@ fn yes_and_no() {
     for (bytes, answer) in [(0, 0), (1, NO), (u64::MAX, NO)] {
         assert_eq!(fits(&card, bytes), answer, "{bytes}");
     }
+}
+
+/// LONGNAME has the number 17 and no count; a name read back has its characters as the count, also if none is copied.
+#[test]
+fn long_names() {
+    let mut card = card_k();
+    let (at, length, name) = (card.as_mut_ptr(), card.len(), ROUTE.as_ptr());
+    let chars = *b"a\0b\0c\0";
+    let create =
+        |count| unsafe { lfat_create_long(at, length, name, 11, chars.as_ptr(), count, ALL) };
+    for count in [0, 1, 3, 5] {
+        assert_eq!(create(count), ground(17));
+    }
+    assert_eq!(
+        unsafe { lfat_create_long(at, length, name, 11, null(), 0, ALL) },
+        ground(17)
+    );
+    assert_eq!(create(6), 3);
+    assert_eq!(create(6), ground(11));
+    let mut buffer = [9; 8];
+    let out = buffer.as_mut_ptr();
+    for (room, bytes) in [(0, 0), (1, 0), (2, 2), (5, 4), (8, 6)] {
+        assert_eq!(
+            unsafe { lfat_long_name(at, length, name, 11, out, room) },
+            3
+        );
+        let copy = unsafe { *out.cast::<[u8; 8]>() };
+        assert_eq!(copy[..bytes], chars[..bytes]);
+        assert_eq!(copy[bytes..], [9; 8][bytes..]);
+    }
+    // The name lies in the root directory of the card that is read, and the characters in the name.
+    let slot = unsafe { at.add(33 * 512 + 32) };
+    assert_eq!(unsafe { lfat_long_name(at, length, slot, 11, out, 8) }, 3);
+    let start = card_k();
+    as_on_copies(lfat_create_long, &start, &ROUTE[..], &ROUTE[..10], 3);
 }
 
 /// Windows of bytes that are no card, also none at all.

@@ -99,7 +99,9 @@ fn fields_of_record_0() {
             expect(operation, &both(judged, 1), false);
         }
         expect(operation, &[(0, 1), (5, 0), (10, 0xE5)], true);
-        expect(operation, &[(18, LIVE as u8 + 1)], false);
+        // A rename's new slot is the lowest that begins 0, and read as deleted: then the one after it may be named too.
+        expect(operation, &[(18, LIVE as u8 + 1)], operation == RENAME);
+        expect(operation, &[(18, LIVE as u8 + 2)], false);
         expect(operation, &[(18, 0), (19, 2)], false);
         for unknown in [7, 8, 0x86, 0xFF] {
             expect(operation, &[(13, unknown)], false);

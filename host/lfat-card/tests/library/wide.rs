@@ -117,6 +117,12 @@ fn lengths_past_32_bits() {
         15 << 32
     );
     assert_eq!(calls::create(&mut card, &long, ALL).encode(), 8 << 32);
+    // Cut to 32 bits it would be 300 characters, and with one more byte an odd number; cut to 33 it would be taken for none.
+    for length in [LENGTH, LENGTH - 1, 1 << 32, (1 << 32) + 2] {
+        let characters = &long[..length];
+        let answer = calls::create_long(&mut card, b"PANEL   CUT", characters, ALL);
+        assert_eq!(answer.encode(), 17 << 32);
+    }
     assert!(card == before);
     assert_eq!(calls::append(&mut card, ROUTE, &[9; 700], ALL).encode(), 7);
     // As a buffer it has room for all of the file.
@@ -124,6 +130,7 @@ fn lengths_past_32_bits() {
     assert!(long[..700] == [9; 700] && long[700..9_000] == [0; 8_300]);
     assert_eq!(calls::list(&card, &mut long).encode(), 1);
     assert!(long[32..700] == [9; 668]);
+    assert_eq!(calls::long_name(&card, ROUTE, &mut long).encode(), 0);
     // As a window it is longer than the card.
     long[..card.len()].copy_from_slice(&card);
     assert_eq!(calls::fits(&long, 600).encode(), 13);

@@ -4,6 +4,7 @@ use crate::measure::Measure;
 use reference::CardSpec;
 use testkit::call::Call;
 use testkit::cards::Card;
+use testkit::characters::{bytes_of, letters};
 use testkit::fixtures::furnished_card;
 use testkit::random::Random;
 use testkit::steps::{random_call, random_long_name};
@@ -58,6 +59,8 @@ fn storing_calls() -> Vec<Call> {
     let (route, other) = (ROUTE.to_vec(), OTHER.to_vec());
     vec![
         Call::Create(PANEL.to_vec()),
+        Call::CreateLong(PANEL.to_vec(), bytes_of(&letters(208))),
+        Call::CreateLong(PANEL.to_vec(), bytes_of(&letters(5))),
         Call::Rename(route.clone(), PANEL.to_vec()),
         Call::Append(other.clone(), vec![7; 1 << 20]),
         Call::Append(route.clone(), vec![7; 500_000]),
@@ -76,6 +79,8 @@ fn drive_reads(measure: &mut Measure, place: &str, card: &mut Card) {
         Call::Read(ROUTE.to_vec(), 0, 2 << 20),
         Call::Read(ROUTE.to_vec(), 777_777, 5_000),
         Call::List(600 * 32),
+        Call::LongName(ROUTE.to_vec(), 600),
+        Call::LongName(ROUTE.to_vec(), 30),
         Call::Fits(1),
         Call::Fits(1 << 20),
         Call::Fits(u64::MAX),
@@ -107,8 +112,9 @@ fn drive_cuts(measure: &mut Measure, place: &str, start: &Card, card: &mut Card,
 }
 
 /// The largest card of one sector per cluster: ROUTE.CUT of 1 MiB and OTHER of 900 bytes lie scattered over all of it, in mixed
-/// order; of the other clusters every eighth is free. The root directory is full but for a slot. ROUTE.CUT has 20 long entries,
-/// which with its slot and the free one lie in four root sectors; OTHER has one.
+/// order; of the other clusters every eighth is free. The root directory is full but for a slot and a run of seventeen, deleted and
+/// unused, in its last three sectors. ROUTE.CUT has 20 long entries, which with its slot and the free one lie in four root sectors;
+/// OTHER has one.
 fn scattered_card(full_log: bool) -> Card {
     let mut card = Card::new(CardSpec {
         sectors_per_fat: 256,
@@ -130,6 +136,10 @@ fn scattered_card(full_log: bool) -> Card {
     card.put_slot(1, OTHER, 0x20, 65_523, 900);
     card.put_long_entries(1, 1);
     card.mark_deleted([2]);
+    card.mark_deleted(495..500);
+    for slot in 500..512 {
+        card.slot_mut(slot).fill(0);
+    }
     if full_log {
         for sector in 0..card.log().len() {
             card.log_sector_mut(sector)

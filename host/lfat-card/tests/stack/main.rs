@@ -32,7 +32,7 @@ fn no_call_needs_more() {
     for (call, most) in &measure.most {
         println!("| {call} | {} | {} |", most.bytes, stated(call));
     }
-    assert_eq!(measure.most.len(), 10);
+    assert_eq!(measure.most.len(), 12);
     for (call, most) in &measure.most {
         let Most { bytes, place } = most;
         assert!(

@@ -21,6 +21,9 @@ fn crossing(call: &Call, card: &mut [u8], limit: u32, buffer: &mut [u8]) -> (*co
     };
     match call {
         Call::Create(name) => (lfat_create as *const (), named(name, [limit, 0, 0])),
+        Call::CreateLong(name, characters) => {
+            (lfat_create_long as *const (), with(name, characters))
+        }
         Call::Append(name, data) => (lfat_append as *const (), with(name, data)),
         Call::Replace(name, data) => (lfat_replace as *const (), with(name, data)),
         Call::Truncate(name, size) => (lfat_truncate as *const (), named(name, [*size, limit, 0])),
@@ -28,6 +31,7 @@ fn crossing(call: &Call, card: &mut [u8], limit: u32, buffer: &mut [u8]) -> (*co
         Call::Rename(old, new) => (lfat_rename as *const (), with(old, new)),
         Call::Recover => (lfat_recover as *const (), [card, length, limit, 0, 0, 0, 0]),
         Call::Read(name, offset, _) => (lfat_read as *const (), named(name, [*offset, to, room])),
+        Call::LongName(name, _) => (lfat_long_name as *const (), named(name, [to, room, 0])),
         Call::List(_) => (lfat_list as *const (), [card, length, to, room, 0, 0, 0]),
         Call::Fits(bytes) => (lfat_fits as *const (), [card, length, *bytes, 0, 0, 0, 0]),
     }

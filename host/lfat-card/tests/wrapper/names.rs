@@ -1,7 +1,7 @@
 //! Names from an entry's bytes.
 
 use crate::{card_with_route, name};
-use lfat_card::{calls, printed, Answer, CardView, Entry, Name, Refusal};
+use lfat_card::{calls, printed, Answer, Card, CardView, Entry, LongName, Name, Refusal};
 use reference::card_k;
 use testkit::random::Random;
 
@@ -65,4 +65,82 @@ fn shown_whatever_they_are() {
     }
     assert_eq!(printed(b"ROUTE   CUT"), "ROUTE.CUT");
     assert_eq!(printed(b"ROUTE"), "ROUTE");
+}
+
+/// Characters make a long name where the library takes them for one.
+#[test]
+fn long_names_as_the_library_has_them() {
+    let mut card = card_k();
+    let mut random = Random::new(0x243F_6A88_85A3_08D3);
+    let (mut good, mut bad) = (0, 0);
+    for round in 0..2_000 {
+        let length = random.pick(&[0, 1, 2, 13, 100, 207, 208, 209, 300]);
+        let mut characters: Vec<u16> = (0..length)
+            .map(|_| 33 + 256 * random.below(90) as u16)
+            .collect();
+        if random.one_in(2) && length > 0 {
+            let at = random.below(length);
+            characters[at] = round % 260;
+        }
+        let bytes = testkit::characters::bytes_of(&characters);
+        let answer = calls::create_long(&mut card, b"ROUTE   CUT", &bytes, 0);
+        match LongName::from_characters(&characters) {
+            Ok(name) => {
+                assert_eq!(answer, Answer::Stopped(0), "{characters:?}");
+                assert!(name.bytes() == bytes && name.characters() == characters);
+                assert_eq!(name.len(), length);
+                good += 1;
+            }
+            Err(refusal) => {
+                assert_eq!(answer, Answer::Refused(refusal), "{characters:?}");
+                assert_eq!(refusal, Refusal::Longname);
+                bad += 1;
+            }
+        }
+    }
+    assert!(good > 400 && bad > 400, "{good} {bad}");
+}
+
+/// Text becomes UTF-16, and what was created is read back; a name without a long one has no characters.
+#[test]
+fn long_names_as_text() {
+    let boat = LongName::parse("\u{1F6F6} σχέδιο.cut").expect("a long name");
+    assert_eq!(boat.to_string(), "\u{1F6F6} σχέδιο.cut");
+    assert_eq!(boat.len(), 13);
+    assert_eq!("\u{1F6F6} σχέδιο.cut".parse(), Ok(boat.clone()));
+    for text in [
+        "",
+        "a*b",
+        "a\tb",
+        &"x".repeat(209),
+        &"\u{1F6F6}".repeat(105),
+    ] {
+        assert_eq!(LongName::parse(text), Err(Refusal::Longname));
+    }
+    assert!(LongName::parse(&"\u{1F6F6}".repeat(104)).is_ok());
+    let mut window = card_with_route(5);
+    let mut card = Card::new(&mut window);
+    let panel = name("PANEL.CUT");
+    assert_eq!(card.create_long(panel, &boat), Ok(3));
+    assert_eq!(card.long_name(panel), Ok(boat.characters()));
+    assert_eq!(card.long_name(name("ROUTE.CUT")), Ok(Vec::new()));
+    assert_eq!(card.long_name(name("KEEL")), Err(Refusal::Absent));
+    assert_eq!(card.create_long(name("KEEL"), &boat), Err(Refusal::Exists));
+    assert_eq!(
+        card.create_long(panel, &LongName::parse("other").unwrap()),
+        Err(Refusal::Exists)
+    );
+    let half = LongName::from_characters(&[0xD800]).expect("allowed");
+    assert_eq!(half.to_string(), "\u{FFFD}");
+}
+
+/// Names of other systems, of up to 260 characters, are read whole.
+#[test]
+fn the_longest_long_name() {
+    let card = testkit::long_names::card_with(30, 20);
+    let characters = CardView::new(&card.bytes)
+        .long_name(name("ROUTE.CUT"))
+        .expect("clean");
+    assert_eq!(characters.len(), 260);
+    assert_eq!(characters, card.characters(30));
 }

@@ -194,7 +194,8 @@ static void due(int line, uint64_t answer, uint32_t code, uint32_t count)
 int main(int argc, char **argv)
 {
     const uint8_t *route = (const uint8_t *)"ROUTE   CUT", *keel = (const uint8_t *)"KEEL       ";
-    const uint8_t *panel = (const uint8_t *)"PANEL   CUT";
+    const uint8_t *panel = (const uint8_t *)"PANEL   CUT", *hull = (const uint8_t *)"HULL7S~1CUT";
+    const uint8_t chars[] = {'H', 0, 'u', 0, 0xFF, 0xFF};
     uint8_t entries[3 * 32], bytes[2000];
     lfat_disk *disk, *other;
     memset(bytes, 'x', sizeof bytes);
@@ -267,6 +268,23 @@ int main(int argc, char **argv)
         wrong = 1;
     DUE(lfat_disk_rename(disk, route, 11, panel, 11), LFAT_EXISTS, 0);
     DUE(lfat_disk_read(disk, panel, 11, 4990, bytes, sizeof bytes), LFAT_DONE, 10);
+    /* A long name of three characters, the last of them 0xFFFF. */
+    DUE(lfat_disk_create_long(disk, keel, 11, chars, 6), LFAT_DONE, 3);
+    DUE(lfat_disk_create_long(disk, hull, 11, chars, 6), LFAT_EXISTS, 0);
+    DUE(lfat_disk_create_long(disk, hull, 11, chars, 5), LFAT_LONGNAME, 0);
+    DUE(lfat_disk_create_long(disk, hull, 11, NULL, 0), LFAT_LONGNAME, 0);
+    DUE(lfat_disk_create_long(disk, hull, 11, NULL, 2), LFAT_DISK_ARGUMENT, 0);
+    DUE(lfat_disk_create_long(disk, NULL, 11, chars, 6), LFAT_DISK_ARGUMENT, 0);
+    DUE(lfat_disk_create_long(NULL, hull, 11, chars, 6), LFAT_DISK_ARGUMENT, 0);
+    memset(bytes, 'x', sizeof bytes);
+    DUE(lfat_disk_long_name(disk, keel, 11, bytes, sizeof bytes), LFAT_DONE, 3);
+    if (memcmp(bytes, chars, 6) != 0 || bytes[6] != 'x')
+        wrong = 1;
+    DUE(lfat_disk_long_name(disk, keel, 11, NULL, 0), LFAT_DONE, 3);
+    DUE(lfat_disk_long_name(disk, keel, 11, NULL, 2), LFAT_DISK_ARGUMENT, 0);
+    DUE(lfat_disk_long_name(disk, hull, 11, bytes, 2), LFAT_ABSENT, 0);
+    DUE(lfat_disk_long_name(disk, panel, 11, bytes, 2), LFAT_DONE, 0);
+    DUE(lfat_disk_delete(disk, keel, 11), LFAT_DONE, 3);
     DUE(lfat_disk_recover(disk), LFAT_DONE, 0);
     DUE(lfat_disk_delete(disk, keel, 11), LFAT_ABSENT, 0);
     if (strstr(lfat_disk_message(), "ABSENT") == NULL || lfat_disk_errno() != 0)

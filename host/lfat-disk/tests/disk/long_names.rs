@@ -4,7 +4,7 @@ use crate::support::cards::{card_over, long_names, two_files, Verb, ALL, NEW, PA
 use crate::support::cuts::{examine, Depth, Ships};
 use crate::support::lying::Lying;
 use lfat_disk::lists::Planned;
-use lfat_disk::{Access, DiskCard, InUse, LongName, Operation};
+use lfat_disk::{Access, DiskCard, InUse, Operation, RemovedName};
 
 /// Cut after every disk operation, with every choice of what was kept back: old or new, the long entries too.
 #[test]
@@ -32,7 +32,7 @@ fn every_verb() {
 }
 
 /// Runs a verb, and gives the slots that it has marked and the long name that it tells.
-fn ended(card: &[u8], verb: &Verb) -> (Vec<usize>, Option<LongName>) {
+fn ended(card: &[u8], verb: &Verb) -> (Vec<usize>, Option<RemovedName>) {
     let mut disk = Lying::new(card);
     let mut open = DiskCard::on(&mut disk, Planned, Access::Write).expect("opened");
     let before = InUse::of(open.window());
@@ -115,7 +115,7 @@ fn the_name_that_went() {
     assert_eq!(marked, [15, 16, 17]);
     let text = card.long_name(17).expect("a long name");
     assert_eq!(text, "bcdefghijklmncdefghijklmno");
-    assert_eq!(long, Some(LongName { entries: 2, text }));
+    assert_eq!(long, Some(RemovedName { entries: 2, text }));
     // Letters of another alphabet, a lone half of a pair, and the end in mid-entry.
     let mut card = card.clone();
     for (at, character) in [
@@ -130,7 +130,7 @@ fn the_name_that_went() {
     }
     let (_, long) = ended(&card.bytes, &Verb::RenameSlot(17, NEW));
     let text = "\u{41F}\u{822A}\u{FFFD}x".to_string();
-    assert_eq!(long, Some(LongName { entries: 2, text }));
+    assert_eq!(long, Some(RemovedName { entries: 2, text }));
     // No long name, and a card that cannot be read.
     let (_, none) = ended(&two_files(), &Verb::DeleteSlot(1));
     assert_eq!(none, None);

@@ -8,6 +8,7 @@ mod files;
 mod fits;
 mod fragments;
 mod killed;
+mod long_create;
 mod long_names;
 mod partitions;
 mod prefixes;

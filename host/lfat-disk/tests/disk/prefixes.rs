@@ -1,6 +1,6 @@
 //! Pulling this machine's plug: after so many writes the image is what the library leaves with that limit, in the list's order.
 
-use crate::support::cards::{points, state, PANEL, ROUTE};
+use crate::support::cards::{characters, points, state, PANEL, ROUTE};
 use crate::support::lying::{Event, Lying};
 use crate::support::random::Random;
 use lfat_card::{Answer, NO_LIMIT};
@@ -71,7 +71,11 @@ fn random_operation<'a>(random: &mut Random, data: &'a [u8]) -> Operation<'a> {
     let length = [100, 512, 1_700, 4_000][random.below(4)];
     let data = &data[start..(start + length).min(data.len())];
     match random.below(12) {
-        0 | 1 => Operation::Create { name },
+        0 => Operation::Create { name },
+        1 => Operation::CreateLong {
+            name,
+            characters: characters(random.pick(&[1, 22, 26, 150])),
+        },
         2..=5 => Operation::Append { name, data },
         6 => Operation::Truncate {
             name,

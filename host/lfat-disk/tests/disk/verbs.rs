@@ -1,7 +1,8 @@
 //! Every verb on a disk that lies: cut after every disk operation, recovered, cut in recovery, recovered again.
 
 use crate::support::cards::{
-    full_log, odd_name, points, scattered, state, two_files, verbs, wide, Verb, NEW, PANEL, ROUTE,
+    characters, full_log, odd_name, points, scattered, state, two_files, verbs, wide, Verb, NEW,
+    PANEL, ROUTE,
 };
 use crate::support::cuts::{examine, run, Depth, Ships, Tried};
 use crate::support::lying::{Event, Lying};
@@ -69,7 +70,11 @@ fn random_histories() {
         let data = &data[..random.pick(&[1, 100, 512, 1_700])];
         let size = random.below(2_000) as u64;
         let operation = match random.below(11) {
-            0 | 1 => Operation::Create { name },
+            0 => Operation::Create { name },
+            1 => Operation::CreateLong {
+                name,
+                characters: characters(random.pick(&[1, 13, 30, 208])),
+            },
             2..=4 => Operation::Append { name, data },
             5 => Operation::Truncate { name, size },
             6 => Operation::Delete { name },
@@ -97,8 +102,7 @@ fn locked_files() {
     }
     let mut refused = 0;
     for verb in verbs() {
-        let is_new =
-            matches!(&verb, Verb::Calls(calls) if matches!(calls[0], Operation::Create { .. }));
+        let is_new = matches!(&verb, Verb::Calls(calls) if matches!(calls[0], Operation::Create { .. } | Operation::CreateLong { .. }));
         let (disk, answer) = run(&Ships, &Lying::new(&start), &verb);
         if is_new {
             assert!(answer.is_ok(), "{verb:?}: {answer:?}");
@@ -111,7 +115,7 @@ fn locked_files() {
         assert!(!disk.events.iter().any(is_written), "{verb:?}");
         refused += 1;
     }
-    assert_eq!(refused, verbs().len() - 2);
+    assert_eq!(refused, verbs().len() - 4);
 
     let mut disk = Lying::new(&start);
     let mut card = DiskCard::on(&mut disk, Planned, Access::Write).expect("opened");

@@ -14,11 +14,12 @@ pub use run::{run, Settings, Swap};
 use crate::args::{number, Args};
 use crate::failure::Failure;
 use crate::json;
+use crate::naming::{self, Known};
 use crate::output::{print, write_file};
 use crate::remedy::Remedy;
 use crate::source::Source;
-use crate::target::{name, Target, Which};
-use lfat_card::Name;
+use crate::target::{new_name, Target, Which};
+use lfat_card::{LongName, Name};
 use lfat_disk::{Access, DiskCard, Error, Operation};
 use std::ffi::{OsStr, OsString};
 
@@ -66,10 +67,20 @@ impl Asked {
             .map(|(_, word)| word)
     }
 
-    /// The names that are given, one or two.
-    fn names(&self) -> Result<(Name, Option<Name>), Failure> {
-        let new = self.second("NEW").map(|word| name(word));
-        Ok((name(&self.name)?, new.transpose()?))
+    /// The new name that is given, if any.
+    fn new_name(&self) -> Result<Option<Name>, Failure> {
+        self.second("NEW").map(|word| new_name(word)).transpose()
+    }
+
+    /// The short name that calls take, and the long one of a new file. A create or put of a name that is there is left to the
+    /// library, which refuses it.
+    fn names(&self, known: &Known) -> Result<(Name, Option<LongName>), Failure> {
+        let text = naming::text(&self.name)?;
+        match (self.verb, Name::parse(&text)) {
+            ("create" | "put", Ok(name)) => Ok((name, None)),
+            ("create" | "put", Err(_)) => naming::new_file(known, &text),
+            _ => known.find_name(&text).map(|name| (name, None)),
+        }
     }
 
     /// The file of this machine that is given, if any.
@@ -89,18 +100,23 @@ impl Asked {
     fn calls<'a>(
         &self,
         name: &'a [u8],
+        long: Option<&'a LongName>,
         new: &'a [u8],
         data: &'a [u8],
         size: u64,
     ) -> Vec<Operation<'a>> {
+        let create = long.map_or(Operation::Create { name }, |long| Operation::CreateLong {
+            name,
+            characters: long.bytes(),
+        });
         match self.verb {
-            "create" => vec![Operation::Create { name }],
+            "create" => vec![create],
             "rm" => vec![Operation::Delete { name }],
             "truncate" => vec![Operation::Truncate { name, size }],
             "mv" => vec![Operation::Rename { old: name, new }],
             "append" => vec![Operation::Append { name, data }],
             "replace" => vec![Operation::Replace { name, data }],
-            _ => vec![Operation::Create { name }, Operation::Append { name, data }],
+            _ => vec![create, Operation::Append { name, data }],
         }
     }
 }
@@ -127,13 +143,14 @@ pub fn rack(mut args: Args) -> Result<(), Failure> {
         seed: args.number("--seed", 1)?,
         swap: args.option("--break").map(swap).transpose()?,
     };
-    let (name, new) = asked.names()?;
+    let new = asked.new_name()?;
     let size = asked.size()?;
     let mut card = target.open(&args, Access::Read)?;
+    let (name, long) = asked.names(&Known::on(&target, &mut card)?)?;
     let source = asked.source(&card, &target)?;
     let data = source.as_ref().map_or(&[][..], Source::bytes);
     let new_bytes = new.as_ref().map_or(&[][..], |new| new.bytes());
-    let calls = asked.calls(name.bytes(), new_bytes, data, size);
+    let calls = asked.calls(name.bytes(), long.as_ref(), new_bytes, data, size);
     // A create makes a name, any other call is about a file.
     let explain = |card: &DiskCard, error: Error| {
         let failure = target.failure(error);

@@ -2,6 +2,7 @@
 
 use super::stage::Stage;
 use crate::json;
+use crate::naming::one_line;
 use lfat_card::printed;
 use lfat_disk::Operation;
 
@@ -37,6 +38,13 @@ impl Cut {
     }
 }
 
+/// The text of a long name, of characters as bytes, on one line.
+fn text(characters: &[u8]) -> String {
+    let (pairs, _) = characters.as_chunks();
+    let characters: Vec<u16> = pairs.iter().copied().map(u16::from_le_bytes).collect();
+    one_line(&String::from_utf16_lossy(&characters))
+}
+
 /// What the last store made was for.
 fn stage(last: Option<Stage>) -> &'static str {
     last.map_or("none", Stage::word)
@@ -46,7 +54,7 @@ pub struct Report<'a> {
     pub operation: Operation<'a>,
     /// How many stores it makes.
     pub stores: usize,
-    /// The long entries that it marks with the file's slot.
+    /// The long entries that it marks with the file's slot, or writes before it.
     pub long_entries: usize,
     /// The files' bytes were compared too.
     pub sound: bool,
@@ -60,6 +68,9 @@ impl Report<'_> {
     pub fn title(&self) -> String {
         let words = match self.operation {
             Operation::Create { name } => format!("create {}", printed(name)),
+            Operation::CreateLong { name, characters } => {
+                format!("create '{}' as {}", text(characters), printed(name))
+            }
             Operation::Append { name, data } => {
                 format!("append {} bytes to {}", data.len(), printed(name))
             }

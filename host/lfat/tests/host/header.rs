@@ -18,11 +18,11 @@ fn constants_source() -> String {
         source +=
             &format!("printf(\"%d %s\\n\", (int)LFAT_{code}, lfat_code_name(LFAT_{code}));\n");
     }
-    source += "printf(\"%s %s\\n\", lfat_code_name(17), lfat_code_name(0xFFFFFFFFu));\n\
+    source += "printf(\"%s %s\\n\", lfat_code_name(18), lfat_code_name(0xFFFFFFFFu));\n\
                printf(\"%lu %lu\\n\", (unsigned long)LFAT_CODE(UINT64_C(255) << 32 | 7), \
                (unsigned long)LFAT_COUNT(UINT64_C(255) << 32 | 7));\n\
-               printf(\"%lx %d %d %d\\n\", (unsigned long)LFAT_NO_LIMIT, LFAT_SECTOR_BYTES, \
-               LFAT_NAME_BYTES, LFAT_ENTRY_BYTES);\nreturn 0;\n}\n";
+               printf(\"%lx %d %d %d %d %d\\n\", (unsigned long)LFAT_NO_LIMIT, LFAT_SECTOR_BYTES, \
+               LFAT_NAME_BYTES, LFAT_ENTRY_BYTES, LFAT_NEW_CHARACTERS, LFAT_LONG_CHARACTERS);\nreturn 0;\n}\n";
     source
 }
 
@@ -30,7 +30,7 @@ fn constants_expected() -> String {
     let mut text: String = refusals()
         .map(|refusal| format!("{} {}\n", refusal.number(), refusal.name()))
         .collect();
-    text += "0 DONE\n254 NO\n255 STOPPED\nunknown unknown\n255 7\nffffffff 512 11 32\n";
+    text += "0 DONE\n254 NO\n255 STOPPED\nunknown unknown\n255 7\nffffffff 512 11 32 208 260\n";
     text
 }
 
@@ -83,6 +83,20 @@ fn fitting_source() -> String {
          if (scanf(\"%lu\", &data_len) != 1 || getchar() != '\\n') return 1;\n\
          if (fread(card, 1, card_len, stdin) != card_len) return 1;\nmemcpy(before, card, card_len);\n{{\n{example}\n}}\n\
          return memcmp(before, card, card_len) != 0;\n}}\n"
+    )
+}
+
+/// The example of a long name, run on a card; prints the code, the count and the characters as they were read back.
+fn naming_source() -> String {
+    let example = example("Example: a file with a long name");
+    assert!(example.contains("lfat_create_long") && example.contains("lfat_long_name"));
+    format!(
+        "#include \"lfat.h\"\n#include <stdio.h>\nstatic uint8_t card[4150 * 512];\n\
+         static const uint8_t name[] = \"PORT7   CUT\";\n\
+         int main(void) {{\nsize_t card_len = sizeof card;\n\
+         if (fread(card, 1, card_len, stdin) != card_len) return 1;\n{{\n{example}\n\
+         printf(\"%s %lu \", lfat_code_name(LFAT_CODE(answer)), (unsigned long)LFAT_COUNT(answer));\n\
+         fwrite(text, 2, LFAT_COUNT(answer), stdout);\n}}\nreturn 0;\n}}\n"
     )
 }
 
@@ -144,6 +158,11 @@ fn check(compiler: &str, standard: &str) -> Option<()> {
     let mut cut = card_with_route(1_300);
     reference::append(&mut cut, b"ROUTE   CUT", &points(1_300), 6);
     assert_eq!(replacing.printed(&cut), b"UNCLEAN ");
+
+    let naming = program("naming", naming_source())?;
+    let named = naming.printed(&card_with_route(1_300));
+    assert_eq!(named, b"DONE 6 P\0o\0r\0t\0 \x007\0");
+    assert_eq!(naming.printed(&cut), b"UNCLEAN 0 ");
 
     // ROUTE.CUT has three of 4,077 clusters.
     let fitting = program("fitting", fitting_source())?;

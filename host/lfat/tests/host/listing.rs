@@ -50,6 +50,11 @@ fn as_loglist_on_many_tables() {
             }
             record[13] = random.below(8) as u8;
         }
+        // Often record 0 is a create, with a count or without.
+        for sector in table.chunks_exact_mut(512) {
+            sector[12] = random.pick(&[0, 1, 2, 200]);
+            sector[13] = random.pick(&[1, 1, 3]);
+        }
         loglist.same(&table);
     }
 }

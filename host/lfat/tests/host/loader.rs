@@ -52,6 +52,28 @@ fn good_cards() {
     assert_eq!(empty.text(), format!("{head}path PANEL.CUT, 0 bytes\n"));
 }
 
+/// Long names in UTF-8: of our own making and of others, with a surrogate pair, half of one, and a control character.
+#[test]
+fn long_names() {
+    let loader = Loader::new("loader-long");
+    let mut card = card_with_route(1_300);
+    for (name, text) in [
+        (b"HULL7S~1CUT", "Hull 7 sheer panel.cut"),
+        (b"_       CUT", "\u{1F6F6} σχέδιο 航路.cut"),
+        (PANEL, "half"),
+    ] {
+        let characters = testkit::characters::bytes_of_text(text);
+        let done = reference::create_long(&mut card, name, &characters, ALL);
+        assert_eq!(done, reference::Answer::Done(3));
+    }
+    // The first characters of the last one, in slot 7: half of a pair, DEL.
+    card[33 * 512 + 7 * 32 + 1..][..4].copy_from_slice(&[0x3D, 0xD8, 0x7F, 0]);
+    let text = loader.run_on(&card, "PANEL.CUT").done().text();
+    let wanted = "4 entries\nROUTE.CUT 1300\nHULL7S~1.CUT 0 \"Hull 7 sheer panel.cut\"\n\
+                  _.CUT 0 \"\u{1F6F6} σχέδιο 航路.cut\"\nPANEL.CUT 0 \"??lf\"\npath PANEL.CUT, 0 bytes\n";
+    assert!(text.ends_with(wanted), "{text}");
+}
+
 /// A path marked read-only is listed and read as any other.
 #[test]
 fn read_only_path() {

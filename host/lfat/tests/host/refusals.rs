@@ -110,23 +110,37 @@ fn names_and_lengths() {
     reference::create(&mut card, b"SUB        ", ALL);
     card[33 * 512 + 32 + 11] = 0x10;
     let bad = [
-        "get card route.cut",
-        "put card PANELS.CUTS path",
-        "put --replace card route.cut path",
-        "append card A*B path",
-        "truncate card .CUT 5",
-        "rm card ROUTE.",
+        "append card slot:0 path",
+        "put card slot:0 path",
+        "rack card create slot:0",
         "mv card ROUTE.CUT panel.cut",
-        "mv card NINECHARS PANEL.CUT",
-        "rack card create a",
+        "mv card ROUTE.CUT PANELS.CUTS",
+        "mv card ROUTE.CUT A*B",
+        "rack card mv ROUTE.CUT panel.cut",
     ];
     refused("name", &card, Refusal::Name, &bad);
     let folder = folder_with("hint", &card);
     folder
         .lfat("get card route.cut")
         .failed(1, "Did you mean ROUTE.CUT?");
+    folder
+        .lfat("mv card ROUTE.CUT panel.cut")
+        .failed(1, "Did you mean PANEL.CUT?");
+    let long = [
+        "put card A*B path",
+        "put -f card a:b path",
+        "rack card create a?b",
+        "rack card put a|b path",
+    ];
+    refused("longname", &card, Refusal::Longname, &long);
 
     let absent = [
+        "get card route.cut",
+        "append card A*B path",
+        "truncate card .CUT 5",
+        "rm card ROUTE.",
+        "mv card NINECHARS PANEL.CUT",
+        "rack card rm NINECHARS",
         "get card PANEL.CUT",
         "append card PANEL.CUT path",
         "truncate card PANEL.CUT 0",
@@ -146,6 +160,9 @@ fn names_and_lengths() {
     let exists = [
         "put card ROUTE.CUT path",
         "put card SUB path",
+        "put card route.cut path",
+        "put --replace card route.cut path",
+        "rack card create sub",
         "mv card ROUTE.CUT SUB",
         "mv card ROUTE.CUT ROUTE.CUT",
     ];

@@ -158,7 +158,9 @@ fn version_and_the_end_of_options() {
         folder.lfat("--version").done().text(),
         concat!("lfat ", env!("CARGO_PKG_VERSION"), "\n")
     );
-    folder.lfat("put card -- --help path").failed(1, "NAME");
+    folder
+        .lfat("put card -- --help? path")
+        .failed(1, "LONGNAME");
     folder.lfat("put card -- -A path").done();
     folder
         .lfat("rm --partition 1 -- card -A")

@@ -1,17 +1,17 @@
-//! The worked card in C: all ten calls.
+//! The worked card in C: all twelve calls.
 
 use crate::support::c::{build, top};
 use crate::support::cli::Folder;
 use std::process::Stdio;
 
 #[test]
-fn all_ten_calls() {
+fn all_twelve_calls() {
     let folder = Folder::new("worked-card");
     let program = folder.path().join("worked");
     build("gcc", "c99", &top().join("examples/worked.c"), &program).expect("gcc is there");
     let run = folder.run(&program, "", Stdio::null()).done();
     let text = run.text();
-    assert_eq!(text.lines().count(), 47);
+    assert_eq!(text.lines().count(), 55);
     for line in [
         "    fits, no bytes: DONE 0",
         "    fits 1300, in clusters 10 to 12: DONE 12",
@@ -27,6 +27,11 @@ fn all_ten_calls() {
         "    replace by nothing again: DONE 3",
         "    replace, marked read-only: LOCKED 0",
         "    append nothing, marked read-only: LOCKED 0",
+        "    create with a long name: DONE 3",
+        "    the long name: DONE 22",
+        "    its first five characters: DONE 22",
+        "    the same once more: EXISTS 0",
+        "    a star in it: LONGNAME 0",
         "    truncate to 1401: LENGTH 0",
         "M10 rename, the ninth group: DONE 11",
         "    list, with room for two: DONE 3",

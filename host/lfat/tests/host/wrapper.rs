@@ -100,7 +100,7 @@ fn names_as_the_library_has_them() {
 
 #[test]
 fn refusals_are_errors() {
-    for number in 1..=16 {
+    for number in 1..=17 {
         let refusal = Refusal::with_number(number).expect("a ground");
         assert_eq!(refusal.number(), number);
         let error: Box<dyn std::error::Error> = Box::new(refusal);
@@ -108,7 +108,7 @@ fn refusals_are_errors() {
         assert!(text.starts_with(refusal.name()) && text.ends_with(refusal.meaning()));
     }
     assert_eq!(Refusal::with_number(0), None);
-    assert_eq!(Refusal::with_number(17), None);
+    assert_eq!(Refusal::with_number(18), None);
 }
 
 #[test]

@@ -2,7 +2,8 @@
 
 use crate::bytes::{put16, put32};
 use crate::name::Name;
-use crate::root::DELETED;
+use crate::root::{DELETED, UNUSED};
+use crate::root_change::ARCHIVE;
 use crate::store::{Sector, SECTOR_BYTES};
 
 pub const RECORD_BYTES: usize = 32;
@@ -20,7 +21,8 @@ pub const REPLACE: u8 = 6;
 pub struct Record {
     pub name: Name,
     pub attributes: u8,
-    /// The long entries that are marked with the slot, in delete and rename.
+    /// The long entries that are marked with the slot, in delete and rename, or
+    /// written with it, in create.
     pub long_entries: usize,
     pub operation: u8,
     pub slot: usize,
@@ -30,6 +32,20 @@ pub struct Record {
 }
 
 impl Record {
+    /// A new file in a slot, with so many long slots before it.
+    pub fn create(name: Name, slot: usize, long_entries: usize) -> Record {
+        Record {
+            name,
+            attributes: ARCHIVE,
+            long_entries,
+            operation: CREATE,
+            slot,
+            first_or_last: 0,
+            dir_cluster: 0,
+            size: 0,
+        }
+    }
+
     fn encode(&self) -> [u8; RECORD_BYTES] {
         let mut bytes = [0; RECORD_BYTES];
         bytes[..11].copy_from_slice(&self.name);
@@ -44,13 +60,50 @@ impl Record {
     }
 }
 
-/// A log sector with the records at its start and zeros after them.
-pub fn group(records: &[Record]) -> Sector {
-    let mut sector = [0; SECTOR_BYTES];
-    for (place, record) in sector.chunks_exact_mut(RECORD_BYTES).zip(records) {
-        place.copy_from_slice(&record.encode());
+/// The records of one operation.
+pub struct Group {
+    pub records: Vec<Record>,
+    /// A new long name, in records of its own after the others.
+    pub characters: Vec<u16>,
+}
+
+impl Group {
+    /// A group without a new long name.
+    pub fn of(records: impl Into<Vec<Record>>) -> Group {
+        Group {
+            records: records.into(),
+            characters: Vec::new(),
+        }
     }
-    sector
+
+    /// How many records there are, those of characters too.
+    pub fn count(&self) -> usize {
+        self.records.len() + character_records(self.characters.len())
+    }
+
+    /// A log sector with the group at its start and zeros after it.
+    pub fn sector(&self) -> Sector {
+        let mut sector = [0; SECTOR_BYTES];
+        let (main, rest) = sector.split_at_mut(self.records.len() * RECORD_BYTES);
+        for (place, record) in main.chunks_exact_mut(RECORD_BYTES).zip(&self.records) {
+            place.copy_from_slice(&record.encode());
+        }
+        for (index, &character) in self.characters.iter().enumerate() {
+            put16(rest, index * 2, character);
+        }
+        sector
+    }
+}
+
+/// How many records so many characters take, 16 in each.
+pub fn character_records(characters: usize) -> usize {
+    characters.div_ceil(RECORD_BYTES / 2)
+}
+
+/// Record 0 of the sector is a create with long slots, pending or committed:
+/// only that record tells what is pending, and only it is listed.
+pub fn is_led(sector: &[u8]) -> bool {
+    sector[0] != UNUSED && sector[12] > 0 && sector[13] == CREATE
 }
 
 /// The group's sector with its first `records` records marked committed.

@@ -1,11 +1,14 @@
 //! The search for a pending group, and the judging of what is found.
 
-use super::record::{CREATE, DELETE, RECORD_BYTES, RENAME, REPLACE, TRUNCATE, UPDATE};
+use super::record::{
+    character_records, is_led, CREATE, DELETE, RECORD_BYTES, RENAME, REPLACE, TRUNCATE, UPDATE,
+};
 use crate::answer::Ground;
 use crate::bytes::{get16, get32};
 use crate::long_entries;
+use crate::long_name;
 use crate::name::name_at_start;
-use crate::root::{DELETED, UNUSED};
+use crate::root::{lowest_unused, DELETED, SLOT_BYTES, UNUSED};
 use crate::root_change::RootChange;
 use crate::store::SECTOR_BYTES;
 
@@ -19,24 +22,32 @@ pub struct PendingGroup {
     pub change: RootChange,
 }
 
-/// Ground 6, RECORD. `slots` is how many slots a record may name.
-pub fn scan(table: &[u8], slots: usize) -> Result<Option<PendingGroup>, Ground> {
+/// Ground 6, RECORD, on a log table and the root directory.
+pub fn scan(table: &[u8], root: &[u8]) -> Result<Option<PendingGroup>, Ground> {
     let mut pending = table
         .chunks_exact(SECTOR_BYTES)
         .enumerate()
-        .filter(|(_, sector)| sector.chunks_exact(RECORD_BYTES).any(is_pending));
+        .filter(|(_, sector)| has_pending(sector));
     let Some((index, sector)) = pending.next() else {
         return Ok(None);
     };
     if pending.next().is_some() {
         return Err(Ground::Record);
     }
-    let (records, change) = judge(sector, slots).ok_or(Ground::Record)?;
+    let (records, change) = judge(sector, root).ok_or(Ground::Record)?;
     Ok(Some(PendingGroup {
         sector: index,
         records,
         change,
     }))
+}
+
+/// Where record 0 leads, the others do not count.
+fn has_pending(sector: &[u8]) -> bool {
+    if is_led(sector) {
+        return is_pending(sector);
+    }
+    sector.chunks_exact(RECORD_BYTES).any(is_pending)
 }
 
 fn is_pending(record: &[u8]) -> bool {
@@ -45,32 +56,65 @@ fn is_pending(record: &[u8]) -> bool {
 
 /// The group in a sector with a pending record: how many records it has and
 /// what it does to the root directory.
-fn judge(sector: &[u8], slots: usize) -> Option<(usize, RootChange)> {
+fn judge(sector: &[u8], root: &[u8]) -> Option<(usize, RootChange)> {
     let (record, rest) = sector.split_at(RECORD_BYTES);
     if !is_pending(record) || !fixed_fields_are_accepted(record) {
         return None;
     }
-    let slot = slot_below(record, slots)?;
+    let slot = slot_of(record);
     let long_entries = usize::from(record[12]);
     if long_entries > most_long_entries(record[13], slot) {
         return None;
     }
-    if record[13] == RENAME {
+    let mut named: Vec<usize> = (slot - long_entries..=slot).collect();
+    let (records, change) = if record[13] == RENAME {
         let (part, rest) = rest.split_at(RECORD_BYTES);
-        let new_slot = slot_below(part, slots)?;
-        let ended = slot - long_entries..=slot;
-        let accepted = is_pending(part) && are_alike(record, part) && !ended.contains(&new_slot);
+        let new_slot = slot_of(part);
+        let accepted = is_pending(part) && are_alike(record, part) && !named.contains(&new_slot);
+        if !accepted || !is_zero(rest) {
+            return None;
+        }
+        named.push(new_slot);
         let change = RootChange::Rename {
             old_slot: slot,
             long_entries,
             new_slot,
             new_name: name_at_start(part),
         };
-        (accepted && is_zero(rest)).then_some((2, change))
+        (2, change)
+    } else if is_led(sector) {
+        let characters = long_name_of(rest, long_entries)?;
+        let change = RootChange::CreateLong {
+            slot,
+            name: name_at_start(record),
+            characters: characters.clone(),
+        };
+        (1 + character_records(characters.len()), change)
     } else {
         let change = single_change(record, slot)?;
-        is_zero(rest).then_some((1, change))
-    }
+        is_zero(rest).then_some((1, change))?
+    };
+    are_in_reach(root, &named).then_some((records, change))
+}
+
+/// The slots are there, and none is above the lowest one beginning 0. To find
+/// that one, they count as deleted themselves.
+fn are_in_reach(root: &[u8], named: &[usize]) -> bool {
+    let slots = root.len() / SLOT_BYTES;
+    let end = lowest_unused(root, named).unwrap_or(slots);
+    named.iter().all(|&slot| slot < slots && slot <= end)
+}
+
+/// The characters that a group with so many long slots holds, if they are
+/// allowed ones, as many as fit those slots, with only zeros after them.
+fn long_name_of(bytes: &[u8], long_entries: usize) -> Option<Vec<u16>> {
+    let mut characters = long_name::characters(bytes);
+    let end = characters.iter().position(|&character| character == 0)?;
+    let accepted = characters[end..].iter().all(|&character| character == 0)
+        && characters[..end].iter().copied().all(long_name::is_allowed)
+        && long_name::entries_for(end) == long_entries;
+    characters.truncate(end);
+    accepted.then_some(characters)
 }
 
 /// Directory cluster and high word are 0, and DIR_Cluster fits 16 bits.
@@ -78,17 +122,17 @@ fn fixed_fields_are_accepted(record: &[u8]) -> bool {
     get32(record, 14) == 0 && get16(record, 20) == 0 && get32(record, 22) < 65_536
 }
 
-/// The most that the long-name count may be: delete and rename mark slots before their own, no other operation does.
+/// The most that the long-name count may be: delete and rename mark slots before their own, create writes them.
 fn most_long_entries(operation: u8, slot: usize) -> usize {
     match operation {
         DELETE | RENAME => long_entries::MOST.min(slot),
+        CREATE => long_name::MOST_ENTRIES.min(slot),
         _ => 0,
     }
 }
 
-fn slot_below(record: &[u8], slots: usize) -> Option<usize> {
-    let slot = usize::from(get16(record, 18));
-    (slot < slots).then_some(slot)
+fn slot_of(record: &[u8]) -> usize {
+    usize::from(get16(record, 18))
 }
 
 /// The records differ at most in name, operation and slot.

@@ -3,7 +3,7 @@
 use crate::answer::Ground;
 use crate::data;
 use crate::fat_draft::FatDraft;
-use crate::journal::record::UPDATE;
+use crate::journal::record::{Group, UPDATE};
 use crate::lookup::{open_to_write, File, Opened};
 use crate::root_change::RootChange;
 use crate::transaction::{Planned, Transaction};
@@ -40,7 +40,7 @@ pub fn plan<'a, 'd>(
     let transaction = Transaction {
         data: data::extents(volume, &chain, file.size as usize, data),
         fat,
-        records: vec![file.record(UPDATE, old_last.unwrap_or(0), dir_cluster, size)],
+        group: Group::of([file.record(UPDATE, old_last.unwrap_or(0), dir_cluster, size)]),
         root,
     };
     Ok(transaction.on(card))

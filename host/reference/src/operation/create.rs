@@ -3,11 +3,11 @@
 use crate::answer::Ground;
 use crate::check;
 use crate::fat_draft::FatDraft;
-use crate::journal::{record, Record};
+use crate::journal::record::{Group, Record};
 use crate::lookup::Found;
 use crate::name;
 use crate::root;
-use crate::root_change::{RootChange, ARCHIVE};
+use crate::root_change::RootChange;
 use crate::transaction::{Planned, Transaction};
 
 pub fn plan<'a>(card: &'a [u8], name: &[u8]) -> Result<Planned<'a, 'static>, Ground> {
@@ -17,20 +17,10 @@ pub fn plan<'a>(card: &'a [u8], name: &[u8]) -> Result<Planned<'a, 'static>, Gro
         return Err(Ground::Exists);
     }
     let slot = root::lowest_available(card.volume.root()).ok_or(Ground::Rootfull)?;
-    let record = Record {
-        name,
-        attributes: ARCHIVE,
-        long_entries: 0,
-        operation: record::CREATE,
-        slot,
-        first_or_last: 0,
-        dir_cluster: 0,
-        size: 0,
-    };
     let transaction = Transaction {
         data: Vec::new(),
         fat: FatDraft::new(card.volume.fat1()),
-        records: vec![record],
+        group: Group::of([Record::create(name, slot, 0)]),
         root: RootChange::Create { slot, name },
     };
     Ok(transaction.on(card))

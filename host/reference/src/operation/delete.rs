@@ -2,7 +2,7 @@
 
 use crate::answer::Ground;
 use crate::fat_draft::FatDraft;
-use crate::journal::record::DELETE;
+use crate::journal::record::{Group, DELETE};
 use crate::long_entries;
 use crate::lookup::{open_to_write, Opened};
 use crate::root_change::RootChange;
@@ -16,7 +16,7 @@ pub fn plan<'a>(card: &'a [u8], name: &[u8]) -> Result<Planned<'a, 'static>, Gro
     let transaction = Transaction {
         data: Vec::new(),
         fat,
-        records: vec![file.ending_record(DELETE, long_entries)],
+        group: Group::of([file.ending_record(DELETE, long_entries)]),
         root: RootChange::Delete {
             slot: file.slot,
             long_entries,

@@ -2,6 +2,7 @@
 
 mod append;
 mod create;
+mod create_long;
 mod delete;
 mod rename;
 mod replace;
@@ -16,12 +17,33 @@ use crate::transaction::Planned;
 /// A writing call with what it was given.
 #[derive(Clone, Copy, Debug, PartialEq, Eq)]
 pub enum Operation<'a> {
-    Create { name: &'a [u8] },
-    Append { name: &'a [u8], data: &'a [u8] },
-    Replace { name: &'a [u8], data: &'a [u8] },
-    Truncate { name: &'a [u8], size: u64 },
-    Delete { name: &'a [u8] },
-    Rename { old: &'a [u8], new: &'a [u8] },
+    Create {
+        name: &'a [u8],
+    },
+    /// The characters as bytes, two each.
+    CreateLong {
+        name: &'a [u8],
+        characters: &'a [u8],
+    },
+    Append {
+        name: &'a [u8],
+        data: &'a [u8],
+    },
+    Replace {
+        name: &'a [u8],
+        data: &'a [u8],
+    },
+    Truncate {
+        name: &'a [u8],
+        size: u64,
+    },
+    Delete {
+        name: &'a [u8],
+    },
+    Rename {
+        old: &'a [u8],
+        new: &'a [u8],
+    },
     Recover,
 }
 
@@ -32,6 +54,7 @@ fn planned<'a, 'd>(
 ) -> Option<Result<Planned<'a, 'd>, Ground>> {
     Some(match *operation {
         Operation::Create { name } => create::plan(card, name),
+        Operation::CreateLong { name, characters } => create_long::plan(card, name, characters),
         Operation::Append { name, data } => append::plan(card, name, data),
         Operation::Replace { name, data } => replace::plan(card, name, data),
         Operation::Truncate { name, size } => truncate::plan(card, name, size),
@@ -69,6 +92,11 @@ pub fn run(card: &mut [u8], operation: &Operation, limit: u32) -> Answer {
 /// Makes an empty file.
 pub fn create(card: &mut [u8], name: &[u8], limit: u32) -> Answer {
     run(card, &Operation::Create { name }, limit)
+}
+
+/// Makes an empty file with a short name and a long one, of 16-bit characters as bytes.
+pub fn create_long(card: &mut [u8], name: &[u8], characters: &[u8], limit: u32) -> Answer {
+    run(card, &Operation::CreateLong { name, characters }, limit)
 }
 
 /// Adds bytes at the end of a file.

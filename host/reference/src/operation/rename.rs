@@ -4,7 +4,7 @@
 use crate::answer::Ground;
 use crate::check;
 use crate::fat_draft::FatDraft;
-use crate::journal::{record, Record};
+use crate::journal::record::{self, Group, Record};
 use crate::long_entries;
 use crate::lookup::{File, Found};
 use crate::name::{self, Name};
@@ -26,7 +26,7 @@ pub fn plan<'a>(card: &'a [u8], old: &[u8], new: &[u8]) -> Result<Planned<'a, 's
     let transaction = Transaction {
         data: Vec::new(),
         fat: FatDraft::new(volume.fat1()),
-        records: rename_records(&file, long_entries, new_name, new_slot),
+        group: Group::of(rename_records(&file, long_entries, new_name, new_slot)),
         root: RootChange::Rename {
             old_slot: file.slot,
             long_entries,
@@ -43,7 +43,7 @@ fn rename_records(
     long_entries: usize,
     new_name: Name,
     new_slot: usize,
-) -> Vec<Record> {
+) -> [Record; 2] {
     let old = file.ending_record(record::RENAME, long_entries);
     let new = Record {
         name: new_name,
@@ -51,5 +51,5 @@ fn rename_records(
         slot: new_slot,
         ..old.clone()
     };
-    vec![old, new]
+    [old, new]
 }

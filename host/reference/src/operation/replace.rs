@@ -3,7 +3,7 @@
 use crate::answer::Ground;
 use crate::data;
 use crate::fat_draft::FatDraft;
-use crate::journal::record::REPLACE;
+use crate::journal::record::{Group, REPLACE};
 use crate::lookup::{open_to_write, Opened};
 use crate::root_change::RootChange;
 use crate::transaction::{Planned, Transaction};
@@ -29,7 +29,7 @@ pub fn plan<'a, 'd>(
     let transaction = Transaction {
         data: data::extents(volume, &new, 0, data),
         fat,
-        records: vec![file.record(REPLACE, file.first_cluster, first_cluster, size)],
+        group: Group::of([file.record(REPLACE, file.first_cluster, first_cluster, size)]),
         root: RootChange::Replace {
             slot: file.slot,
             first_cluster,

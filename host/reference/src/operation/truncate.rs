@@ -2,7 +2,7 @@
 
 use crate::answer::Ground;
 use crate::fat_draft::FatDraft;
-use crate::journal::record::TRUNCATE;
+use crate::journal::record::{Group, TRUNCATE};
 use crate::lookup::{open_to_write, Opened};
 use crate::root_change::RootChange;
 use crate::transaction::{Planned, Transaction};
@@ -25,7 +25,7 @@ pub fn plan<'a>(card: &'a [u8], name: &[u8], size: u64) -> Result<Planned<'a, 's
     let transaction = Transaction {
         data: Vec::new(),
         fat,
-        records: vec![file.record(TRUNCATE, file.first_cluster, first_freed, size)],
+        group: Group::of([file.record(TRUNCATE, file.first_cluster, first_freed, size)]),
         root: RootChange::Truncate {
             slot: file.slot,
             size,

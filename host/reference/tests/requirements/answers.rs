@@ -2,7 +2,7 @@
 
 use reference::{Answer, Ground};
 
-const WORDS: [&str; 16] = [
+const WORDS: [&str; 17] = [
     "SHORT",
     "BOOT",
     "WINDOW",
@@ -19,6 +19,7 @@ const WORDS: [&str; 16] = [
     "LENGTH",
     "NOSPACE",
     "LOCKED",
+    "LONGNAME",
 ];
 
 #[test]
@@ -39,4 +40,5 @@ fn answers_encode_as_code_and_count() {
     assert_eq!(Answer::Refused(Ground::Short).encode(), 1 << 32);
     assert_eq!(Answer::Refused(Ground::Nospace).encode(), 15 << 32);
     assert_eq!(Answer::Refused(Ground::Locked).encode(), 16 << 32);
+    assert_eq!(Answer::Refused(Ground::Longname).encode(), 17 << 32);
 }

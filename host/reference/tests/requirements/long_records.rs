@@ -1,10 +1,10 @@
 //! The long-name count of pending records: what RECORD allows, what recovery makes of it, and power cuts. Groups are written by hand.
 
 use crate::support::long::{card_with, every_cut, DELETE, RENAME};
-use crate::support::{pattern, run_done, run_storing};
+use crate::support::{is_accepted, pattern, run_done, run_storing};
 use reference::*;
 use testkit::cards::Card;
-use testkit::{ALL, OTHER, PANEL, ROUTE};
+use testkit::{OTHER, PANEL, ROUTE};
 
 const RECOVER: Operation = Operation::Recover;
 const REMOVE: u8 = 3;
@@ -39,25 +39,6 @@ fn pending_rename(old: u8, new: u8, count: u8) -> Card {
     log[45] = 0;
     log[50] = new;
     card
-}
-
-/// What recovery answers: refused as RECORD, with no byte altered, or done.
-fn is_accepted(mut card: Card) -> bool {
-    let before = card.bytes.clone();
-    let listed = list(&card.bytes, &mut []);
-    match recover(&mut card.bytes, ALL) {
-        Answer::Refused(ground) => {
-            assert_eq!(ground, Ground::Record);
-            assert_eq!(listed, Answer::Refused(Ground::Record));
-            assert!(card.bytes == before);
-            false
-        }
-        answer => {
-            assert!(matches!(answer, Answer::Done(1..)), "{answer:?}");
-            assert_eq!(listed, Answer::Refused(Ground::Unclean));
-            true
-        }
-    }
 }
 
 /// At most 20, and not above the old slot, in a delete and in both records of a rename.

@@ -114,6 +114,9 @@ impl fmt::Debug for Verb {
     fn fmt(&self, f: &mut fmt::Formatter<'_>) -> fmt::Result {
         let words = |call: &Operation| match call {
             Operation::Create { .. } => "create".to_string(),
+            Operation::CreateLong { characters, .. } => {
+                format!("create with {} characters", characters.len() / 2)
+            }
             Operation::Append { data, .. } => format!("append {} bytes", data.len()),
             Operation::Replace { data, .. } => format!("replace by {} bytes", data.len()),
             Operation::Truncate { size, .. } => format!("truncate to {size}"),
@@ -132,11 +135,27 @@ impl fmt::Debug for Verb {
     }
 }
 
+/// So many characters of a long name, as bytes.
+pub fn characters(count: usize) -> &'static [u8] {
+    let letters = (0..count).map(|at| 0x3B1 + (at % 25) as u16);
+    let bytes: Vec<u8> = letters.flat_map(u16::to_le_bytes).collect();
+    bytes.leak()
+}
+
 /// Every verb, on names of the cards above.
 pub fn verbs() -> Vec<Verb> {
     let data = |length: usize| -> &'static [u8] { points(length).leak() };
     let single = [
         Operation::Create { name: NEW },
+        Operation::CreateLong {
+            name: NEW,
+            characters: characters(22),
+        },
+        // Seventeen slots: two root sectors at least.
+        Operation::CreateLong {
+            name: NEW,
+            characters: characters(208),
+        },
         Operation::Append {
             name: ROUTE,
             data: data(100),

@@ -2,6 +2,7 @@
 
 pub mod c;
 pub mod cli;
+pub mod long;
 pub mod ram;
 
 pub use testkit::random;

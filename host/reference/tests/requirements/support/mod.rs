@@ -3,10 +3,12 @@
 pub mod history;
 pub mod locked;
 pub mod long;
+pub mod long_create;
 pub mod worked;
 
-use reference::{plan, run, Answer, Operation};
+use reference::{list, plan, recover, run, Answer, Ground, Operation};
 use testkit::call::Call;
+use testkit::cards::Card;
 use testkit::ALL;
 
 /// A call that stores.
@@ -42,4 +44,24 @@ pub fn pattern(length: usize, seed: u8) -> Vec<u8> {
 
 pub fn sector(card: &[u8], number: usize) -> &[u8] {
     &card[number * 512..][..512]
+}
+
+/// Whether recovery takes what is pending: refused as RECORD, with no byte altered, or done once and for all.
+pub fn is_accepted(mut card: Card) -> bool {
+    let before = card.bytes.clone();
+    let listed = list(&card.bytes, &mut []);
+    match recover(&mut card.bytes, ALL) {
+        Answer::Refused(ground) => {
+            assert_eq!(ground, Ground::Record);
+            assert_eq!(listed, Answer::Refused(Ground::Record));
+            assert!(card.bytes == before);
+            false
+        }
+        answer => {
+            assert!(matches!(answer, Answer::Done(1..)), "{answer:?}");
+            assert_eq!(listed, Answer::Refused(Ground::Unclean));
+            assert_eq!(recover(&mut card.bytes, ALL), Answer::Done(0));
+            true
+        }
+    }
 }
