@@ -12,10 +12,11 @@ use volume::Examined;
 ghost use mathlib.Core.Bool.{true, _&&_};
 ghost use mathlib.Core.Path.{_≡_};
 ghost use mathlib.Core.List.{[]};
-ghost use Prim.Native.Nat.{_%_, _≤_, _<_};
+ghost use Prim.Native.Nat.{_*_, _%_, _≤_, _<_};
 ghost use lib.ListN.{length};
 ghost use Rattle.model.specs.Bytes.{bytes-of, view};
 ghost use Rattle.model.specs.Record.{with-text};
+ghost use Rattle.model.specs.LongName.{most-characters};
 ghost use Rattle.model.specs.Promises.{Texted, Room};
 ghost use Rattle.model.specs.Sector.{card-of, window-of};
 ghost use Rattle.model.specs.Root.{name-ok};
@@ -42,7 +43,7 @@ fn record_change(w: &mut [u8], v: Volume, o: Operation, text: &[u8], limit: u32)
 fn create_at(w: &mut [u8], v: Volume, name: &[u8], text: &[u8], slot: u32, limit: u32) -> Outcome
     requires { ⌜ Ready v (now w) ⌝ }
     requires { ⌜
-        (slot < v .layout .entries) × (name-ok (view (now name)) ≡ true) × (length (now text) % 2 ≡ 0) × (length (now text) ≤ 416) ⌝ }
+        (slot < v .layout .entries) × (name-ok (view (now name)) ≡ true) × (length (now text) % 2 ≡ 0) × (length (now text) ≤ 2 * most-characters) ⌝ }
     ensures { λ r. ⌜
         Did limit (granted (create-stores v (card-of (now (w .entry))) slot (name-of (view (now (name .entry)))) (view (now (text .entry)))))
         (now (w .entry)) (now (w .exit)) r ⌝ }
@@ -54,7 +55,7 @@ fn create_at(w: &mut [u8], v: Volume, name: &[u8], text: &[u8], slot: u32, limit
     };
     let o = Operation::Create {
         entry,
-        count: ((text.len() / 2 + 12) / 13) as u32,
+        count: root_names::long_slots((text.len() / 2) as u32),
     };
     record_change(w, v, o, text, limit)
 }
@@ -62,7 +63,7 @@ fn create_at(w: &mut [u8], v: Volume, name: &[u8], text: &[u8], slot: u32, limit
 // Create with a text, once NAME and LONGNAME are asked.
 fn create_as(w: &mut [u8], v: Volume, name: &[u8], text: &[u8], limit: u32) -> Outcome
     requires { ⌜ Ready v (now w) ⌝ }
-    requires { ⌜ (name-ok (view (now name)) ≡ true) × (length (now text) % 2 ≡ 0) × (length (now text) ≤ 416) ⌝ }
+    requires { ⌜ (name-ok (view (now name)) ≡ true) × (length (now text) % 2 ≡ 0) × (length (now text) ≤ 2 * most-characters) ⌝ }
     ensures { λ r. ⌜
         Did limit (create-as v (card-of (now (w .entry))) (view (now (name .entry))) (view (now (text .entry)))) (now (w .entry)) (now (w .exit)) r ⌝ }
 {

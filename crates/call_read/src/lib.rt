@@ -24,8 +24,7 @@ fn copy_slot(out: &mut [u8], at: usize, w: &[u8], l: Layout, k: u32)
     requires { ⌜ Held l (now w) × (k < l .entries) × (at + 32 ≤ length (now out)) ⌝ }
     ensures { λ _. ⌜ ((i : ℕ) → getD (now (out .exit)) i 0 ≡ overlay 32 (slot-at l (card-of (now (w .entry))) k) at (bytes-of (now (out .entry))) i) ⌝ }
 {
-    let from = 512 * sector::index(root_read::root_place(l, k / 16)) + 32 * sector::index(k % 16);
-    sector::copy(out, at, w, from, 32);
+    sector::copy(out, at, w, root_read::slot_start(l, k), 32);
 }
 
 // Slot k after the n that are listed before it, if it is listed and fits; and how many are listed now.

@@ -14,7 +14,7 @@ ghost use Rattle.model.specs.Pending.{fills, characters-ok, empty-from, group-o
 
 // How many records tell an operation.
 pub fn records_of(o: Operation) -> u32
-    ensures { λ r. ⌜ (r ≡ length (operation-records o)) × (1 ≤ r) × (r ≤ 2) ⌝ }
+    ensures { λ r. ⌜ (r ≡ length (operation-records o)) × (1 ≤ r) × (r ≤ 16) ⌝ }
 {
     match o {
         Operation::Create { entry: _, count: _ } => 1,
@@ -59,47 +59,6 @@ pub fn group_records(o: Operation, n: u32) -> u32
     ensures { λ r. ⌜ (r ≡ length (operation-records o) + (n + 15) / 16) × (r ≤ 16) ⌝ }
 {
     records_of(o) + (n + 15) / 16
-}
-
-// How many long slots an operation fills.
-fn fills(o: Operation) -> u32
-    ensures { λ r. ⌜ r ≡ fills o ⌝ }
-{
-    match o {
-        Operation::Create { entry: _, count } => count,
-        Operation::Update {
-            entry: _,
-            last: _,
-            from: _,
-            size: _,
-        } => 0,
-        Operation::Delete {
-            entry: _,
-            count: _,
-            first: _,
-            size: _,
-        } => 0,
-        Operation::Truncate {
-            entry: _,
-            first: _,
-            from: _,
-            size: _,
-        } => 0,
-        Operation::Rename {
-            entry: _,
-            count: _,
-            first: _,
-            size: _,
-            to: _,
-            renamed: _,
-        } => 0,
-        Operation::Replace {
-            entry: _,
-            first: _,
-            from: _,
-            size: _,
-        } => 0,
-    }
 }
 
 // The operation that the records tell of.
@@ -162,9 +121,21 @@ pub fn operation_at(log: &[u8], s: u32) -> Operation
 // How many records of the group tell its operation.
 pub fn group_size(log: &[u8], s: u32) -> u32
     requires { ⌜ 512 * s + 512 ≤ length (now log) ⌝ }
-    ensures { λ r. ⌜ (r ≡ group-size (record-at (card-of (now (log .entry)) s))) × (1 ≤ r) × (r ≤ 2) ⌝ }
+    ensures { λ r. ⌜ (r ≡ group-size (record-at (card-of (now (log .entry)) s))) × (1 ≤ r) × (r ≤ 16) ⌝ }
 {
     records_of(operation_at(log, s))
+}
+
+// How many long slots the operation fills.
+fn fills(log: &[u8], s: u32) -> u32
+    requires { ⌜ 512 * s + 512 ≤ length (now log) ⌝ }
+    ensures { λ r. ⌜ r ≡ fills (operation-of (record-at (card-of (now (log .entry)) s))) ⌝ }
+{
+    let r = log_record::load(log, s, 0);
+    if r.number == 1 {
+        return r.count;
+    }
+    0
 }
 
 // How many characters stand in the records after record 0: none where that leads nothing.
@@ -175,8 +146,8 @@ fn text_length(log: &[u8], s: u32) -> u32
     if !log_record::leads(log, s) {
         return 0;
     }
-    let from = 512 * sector::index(s) + 32;
-    root_names::text_length(&log[from..from + 480])
+    let from = 512 * sector::index(s) + log_record::TEXT_START;
+    root_names::text_length(&log[from..from + log_record::TEXT_ROOM])
 }
 
 // Whether the characters are allowed ones, as many as the long slots of the operation need.
@@ -184,23 +155,24 @@ fn characters_ok(log: &[u8], s: u32, n: u32) -> bool
     requires { ⌜ (512 * s + 512 ≤ length (now log)) × (n ≡ text-length (text-in (card-of (now log) s))) ⌝ }
     ensures { λ r. ⌜ r ≡ characters-ok (change-of (card-of (now (log .entry)) s)) ⌝ }
 {
-    if (n + 12) / 13 != fills(operation_at(log, s)) {
+    if root_names::long_slots(n) != fills(log, s) {
         return false;
     }
-    let from = 512 * sector::index(s) + 32;
-    root_names::all_allowed(&log[from..from + 480], sector::index(n))
+    let from = 512 * sector::index(s) + log_record::TEXT_START;
+    root_names::all_allowed(&log[from..from + log_record::TEXT_ROOM], sector::index(n))
 }
 
 // The characters, with zeros after them.
-pub fn text_at(w: &[u8], s: u32) -> [u8; 480]
+pub fn text_at(w: &[u8], s: u32) -> [u8; log_record::TEXT_ROOM]
     requires { ⌜ 512 * s + 512 ≤ length (now w) ⌝ }
     ensures { λ r. ⌜ bytes-of r ≡ text-in (card-of (now (w .entry)) s) ⌝ }
 {
-    let mut t = [0u8; 480];
+    let mut t = [0u8; log_record::TEXT_ROOM];
     if !log_record::leads(w, s) {
         return t;
     }
-    sector::copy(&mut t, 0, w, 512 * sector::index(s) + 32, 480);
+    let from = 512 * sector::index(s) + log_record::TEXT_START;
+    sector::copy(&mut t, 0, w, from, log_record::TEXT_ROOM);
     t
 }
 

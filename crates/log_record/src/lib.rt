@@ -8,6 +8,10 @@ ghost use Rattle.model.specs.Scan.{all};
 ghost use Rattle.model.specs.Record.{record-at, group-size, leads, tells, pends};
 ghost use Rattle.model.specs.Pending.{slot-ok, most-counted, count-ok, record-ok, alike, apart, part-ok, records-ok};
 
+// Where the characters of a long name begin in a sector that is led, and for how many bytes of them it has room.
+pub const TEXT_START: usize = 32;
+pub const TEXT_ROOM: usize = 480;
+
 // Whether record 0 of sector s leads it: a create with a long name, whose characters stand in the records after it.
 pub fn leads(log: &[u8], s: u32) -> bool
     requires { ⌜ 512 * s + 512 ≤ length (now log) ⌝ }

@@ -3,8 +3,7 @@ use mathlib.Core.List.{List, _∷_, _++_}
 use Rattle.model.specs.Sector.{Card, Store, put, after}
 use Rattle.model.specs.Log.{log-of}
 use Rattle.model.specs.declared.Layout.{Layout}
-use Rattle.model.specs.Record.{Group}
-use Rattle.model.specs.Record.{Change}
+use Rattle.model.specs.Record.{Change, Group}
 use Rattle.model.specs.declared.Volume.{Volume}
 use Rattle.operations.specs.Program.{stores}
 use Rattle.operations.specs.Finish.{redo}

@@ -9,14 +9,14 @@ use lib.Dec.{eqb, ltb, leb}
 use lib.ListN.{length, getD}
 use borrow.Author.Tests.{eq-eqb, ne-eqb, eqb-true, lt-ltb, le-ltb, ltb-false, ltb-true, le-leb, leb-true}
 use Rattle.model.specs.Bytes.{Bytes, zeros, pick, byte-of}
-use Rattle.model.specs.Scan.{first, every, between, all-from, walk, among}
+use Rattle.model.specs.Scan.{first, every, between, all, all-from, walk, among}
 use Rattle.model.specs.Sector.{clip}
 use Rattle.model.specs.Long.{name-slots, most-long}
 use Rattle.model.specs.Log.{Log}
 use Rattle.model.specs.Record.{pends, tells, leads, committed, record-bytes, record-of, operation-records, encode, lay, records, group-size, record-at}
 use Rattle.model.specs.Record.{text-length, group-records, group-of, group-in, last-number}
 use Rattle.model.specs.Pending.{pending-in, first-pending, pending-at, accepted, slot-ok, most-counted, count-ok, record-ok, part-ok, alike}
-use Rattle.model.specs.Pending.{records-ok, empty-from, characters-ok, group-ok, alone}
+use Rattle.model.specs.Pending.{apart, records-ok, empty-from, characters-ok, group-ok, alone}
 use Rattle.model.specs.declared.Area.{Area}
 use Rattle.model.specs.declared.Entry.{Entry}
 use Rattle.model.specs.declared.Record.{Record}
@@ -28,7 +28,7 @@ use Rattle.model.proofs.Tests.{between-is}
 use Rattle.model.proofs.Scan.{first-before0, first-above0, all-same, all-of, all-at, first-is0, all-of0}
 use Rattle.model.proofs.All.{All}
 use Rattle.model.proofs.Cards.{clip-at}
-use Rattle.model.proofs.Records.{ChangeFits, Silent, Spells, zeros-length, listed, records-back, silent-encode, before-text, record-read, size-read}
+use Rattle.model.proofs.Records.{ChangeFits, zeros-length, listed, before-text, record-read, size-read}
 use Rattle.model.proofs.Records.{operation-back}
 use Rattle.model.proofs.Texts.{record-first, some-told, silent-leads, one-record, spells-leads, change-read, text-after, records-after}
 use Rattle.model.specs.declared.Pending.the-variants as Pending
@@ -246,10 +246,24 @@ part-fine n z e f number count k from size same seat off (suc zero) low less =
     also eq-eqb from from refl also eq-eqb k k refl also eq-eqb size size refl also tt) also slot-read n z (f .slot) seat also (rw off) also tt)
 part-fine n z e f number count k from size same seat off (suc (suc i)) low less = absurd (omega arith)
 
--- Of a single record RECORD asks what it asks of record 0.
-one-asked : (n z : ℕ) (rs : ℕ → Record) → group-size rs ≡ 1 → records-ok n z rs ≡ record-ok n z (rs 0)
-unfolding records-ok every all-from walk
-one-asked n z rs e = rw e (and-true (record-ok n z (rs 0)))
+-- RECORD asks the same of records that are the same as far as their group goes.
+module _ (n z m : ℕ) (rs qs : ℕ → Record) (same : (k : ℕ) → k < m → rs k ≡ qs k) where
+  same-part : (k : ℕ) → k < m → part-ok n z rs k ≡ part-ok n z qs k
+  unfolding part-ok
+  same-part k less =
+      ap (λ (r : Record). every (alike r (rs k) ∷ slot-ok n z (rs k .slot) ∷ all (apart rs (rs k .slot)) k ∷ [])) (same (k - 1) (omega arith))
+      ∙ ap (λ (r : Record). every (alike (qs (k - 1)) r ∷ slot-ok n z (r .slot) ∷ all (apart rs (r .slot)) k ∷ [])) (same k less)
+      ∙ ap (λ (t : Bool). every (alike (qs (k - 1)) (qs k) ∷ slot-ok n z (qs k .slot) ∷ t ∷ []))
+      (all-same (apart rs (qs k .slot)) (apart qs (qs k .slot)) 0 k
+      (λ i lo hi. ap (λ (r : Record). not (among (name-slots (r .slot) (r .count)) (qs k .slot))) (same i (omega arith))))
+
+  asked-same : 0 < m → group-size rs ≡ m → group-size qs ≡ m → records-ok n z rs ≡ records-ok n z qs
+  unfolding records-ok
+  asked-same some size other =
+      ap (λ (r : Record). every (record-ok n z r ∷ all-from (part-ok n z rs) 1 (group-size rs - 1) ∷ [])) (same 0 some)
+      ∙ ap (λ (k : ℕ). every (record-ok n z (qs 0) ∷ all-from (part-ok n z rs) 1 (k - 1) ∷ [])) (size ∙ sym other)
+      ∙ ap (λ (t : Bool). every (record-ok n z (qs 0) ∷ t ∷ []))
+      (all-same (part-ok n z rs) (part-ok n z qs) 1 (group-size qs - 1) (λ k lo hi. same-part k (omega (arith, other))))
 
 -- RECORD reads a sector's 512 bytes alone.
 empty-clip : (i : ℕ) (b : Bytes) → empty-from i (clip b) ≡ empty-from i b
@@ -290,15 +304,8 @@ module _ (x : Change) (h : ChangeFits x) where
 
   -- RECORD reads of the sector what it asks of the change.
   records-read : (n z : ℕ) → records-ok n z (record-at (clip (encode x))) ≡ records-ok n z (listed (records x))
-  records-read n z = ⊎-elim (λ s. ap (records-ok n z) (silent-read s)) (λ s. led-read s) (h .text)
-    where
-      silent-read : Silent x → record-at (clip (encode x)) ≡ listed (records x)
-      silent-read s = fun-ext (λ k. ap (λ (b : Bytes). record-at (clip b) k) (silent-encode x s) ∙ records-back (records x) (h .few) (h .fields) k)
-
-      led-read : Spells x → records-ok n z (record-at (clip (encode x))) ≡ records-ok n z (listed (records x))
-      led-read s = one-asked n z (record-at (clip (encode x))) (size-read x h ∙ one-record x h s)
-          ∙ ap (record-ok n z) (record-read x h 0 (some-told x h))
-          ∙ sym (one-asked n z (listed (records x)) (told-size x ∙ one-record x h s))
+  records-read n z =
+      asked-same n z (length (records x)) (record-at (clip (encode x))) (listed (records x)) (record-read x h) (some-told x h) (size-read x h) (told-size x)
 
   group-fine : (n z : ℕ) → Recorded n z x → group-ok n z (clip (encode x)) ≡ true
   unfolding group-ok empty-from

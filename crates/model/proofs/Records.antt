@@ -2,10 +2,10 @@
 use Prim.Native.Nat.{ℕ, zero, suc, _+_, _-_, _*_, _/_, _%_, _^_, _≤_, _<_}
 use native.Mathlib.Omega.{arith}
 use native.Mathlib.Nat.{div-one, mod-eq-of-lt}
-use mathlib.Core.Path.{_≡_, refl, sym, ap, _∙_, fun-ext}
+use mathlib.Core.Path.{_≡_, refl, sym, ap, _∙_}
 use mathlib.Core.Logic.{_⊎_, inl, inr, ⊎-elim}
 use mathlib.Core.List.{List, [], _∷_, map}
-use lib.ListN.{length, getD, length-map, List·getD-eq-default}
+use lib.ListN.{length, getD, List·getD-eq-default}
 use Rattle.model.specs.Bytes.{Bytes, le, overlay, byte-of, part, patch, zeros}
 use Rattle.model.specs.Sector.{clip}
 use Rattle.model.specs.Record.{record-bytes, record-in, record-of, operation-records, records, lay, encode, record-at, operation-of}
@@ -181,13 +181,6 @@ before-text x j less = rw (lt-ltb j (32 * length (records x)) less)
 pub in-text : (x : Change) (j : ℕ) → 32 * length (records x) ≤ j → encode x j ≡ x .text (j - 32 * length (records x))
 unfolding encode
 in-text x j more = rw (le-ltb j (32 * length (records x)) more)
-
--- Without a text the sector holds these records alone.
-pub silent-encode : (x : Change) → Silent x → encode x ≡ lay (map record-bytes (records x))
-silent-encode x h = fun-ext (λ j. ⊎-elim (before-text x j)
-    (λ more. in-text x j more ∙ (λ i. h .0 i (j - 32 * length (records x)))
-    ∙ sym (zero-after (map record-bytes (records x)) j (omega (arith, length-map (records x) record-bytes))))
-    (less? j (32 * length (records x))))
 
 -- So each of these records is read from it.
 pub record-read : (x : Change) → ChangeFits x → (k : ℕ) → k < length (records x) → record-at (clip (encode x)) k ≡ listed (records x) k

@@ -13,7 +13,7 @@ use Rattle.model.specs.Scan.{every}
 use Rattle.model.specs.Sector.{clip}
 use Rattle.model.specs.LongName.{character}
 use Rattle.model.specs.Record.{record-bytes, record-of, operation-records, records, lay, encode}
-use Rattle.model.specs.Record.{record-at, Change, text-length, leads, text-in, change-of}
+use Rattle.model.specs.Record.{record-at, Change, text-start, text-room, text-length, leads, text-in, change-of}
 use Rattle.model.specs.Record.{group-records}
 use Rattle.model.specs.Pending.{fills}
 use Rattle.model.specs.declared.Record.{Record}
@@ -59,8 +59,8 @@ first-of x h some = before-text x 0 (omega arith) ∙ go (records x) some
     go [] less = absurd (omega arith)
     go (r ∷ rs) less = record-first r
 
--- One or two records tell an operation.
-pub told-records : (o : Operation) → (0 < length (operation-records o)) × (length (operation-records o) ≤ 2)
+-- An operation is told by some records, no more than a sector has.
+pub told-records : (o : Operation) → (0 < length (operation-records o)) × (length (operation-records o) ≤ 16)
 unfolding operation-records
 told-records (Create e count) = (omega arith, omega arith)
 told-records (Update e last from size) = (omega arith, omega arith)
@@ -100,9 +100,10 @@ module _ (x : Change) (h : ChangeFits x) where
   text-read = fun-ext (λ i. ⊎-elim
       (λ s. rw (silent-leads s) (sym (λ t. s .0 t i)))
       (λ s. rw (spells-leads s) (⊎-elim
-      (λ less. let one = one-record s in rw (lt-ltb i 480 less) (clip-at (encode x) (32 + i) (omega arith) ∙ in-text x (32 + i) (omega arith)
-      ∙ ap (x .text) (let e : 32 + i - 32 * length (records x) ≡ i = omega arith in e)))
-      (λ more. rw (le-ltb i 480 more) (sym (s .after i (omega (arith, s .few))))) (less? i 480)))
+      (λ less. let one = one-record s in
+      rw (lt-ltb i text-room less) (clip-at (encode x) (text-start + i) (omega arith) ∙ in-text x (text-start + i) (omega arith)
+      ∙ ap (x .text) (let e : text-start + i - 32 * length (records x) ≡ i = omega arith in e)))
+      (λ more. rw (le-ltb i text-room more) (sym (s .after i (omega (arith, s .few))))) (less? i text-room)))
       (h .text))
 
   pub change-read : change-of (clip (encode x)) ≡ x
@@ -121,7 +122,7 @@ module _ (x : Change) (h : ChangeFits x) where
 
 -- ---- a text in a list of bytes
 
-module _ (xs : List ℕ) (even : length xs % 2 ≡ 0) (short : length xs ≤ 480) where
+module _ (xs : List ℕ) (even : length xs % 2 ≡ 0) (short : length xs ≤ text-room) where
   abbrev ends-at : ℕ → Bool
   ends-at q = eqb (character (bytes-of xs) q) 0
 
@@ -132,10 +133,10 @@ module _ (xs : List ℕ) (even : length xs % 2 ≡ 0) (short : length xs ≤ 480
   -- It has as many characters as stand before a zero, or before its end.
   pub length-found : (q : ℕ) → 2 * q < length xs → Sofar ends-at false 0 q → ends-at q ≡ true → text-length (bytes-of xs) ≡ q
   unfolding text-length
-  length-found q less none h = first-is0 ends-at 240 q (omega arith) (λ j low. none j (omega arith) low) h
+  length-found q less none h = first-is0 ends-at (text-room / 2) q (omega arith) (λ j low. none j (omega arith) low) h
 
   pub length-whole : (n : ℕ) → n ≡ length xs / 2 → Sofar ends-at false 0 n → text-length (bytes-of xs) ≡ n
   unfolding text-length
   length-whole n e none = ⊎-elim
-      (λ less. first-is0 ends-at 240 n less (λ j low. none j (omega arith) low) (eq-eqb (character (bytes-of xs) n) 0 (past-list n (omega arith))))
-      (λ more. none-below ends-at 240 n none more ∙ (let z : 240 ≡ n = omega arith in z)) (less? n 240)
+      (λ less. first-is0 ends-at (text-room / 2) n less (λ j low. none j (omega arith) low) (eq-eqb (character (bytes-of xs) n) 0 (past-list n (omega arith))))
+      (λ more. none-below ends-at (text-room / 2) n none more ∙ (let z : text-room / 2 ≡ n = omega arith in z)) (less? n (text-room / 2))

@@ -8,7 +8,7 @@ use lib.ListN.{length, take}
 use lib.Dec.{leb}
 use Rattle.model.specs.Bytes.{Bytes, le}
 use Rattle.model.specs.Sector.{card-of, Store, after}
-use Rattle.model.specs.Record.{operation-records}
+use Rattle.model.specs.Record.{operation-records, text-room}
 use Rattle.model.specs.declared.Layout.{Layout}
 use Rattle.model.specs.declared.Operation.{Operation}
 
@@ -58,7 +58,7 @@ pub record Ran (limit : ℕ) (ss : List Store) (entry exit : List ℕ) (made : �
 -- A text in whole characters, no more than a sector has room for after its main record; the group of an operation has room for it.
 pub record Texted (xs : List ℕ) : Type 0 where
   pub even : length xs % 2 ≡ 0
-  pub short : length xs ≤ 480
+  pub short : length xs ≤ text-room
 
 abbrev pub Room : Operation → List ℕ → Type 0
 Room o xs = 32 * length (operation-records o) + length xs ≤ 512

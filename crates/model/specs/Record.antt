@@ -120,9 +120,16 @@ plain o = with-text o zeros
 unfoldable pub records : Change → List Record
 records x = operation-records (x .operation)
 
--- How many characters a text has, "before the first zero", of the 240 for which a sector has room after its main record.
+-- "They go into records of 16 each after the main record": where the characters begin in a sector, and for how many bytes of them it has room.
+abbrev pub text-start : ℕ
+text-start = 32
+
+abbrev pub text-room : ℕ
+text-room = 480
+
+-- How many characters a text has, "before the first zero", of those for which there is room.
 unfoldable pub text-length : Bytes → ℕ
-text-length t = first (λ q. eqb (character t q) 0) 240
+text-length t = first (λ q. eqb (character t q) 0) (text-room / 2)
 
 -- Records from record 0 of a sector on; "the rest of the sector is zero". "They go into records of 16 each after the main record, the last
 -- filled with zeros": the characters stand one after the other, 32 bytes to a record.
@@ -163,7 +170,7 @@ leads b = every (not (eqb (b 0) 0) ∷ eqb (r-number b) 1 ∷ leb 1 (r-count b) 
 
 -- The characters in such a sector run from the record after the main one to its end; another has none.
 unfoldable pub text-in : Bytes → Bytes
-text-in b i = pick (leads b && ltb i 480) (b (32 + i)) 0
+text-in b i = pick (leads b && ltb i text-room) (b (text-start + i)) 0
 
 -- The change that a sector tells.
 unfoldable pub change-of : Bytes → Change

@@ -9,7 +9,7 @@ use borrow.Author.Tests.{eqb-true, eq-eqb, ne-eqb, lt-ltb, le-ltb, not-true}
 use Rattle.model.specs.Bytes.{Bytes, Span, zeros, le}
 use Rattle.model.specs.Scan.{any, between}
 use Rattle.model.specs.LongName.{character, forbidden, all-allowed, most-characters, text-ok}
-use Rattle.model.specs.Record.{Change, text-length}
+use Rattle.model.specs.Record.{Change, text-room, text-length}
 use Rattle.model.specs.Pending.{fills, characters-ok}
 use Rattle.model.proofs.Tests.{every-at, between-true, between-is, and-both, or-left, clash}
 use Rattle.model.proofs.Scan.{all-at0, all-of0, first-is0}
@@ -67,7 +67,7 @@ module _ (t : Span) (h : text-ok t ≡ true) where
   unfolding text-length
   fine-length =
       let few = text-few in
-      first-is0 (λ q. eqb (character (text-of t) q) 0) 240 (t .size / 2) (omega arith)
+      first-is0 (λ q. eqb (character (text-of t) q) 0) (text-room / 2) (t .size / 2) (omega arith)
       (λ q less. ne-eqb (character (text-of t) q) 0 (allowed-some (character (text-of t) q) (text-allowed q less)))
       (eq-eqb (character (text-of t) (t .size / 2)) 0 (ends-zero (t .size / 2) (omega arith)))
 

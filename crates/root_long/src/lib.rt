@@ -17,8 +17,7 @@ fn checksum(w: &[u8], l: Layout, k: u32) -> u8
     requires { ⌜ Held l (now w) × (k < l .entries) ⌝ }
     ensures { λ r. ⌜ r ≡ checksum (slot-at l (card-of (now (w .entry))) k) ⌝ }
 {
-    let at = 512 * sector::index(root_read::root_place(l, k / 16)) + 32 * sector::index(k % 16);
-    root_names::checksum(w, at)
+    root_names::checksum(w, root_read::slot_start(l, k))
 }
 
 // Whether slot k holds a long entry that begins with this order byte, of a name with this checksum.

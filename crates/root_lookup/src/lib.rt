@@ -7,10 +7,11 @@ use model::Lookup;
 use model::Volume;
 ghost use mathlib.Core.Path.{_≡_};
 ghost use mathlib.Core.Bool.{true};
-ghost use Prim.Native.Nat.{_≤_};
+ghost use Prim.Native.Nat.{_*_, _≤_};
 ghost use Rattle.model.specs.Bytes.{view};
 ghost use Rattle.model.specs.Sector.{card-of};
 ghost use Rattle.model.specs.Root.{name-ok, slot-holds, lookup};
+ghost use Rattle.model.specs.LongName.{most-characters};
 ghost use Rattle.model.specs.declared.Lookup.the-variants as Lookup;
 ghost use Rattle.model.specs.Promises.{Held};
 ghost use Rattle.operations.specs.Calls.{name-of, slot-of, admit, file-named, whole, file-of, taken, text-taken, new-slot};
@@ -160,7 +161,7 @@ fn free_end(w: &[u8], l: Layout, n: u32) -> Vacancy
 
 // EXISTS and ROOTFULL: the slot for a new name with a text.
 pub fn new_slot(w: &[u8], v: Volume, name: &[u8], text: &[u8]) -> Vacancy
-    requires { ⌜ Held (v .layout) (now w) × (name-ok (view (now name)) ≡ true) × (length (now text) ≤ 416) ⌝ }
+    requires { ⌜ Held (v .layout) (now w) × (name-ok (view (now name)) ≡ true) × (length (now text) ≤ 2 * most-characters) ⌝ }
     ensures { λ r. ⌜
         (vacancy-of r ≡ new-slot v (card-of (now (w .entry))) (view (now (name .entry))) (view (now (text .entry)))) × Below (v .layout .entries) r ⌝ }
 {
@@ -171,5 +172,5 @@ pub fn new_slot(w: &[u8], v: Volume, name: &[u8], text: &[u8]) -> Vacancy
         return Vacancy::Denied(Ground::Exists);
     }
     let l = v.layout;
-    free_end(w, l, ((text.len() / 2 + 12) / 13) as u32)
+    free_end(w, l, root_names::long_slots((text.len() / 2) as u32))
 }

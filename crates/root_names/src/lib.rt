@@ -10,9 +10,9 @@ ghost use Rattle.model.specs.Bytes.{bytes-of, part, view};
 ghost use Rattle.model.specs.Scan.{any, among};
 ghost use Rattle.model.specs.Sector.{card-of};
 ghost use Rattle.model.specs.Long.{name-slots, turned, checksum};
-ghost use Rattle.model.specs.Record.{text-length};
+ghost use Rattle.model.specs.Record.{text-room, text-length};
 ghost use Rattle.model.specs.Pending.{named-slots};
-ghost use Rattle.model.specs.LongName.{place, character, forbidden, all-allowed, text-ok};
+ghost use Rattle.model.specs.LongName.{place, character, forbidden, all-allowed, long-slots, text-ok};
 ghost use Rattle.model.specs.Root.{name-byte, stem-length, padded, name-ok, name-in};
 
 // The most entries that a long name has.
@@ -246,9 +246,17 @@ pub fn checksum(s: &[u8], at: usize) -> u8
     sum
 }
 
+// How many long slots n characters need.
+pub fn long_slots(n: u32) -> u32
+    requires { ⌜ n < 65536 ⌝ }
+    ensures { λ r. ⌜ r ≡ long-slots n ⌝ }
+{
+    (n + 12) / 13
+}
+
 // How many characters a text has before its first zero.
 pub fn text_length(t: &[u8]) -> u32
-    requires { ⌜ (length (now t) % 2 ≡ 0) × (length (now t) ≤ 480) ⌝ }
+    requires { ⌜ (length (now t) % 2 ≡ 0) × (length (now t) ≤ text-room) ⌝ }
     ensures { λ r. ⌜ (r ≡ text-length (bytes-of (now (t .entry)))) × (2 * r ≤ length (now (t .entry))) ⌝ }
 {
     let n = (t.len() / 2) as u32;

@@ -50,6 +50,6 @@ run-broken p m i k none near h j low less =
     ⊎-elim (λ before. none j low before) (λ from. all-not p j m k (omega arith) (omega arith) h) (less? j i)
 
 -- The bytes of slot k in a window.
-pub slot-byte : (l : Layout) (w : List ℕ) (k a j : ℕ) → a ≡ 512 * (l .root + k / 16) + 32 * (k % 16) → j < 32 → getD w (a + j) 0 ≡ slot-at l (card-of w) k j
+pub slot-byte : (l : Layout) (w : List ℕ) (k a j : ℕ) → a ≡ 512 * root-place l (k / 16) + 32 * (k % 16) → j < 32 → getD w (a + j) 0 ≡ slot-at l (card-of w) k j
 unfolding slot-at
 slot-byte l w k a j e h = ap (λ (z : ℕ). getD w z 0) (omega arith)

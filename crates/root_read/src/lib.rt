@@ -5,7 +5,7 @@ use model::Layout;
 use model::Name;
 ghost use mathlib.Core.Path.{_≡_};
 ghost use mathlib.Core.Bool.{true};
-ghost use Prim.Native.Nat.{_+_, _/_, _≤_, _<_};
+ghost use Prim.Native.Nat.{_+_, _*_, _/_, _%_, _≤_, _<_};
 ghost use lib.Dec.{eqb};
 ghost use Rattle.model.specs.Scan.{all-from};
 ghost use Rattle.model.specs.Sector.{card-of};
@@ -19,6 +19,14 @@ pub fn root_place(l: Layout, r: u32) -> u32
     ensures { λ s. ⌜ (s ≡ root-place l r) × (l .root ≤ s) × (s < l .start) ⌝ }
 {
     l.root + r
+}
+
+// Where slot k begins in the window.
+pub fn slot_start(l: Layout, k: u32) -> usize
+    requires { ⌜ Fits l × (k < l .entries) ⌝ }
+    ensures { λ r. ⌜ (r ≡ 512 * root-place l (k / 16) + 32 * (k % 16)) × (r + 32 ≤ 512 * l .total) ⌝ }
+{
+    512 * sector::index(root_place(l, k / 16)) + 32 * sector::index(k % 16)
 }
 
 // Byte j of slot k.

@@ -5,6 +5,7 @@ ghost use Prim.Native.Nat.{_+_, _-_, _*_, _%_, _≤_, _<_};
 ghost use lib.ListN.{length};
 ghost use Rattle.model.specs.Bytes.{bytes-of};
 ghost use Rattle.model.specs.Long.{order-byte};
+ghost use Rattle.model.specs.Record.{text-room};
 ghost use Rattle.model.specs.LongName.{spelled, fill, name-entry};
 ghost use Rattle.operations.specs.Finish.{name-slot};
 
@@ -51,18 +52,18 @@ fn order_byte(n: u32, i: u32) -> u32
 
 // Entry i of the long name that is a text of n characters, for a name with this checksum.
 fn name_entry(sum: u32, t: &[u8], n: u32, i: u32) -> [u8; 32]
-    requires { ⌜ (2 * n ≤ length (now t)) × (n ≤ 240) × (1 ≤ i) × (i < 65536) ⌝ }
+    requires { ⌜ (2 * n ≤ length (now t)) × (n < 65536) × (1 ≤ i) × (i < 65536) ⌝ }
     ensures { λ r. ⌜ bytes-of r ≡ name-entry sum (bytes-of (now (t .entry))) n i ⌝ }
 {
     let a = sector_build::set([0u8; 32], 13, 1, sum);
     let b = sector_build::set(a, 11, 1, 0x0F);
-    let c = sector_build::set(b, 0, 1, order_byte((n + 12) / 13, i));
+    let c = sector_build::set(b, 0, 1, order_byte(root_names::long_slots(n), i));
     fill(c, t, n, 13 * (i - 1))
 }
 
 // Slot k of a new name: its own, or one of those before it.
 pub fn name_slot(e: Entry, t: &[u8], k: u32) -> [u8; 32]
-    requires { ⌜ (length (now t) % 2 ≡ 0) × (length (now t) ≤ 480) × (k ≤ e .slot) × (e .slot < 65536) ⌝ }
+    requires { ⌜ (length (now t) % 2 ≡ 0) × (length (now t) ≤ text-room) × (k ≤ e .slot) × (e .slot < 65536) ⌝ }
     ensures { λ r. ⌜ bytes-of r ≡ name-slot e (bytes-of (now (t .entry))) k ⌝ }
 {
     let b = sector_build::new_entry(e.name);

@@ -23,9 +23,8 @@ fn load_slot(w: &[u8], l: Layout, k: u32) -> [u8; 32]
     requires { ⌜ Held l (now w) × (k < l .entries) ⌝ }
     ensures { λ r. ⌜ ((j : ℕ) → j < 32 → getD r j 0 ≡ slot-at l (card-of (now (w .entry))) k j) ⌝ }
 {
-    let a = 512 * sector::index(root_read::root_place(l, k / 16)) + 32 * sector::index(k % 16);
     let mut b = [0u8; 32];
-    sector::copy(&mut b, 0, w, a, 32);
+    sector::copy(&mut b, 0, w, root_read::slot_start(l, k), 32);
     b
 }
 

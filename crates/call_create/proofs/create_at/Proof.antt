@@ -24,19 +24,20 @@ name-of-requires c κs =
 record-change-requires : tie.Need-record-change-requires
 unfolding operation-records
 record-change-requires c κs =
-    let h = c .before .before .before .before .before .pre in
-    let a = c .before .before .before .before .before .args in
+    let h = c .before .before .before .before .before .before .pre in
+    let a = c .before .before .before .before .before .before .args in
     (h .0, (create-slots (a .v .layout .entries) _ _ (h .1 .0) (bytes-of (a .text .now)), record { even = h .1 .2; short = omega (arith, h .1 .3) },
     omega (arith, h .1 .3)))
 
 returns : tie.Need-returns
 unfolding create-stores
 returns c =
-    let a = c .before .before .before .before .before .before .before .before .args in
-    let the-name-of = c .before .before .before .before .name-of in
-    rw (the-name-of .ensures, view-text (a .text .now)) at (c .before .before .record-change .ensures)
+    let a = c .before .before .before .before .before .before .before .before .before .args in
+    let the-name-of = c .before .before .before .before .before .name-of in
+    let the-slots = c .before .before .before .before .long-slots in
+    rw (the-name-of .ensures, the-slots .ensures, view-text (a .text .now)) at (c .before .before .record-change .ensures)
 
 pub create-at-spec : {M : Type 1} → statement M
 create-at-spec =
     tie.close
-    (tie.spec name-of-requires (λ c. search needs) (λ c. search needs) record-change-requires (λ c. search needs) returns)
+    (tie.spec name-of-requires (λ c. search needs) (λ c κs. search needs) record-change-requires (λ c. search needs) returns)

@@ -4,7 +4,7 @@ use lib.ListN.{length}
 use Rattle.model.specs.Sector.{card-of}
 use Rattle.model.specs.Record.{operation-records, group-size, text-length, text-in}
 use Rattle.model.specs.Record.{with-text, records, group-records, group-in, change-of}
-use Rattle.log_group.proofs.Laws.{text-room}
+use Rattle.log_group.proofs.Laws.{text-fits}
 use borrow.Author.Needs.{needs}
 use Rattle.log_group.proofs.plan_at.Statement.{statement}
 use Rattle.log_group.proofs.plan_at.Tie as tie
@@ -13,7 +13,7 @@ group-records-requires : tie.Need-group-records-requires
 unfolding group-size
 group-records-requires c κs =
     let a = c .before .before .before .args in
-    rw (c .before .operation-at .ensures, c .text-length .ensures) (text-room (card-of (a .w .now) (a .s)))
+    rw (c .before .operation-at .ensures, c .text-length .ensures) (text-fits (card-of (a .w .now) (a .s)))
 
 returns : tie.Need-returns
 unfolding group-in change-of group-records records

@@ -3,7 +3,7 @@ use mathlib.Core.Path.{sym, ap, _∙_}
 use native.Mathlib.Omega.{arith}
 use borrow.Author.Tests.{not-true, not-false}
 use Rattle.model.specs.Sector.{card-of}
-use Rattle.model.specs.Record.{text-length}
+use Rattle.model.specs.Record.{text-start, text-room, text-length}
 use Rattle.log_group.proofs.Laws.{none-there, lent-length, lent-text}
 use borrow.Author.Needs.{needs}
 use Rattle.log_group.proofs.text_length.Statement.{statement}
@@ -17,7 +17,8 @@ returns c =
 text-length-requires : tie.Need-text-length-requires
 text-length-requires c κs =
     let a = c .before .before .before .before .before .args in
-    rw (c .before .index .ensures) (let n = lent-length (a .log .now) (a .s) (512 * a .s + 32 + 480 - (512 * a .s + 32)) (omega arith) (omega arith)
+    rw (c .before .index .ensures)
+    (let n = lent-length (a .log .now) (a .s) (512 * a .s + text-start + text-room - (512 * a .s + text-start)) (omega arith) (omega arith)
     in (omega arith, omega arith))
 
 returns-2 : tie.Need-returns-2
@@ -26,7 +27,7 @@ returns-2 c =
     let the-leads = c .before .before .before .before .leads in
     let the-if1 = c .before .before .before .if1 in
     (rw (c .before .before .index .ensures) at (c .text-length .ensures .0))
-    ∙ ap text-length (lent-text (a .log .now) (a .s) (512 * a .s + 32 + 480 - (512 * a .s + 32)) (omega arith) (omega arith)
+    ∙ ap text-length (lent-text (a .log .now) (a .s) (512 * a .s + text-start + text-room - (512 * a .s + text-start)) (omega arith) (omega arith)
     (sym (the-leads .ensures) ∙ not-false _ (the-if1 .left)))
 
 pub text-length-spec : {M : Type 1} → statement M

@@ -2,7 +2,7 @@ use mathlib.Core.Path.{sym, _∙_}
 use native.Mathlib.Omega.{arith}
 use borrow.Author.Tests.{not-true, not-false}
 use Rattle.model.specs.Sector.{card-of}
-use Rattle.log_group.proofs.Laws.{text-room}
+use Rattle.log_group.proofs.Laws.{text-fits}
 use borrow.Author.Needs.{needs}
 use Rattle.log_group.proofs.text_ok.Statement.{statement}
 use Rattle.log_group.proofs.text_ok.Tie as tie
@@ -11,18 +11,18 @@ returns : tie.Need-returns
 returns c = rw (sym (c .before .characters-ok .ensures) ∙ not-true _ (c .if1 .taken))
 
 mul-is-empty : tie.Need-mul-is-empty
-mul-is-empty c = omega (arith, text-room (card-of (c .before .before .before .before .args .log .now) (c .before .before .before .before .args .s)))
+mul-is-empty c = omega (arith, text-fits (card-of (c .before .before .before .before .args .log .now) (c .before .before .before .before .args .s)))
 
 mul-is-empty-2 : tie.Need-mul-is-empty-2
-mul-is-empty-2 c = omega (arith, text-room (card-of (c .before .before .before .before .args .log .now) (c .before .before .before .before .args .s)))
+mul-is-empty-2 c = omega (arith, text-fits (card-of (c .before .before .before .before .args .log .now) (c .before .before .before .before .args .s)))
 
 add-is-empty : tie.Need-add-is-empty
-add-is-empty c = omega (arith, text-room (card-of (c .before .before .before .before .args .log .now) (c .before .before .before .before .args .s)))
+add-is-empty c = omega (arith, text-fits (card-of (c .before .before .before .before .args .log .now) (c .before .before .before .before .args .s)))
 
 is-empty-requires : tie.Need-is-empty-requires
 is-empty-requires c κs =
     let a = c .before .before .before .before .args in
-    (search needs, omega (arith, text-room (card-of (a .log .now) (a .s))))
+    (search needs, omega (arith, text-fits (card-of (a .log .now) (a .s))))
 
 returns-2 : tie.Need-returns-2
 returns-2 c =

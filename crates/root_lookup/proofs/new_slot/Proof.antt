@@ -1,8 +1,9 @@
-use mathlib.Core.Path.{sym, _∙_}
+use mathlib.Core.Path.{sym, ap, _∙_}
 use Rattle.model.specs.Bytes.{view}
 use Rattle.model.specs.Sector.{card-of}
 use Rattle.model.specs.Ground.{_when_, _>>_}
 use Rattle.operations.specs.Calls.{new-slot}
+use Rattle.root_lookup.specs.Found.{run-answer}
 use Rattle.root_lookup.proofs.Laws.{untaken}
 use borrow.Author.Needs.{needs}
 use Rattle.root_lookup.proofs.new_slot.Statement.{statement}
@@ -25,12 +26,12 @@ returns-2 c =
 
 returns-3 : tie.Need-returns-3
 returns-3 c =
-    let text = c .before .before .before in
+    let text = c .before .before .before .before in
     let name = text .before .before in
     let a = name .before .before .before .before .args in (
-      c .free-end .ensures .0
+      c .free-end .ensures .0 ∙ ap (run-answer (a .v .layout) (card-of (a .w .now))) (c .before .long-slots .ensures)
           ∙ sym (untaken (a .v) (card-of (a .w .now)) (view (a .name .now)) (view (a .text .now))
-          (sym (name .is-taken .ensures) ∙ text .before .if1 .left) (sym (text .is-text-taken .ensures) ∙ c .before .before .if2 .left)),
+          (sym (name .is-taken .ensures) ∙ text .before .if1 .left) (sym (text .is-text-taken .ensures) ∙ c .before .before .before .if2 .left)),
       c .free-end .ensures .1,
     )
 
