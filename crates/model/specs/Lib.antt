@@ -8,6 +8,7 @@ pub mod Root
 pub mod Long
 pub mod LongName
 pub mod Log
+pub mod Calendar
 pub mod Record
 pub mod Pending
 pub mod Ground

@@ -77,6 +77,12 @@ pub enum Access {
     Write,
 }
 
+// A year or a month that a count of days has reached, and how many days of it have elapsed.
+pub struct Elapsed {
+    pub unit: u32,
+    pub days: u32,
+}
+
 // The operations that the log can hold, each with its own fields. `from` is DIR_Cluster, `count` how many entries of a long name stand
 // directly before the slot, or are to stand there.
 pub enum Operation {
