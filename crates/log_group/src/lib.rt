@@ -9,7 +9,7 @@ ghost use Rattle.model.specs.Sector.{card-of};
 ghost use mathlib.Core.Bool.{_&&_};
 ghost use Rattle.model.specs.Scan.{all};
 ghost use Rattle.model.specs.Bytes.{bytes-of};
-ghost use Rattle.model.specs.Record.{record-at, operation-records, operation-of, text-length, text-in, change-of, group-size, planned, group-in, pends};
+ghost use Rattle.model.specs.Record.{record-at, operation-records, operation-of, text-length, text-in, change-of, group-size, planned, group-in, starts};
 ghost use Rattle.model.specs.Pending.{fills, characters-ok, empty-from, group-ok};
 
 // How many records tell an operation.
@@ -176,14 +176,14 @@ pub fn text_at(w: &[u8], s: u32) -> [u8; log_record::TEXT_ROOM]
     t
 }
 
-// Whether the first m records of the sector are pending.
-fn all_pend(log: &[u8], s: u32, m: u32) -> bool
+// Whether the first m records of the sector begin as pending ones.
+fn all_start(log: &[u8], s: u32, m: u32) -> bool
     requires { ⌜ (512 * s + 512 ≤ length (now log)) × (m ≤ 16) ⌝ }
-    ensures { λ r. ⌜ r ≡ all (pends (card-of (now (log .entry)) s)) m ⌝ }
+    ensures { λ r. ⌜ r ≡ all (λ k. starts (card-of (now (log .entry)) s (32 * k))) m ⌝ }
 {
     let mut k = 0;
     while k < m {
-        if !log_record::pends(log, s, k) {
+        if !log_record::starts(log, s, k) {
             return false;
         }
         k += 1;
@@ -229,7 +229,7 @@ pub fn group_ok(log: &[u8], s: u32, entries: u32, z: u32) -> bool
     if !log_record::records_ok(log, s, m, entries, z) {
         return false;
     }
-    if !all_pend(log, s, m) {
+    if !all_start(log, s, m) {
         return false;
     }
     text_ok(log, s, m)

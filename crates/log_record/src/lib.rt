@@ -5,7 +5,7 @@ ghost use Prim.Native.Nat.{_+_, _*_, _≤_, _<_};
 ghost use lib.ListN.{length};
 ghost use Rattle.model.specs.Sector.{card-of};
 ghost use Rattle.model.specs.Scan.{all};
-ghost use Rattle.model.specs.Record.{record-at, group-size, leads, tells, pends};
+ghost use Rattle.model.specs.Record.{record-at, group-size, starts, leads, tells, pends};
 ghost use Rattle.model.specs.Pending.{slot-ok, most-counted, count-ok, record-ok, alike, apart, part-ok, records-ok};
 
 // Where the characters of a long name begin in a sector that is led, and for how many bytes of them it has room.
@@ -49,6 +49,18 @@ pub fn pends(log: &[u8], s: u32, r: u32) -> bool
         return false;
     }
     sector::byte(log, s, 32 * r) != 0xE5
+}
+
+// Whether record r of sector s begins as a pending one: neither unused nor committed.
+pub fn starts(log: &[u8], s: u32, r: u32) -> bool
+    requires { ⌜ (512 * s + 512 ≤ length (now log)) × (r < 16) ⌝ }
+    ensures { λ p. ⌜ p ≡ starts (card-of (now (log .entry)) s (32 * r)) ⌝ }
+{
+    let b = sector::byte(log, s, 32 * r);
+    if b == 0 {
+        return false;
+    }
+    b != 0xE5
 }
 
 // A slot that a record may name: below the root entries, and not above z, the lowest slot beginning 0.

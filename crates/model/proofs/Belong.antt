@@ -13,7 +13,7 @@ use Rattle.model.specs.Long.{checksum, is-long, order-byte, belong, most
 use Rattle.model.proofs.Tests.{told, less?, same?, and-left, and-right, and-both, every-at, every-not}
 use Rattle.model.proofs.Scan.{Sofar, all-of, all-at, all-not, first-is, first-none, first-ge, first-has}
 use Rattle.model.proofs.Long.{OfName}
-use Rattle.model.proofs.Pendings.{starts}
+use Rattle.model.specs.Record.{starts}
 
 -- ---- one entry
 

@@ -19,7 +19,8 @@ use Rattle.model.proofs.Numbers.{le-below}
 use Rattle.model.proofs.Records.{NameFits}
 use Rattle.model.proofs.Order.{ordered}
 use Rattle.model.proofs.Root.{free-slot-is}
-use Rattle.model.proofs.Pendings.{starts, starts-not-zero}
+use Rattle.model.specs.Record.{starts}
+use Rattle.model.proofs.Pendings.{starts-not-zero}
 
 -- ---- names
 

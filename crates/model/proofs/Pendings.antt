@@ -13,7 +13,7 @@ use Rattle.model.specs.Scan.{first, every, between, all, all-from, walk,
 use Rattle.model.specs.Sector.{clip}
 use Rattle.model.specs.Long.{name-slots, most-long}
 use Rattle.model.specs.Log.{Log}
-use Rattle.model.specs.Record.{pends, tells, leads, committed, record-bytes, record-of, operation-records, encode, lay, records, group-size, record-at}
+use Rattle.model.specs.Record.{starts, pends, tells, leads, committed, record-bytes, record-of, operation-records, encode, lay, records, group-size, record-at}
 use Rattle.model.specs.Record.{text-length, group-records, group-of, group-in, last-number}
 use Rattle.model.specs.Pending.{pending-in, first-pending, pending-at, accepted, slot-ok, most-counted, count-ok, record-ok, part-ok, alike}
 use Rattle.model.specs.Pending.{apart, records-ok, empty-from, characters-ok, group-ok, alone}
@@ -30,13 +30,10 @@ use Rattle.model.proofs.All.{All}
 use Rattle.model.proofs.Cards.{clip-at}
 use Rattle.model.proofs.Records.{ChangeFits, zeros-length, listed, before-text, record-read, size-read}
 use Rattle.model.proofs.Records.{operation-back}
-use Rattle.model.proofs.Texts.{record-first, some-told, silent-leads, one-record, spells-leads, change-read, text-after, records-after}
+use Rattle.model.proofs.Texts.{record-first, some-told, spells-leads, change-read, text-after, records-after}
 use Rattle.model.specs.declared.Pending.the-variants as Pending
 
--- A record that begins so is pending, a slot that begins so is live.
-abbrev pub starts : ℕ → Bool
-starts v = not (eqb v 0) && not (eqb v 0xE5)
-
+-- A record that begins so is pending; so is a slot live.
 pub starts-not-zero : (v : ℕ) → starts v ≡ true → v ≡ 0 → ⊥
 starts-not-zero v h e = clash h (rw e)
 
@@ -277,7 +274,7 @@ first-byte (r ∷ rs) zero less a = ap starts (record-first r) ∙ a .0
 first-byte (r ∷ rs) (suc k) less a = first-byte rs k (omega arith) (a .1)
 
 module _ (x : Change) (h : ChangeFits x) where
-  -- All records of a group that tell its operation are pending: record 0 may lead the sector, but then it is the only one.
+  -- All records of a group that tell its operation begin as pending ones, and the first is one.
   begins-at : (k : ℕ) → k < length (records x) → All Starts (records x) → starts (clip (encode x) (32 * k)) ≡ true
   unfolding lay
   begins-at k less live =
@@ -287,9 +284,8 @@ module _ (x : Change) (h : ChangeFits x) where
       ∙ (λ i. getD (map record-bytes (records x)) (row i) zeros (col i)))
       ∙ first-byte (records x) k less live
 
-  record-pends : All Starts (records x) → (k : ℕ) → k < length (records x) → pends (clip (encode x)) k ≡ true
-  record-pends live k less = begun (clip (encode x)) k (begins-at k less live)
-      (⊎-elim (λ s. inr (silent-leads x h s)) (λ s. let one = one-record x h s in inl (omega arith)) (h .text))
+  first-pends : All Starts (records x) → pends (clip (encode x)) 0 ≡ true
+  first-pends live = begun (clip (encode x)) 0 (begins-at 0 (some-told x h) live) (inl refl)
 
   -- Past these nothing is pending in its sector.
   pub rest-quiet : (r : ℕ) → length (records x) ≤ r → r < 16 → pends (clip (encode x)) r ≡ false
@@ -314,7 +310,7 @@ module _ (x : Change) (h : ChangeFits x) where
       let e : ℕ = 32 * m + 2 * text-length (x .text) in
       rw (size-read x h, change-read x h)
       (each-every _ (records-read n z ∙ w .0
-      also all-of0 (pends (clip (encode x))) m (record-pends (w .1))
+      also all-of0 (λ r. starts (clip (encode x) (32 * r))) m (λ r less. begins-at r less (w .1))
       also w .2
       also empty-clip e (encode x) ∙ all-of (λ j. eqb (encode x j) 0) e (512 - e) (λ j lo hi. eq-eqb (encode x j) 0 (text-after x h j lo))
       also tt))
@@ -340,7 +336,7 @@ module _ (entries : ℕ) (z : Bytes → ℕ) (a : Area) (g : Log) (u : ℕ) (o :
       let less : u < a .sectors = h .in-log in
       let zero : 16 * u % 16 ≡ 0 = omega arith in
       first-is0 (pending-at g) (16 * a .sectors) (16 * u) (omega arith) (λ j lt. h .others (j / 16) (omega arith) (λ e. omega arith) (j % 16) (omega arith))
-      (at-sector (16 * u) (omega arith) ∙ ap (pends (clip (encode o))) zero ∙ record-pends o fits (fine .1) 0 (some-told o fits))
+      (at-sector (16 * u) (omega arith) ∙ ap (pends (clip (encode o))) zero ∙ first-pends o fits (fine .1))
 
   alone-at : alone (a .sectors) g (16 * u) (length (records o)) ≡ true
   unfolding alone

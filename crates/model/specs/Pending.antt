@@ -10,7 +10,7 @@ use Rattle.model.specs.Root.{first-bytes, end-slot}
 use Rattle.model.specs.Long.{name-slots, most-long}
 use Rattle.model.specs.Log.{Log, log-of}
 use Rattle.model.specs.LongName.{long-slots, all-allowed}
-use Rattle.model.specs.Record.{last-number, record-at, operation-of, Change, change-of, text-length, group-size, pends}
+use Rattle.model.specs.Record.{last-number, record-at, operation-of, Change, change-of, text-length, group-size, starts, pends}
 use Rattle.model.specs.declared.Record.{Record}
 use Rattle.model.specs.declared.Operation.{Operation}
 use Rattle.model.specs.declared.Operation.the-variants.{Create, Update, Delete, Truncate, Rename, Replace}
@@ -83,13 +83,13 @@ characters-ok x = let n = text-length (x .text) in eqb (long-slots n) (fills (x 
 unfoldable pub empty-from : ℕ → Bytes → Bool
 empty-from i b = all-from (λ j. eqb (b j) 0) i (512 - i)
 
--- The records of a sector are a group as above, all "pending", and "the rest of the sector is zero": the characters "have only zeros after
+-- The records of a sector are a group as above, all of them begun as "pending" ones, and "the rest of the sector is zero": the characters "have only zeros after
 -- them".
 unfoldable pub group-ok : ℕ → ℕ → Bytes → Bool
 group-ok n z b =
     let m = group-size (record-at b) in
     every (
-    records-ok n z (record-at b) ∷ all (pends b) m
+    records-ok n z (record-at b) ∷ all (λ r. starts (b (32 * r))) m
     ∷ characters-ok (change-of b) ∷ empty-from (32 * m + 2 * text-length (change-of b .text)) b ∷ [])
 
 -- Only the m records from record i on are pending, in a log of n sectors: "one group".

@@ -195,9 +195,12 @@ group-in s b = group-of s (change-of b)
 abbrev pub planned : Plan → Bytes → Group
 planned p t = record { sector = p .sector; records = p .records; change = with-text (p .operation) t }
 
--- "First byte 0 is an unused record, 0xE5 a committed one, anything else pending." "In a sector whose record 0 does not begin 0 and is a
--- create with a count above 0, only that record tells what is pending, and only it is listed." Record r of a sector tells something; it is
--- pending.
+-- "First byte 0 is an unused record, 0xE5 a committed one, anything else pending": a record begins so.
+abbrev pub starts : ℕ → Bool
+starts v = not (eqb v 0) && not (eqb v 0xE5)
+
+-- "In a sector whose record 0 does not begin 0 and is a create with a count above 0, only that record tells what is pending, and only it is
+-- listed." Record r of a sector tells something; it is pending.
 unfoldable pub tells : Bytes → ℕ → Bool
 tells b r = not (eqb (b (32 * r)) 0) && (eqb r 0 || not (leads b))
 

@@ -27,7 +27,7 @@ use Rattle.model.proofs.Scan.{first-same, first-is0, first-before0, first-has0,
 use Rattle.model.proofs.Overlays.{overlay-below}
 use Rattle.model.proofs.Numbers.{read-back, le-over-below, le-over-above}
 use Rattle.model.proofs.Records.{NameFits}
-use Rattle.model.proofs.Pendings.{starts}
+use Rattle.model.specs.Record.{starts}
 use Rattle.model.proofs.Names.{vacant-starts}
 use Rattle.model.proofs.Volumes.{layout-of}
 use Rattle.operations.proofs.Edits.{one-in, one-out, marked-in, marked-out}
