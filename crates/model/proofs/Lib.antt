@@ -26,12 +26,14 @@ pub mod Records
 pub mod Texts
 pub mod Logs
 pub mod Lookups
+pub mod Recorded
 pub mod Pendings
 pub mod Belong
 pub mod LongEntries
 pub mod ReadBack
 pub mod LongRows
 pub mod SpellRows
+pub mod StampRows
 pub mod Grounds
 pub mod Volumes
 pub mod Copies
@@ -40,3 +42,5 @@ pub mod Turns
 pub mod Entries
 pub mod Laying
 pub mod Needed
+pub mod Calendar
+pub mod CalendarRows

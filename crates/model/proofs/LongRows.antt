@@ -8,9 +8,9 @@ use lib.ListN.{getD}
 use Rattle.model.specs.Bytes.{Bytes, pick, zeros}
 use Rattle.model.specs.Scan.{every, any, walk, first-from, indices-from, all-from, range}
 use Rattle.model.specs.Root.{Directory}
-use Rattle.model.specs.Long.{name-slots, turned, sum-of, checksum, is-long, belong, long-count}
-use Rattle.model.specs.Record.{record-of, operation-records}
-use Rattle.model.specs.Pending.{most-counted, count-ok, slot-ok, alike, part-ok}
+use Rattle.model.specs.Long.{name-slots, turned, sum-of, is-long, belong, long-count}
+use Rattle.model.specs.Record.{record-of, stamp-record, operation-records}
+use Rattle.model.specs.Pending.{most-counted, count-ok, slot-ok, alike, part-ok, pair-ok}
 use Rattle.model.specs.declared.Name.{Name}
 use Rattle.model.specs.declared.Entry.{Entry}
 use Rattle.model.specs.declared.Record.{Record}
@@ -116,19 +116,19 @@ module _ (name : Name) where
 
   new-slots : map (λ to. part-ok 64 40 (pair to 3) 1) (0 ∷ 6 ∷ 7 ∷ 8 ∷ 9 ∷ 10 ∷ 11 ∷ 40 ∷ 41 ∷ [])
       ≡ true ∷ true ∷ false ∷ false ∷ false ∷ false ∷ true ∷ true ∷ false ∷ []
-  unfolding part-ok alike slot-ok record-of name-slots every any all-from walk
+  unfolding part-ok pair-ok alike slot-ok record-of name-slots every any all-from walk
   new-slots = refl
 
   other-counts : map (λ more. part-ok 64 40 (pair 11 more) 1) (2 ∷ 3 ∷ 4 ∷ []) ≡ false ∷ true ∷ false ∷ []
-  unfolding part-ok alike slot-ok record-of name-slots every any all-from walk
+  unfolding part-ok pair-ok alike slot-ok record-of name-slots every any all-from walk
   other-counts = refl
 
-  -- A create's and a delete's record, and both of a rename, have the count; the others have none.
+  -- A create's and a delete's record, and both of a rename, have the count; the others and stamps have none.
   abbrev counts : List Record → List ℕ
   counts rs = map (λ r. r .count) rs
 
   record-counts : counts (operation-records (Delete (entry 9) 3 0 0)) ∷ counts (operation-records (Rename (entry 9) 3 0 0 1 name))
-      ∷ counts (operation-records (Create (entry 9) 2)) ∷ counts (operation-records (Replace (entry 9) 0 0 0)) ∷ []
-      ≡ (3 ∷ []) ∷ (3 ∷ 3 ∷ []) ∷ (2 ∷ []) ∷ (0 ∷ []) ∷ []
-  unfolding operation-records record-of
+      ∷ counts (operation-records (Create (entry 9) 2 0)) ∷ counts (operation-records (Replace (entry 9) 0 0 0 0)) ∷ []
+      ≡ (3 ∷ []) ∷ (3 ∷ 3 ∷ []) ∷ (2 ∷ 0 ∷ []) ∷ (0 ∷ 0 ∷ []) ∷ []
+  unfolding operation-records record-of stamp-record
   record-counts = refl

@@ -3,12 +3,12 @@ use Prim.Native.Nat.{ℕ, zero, suc, _+_, _-_, _*_, _/_, _%_, _^_, _≤_, _<_}
 use native.Mathlib.Omega.{arith}
 use native.Mathlib.Nat.{div-one, mod-eq-of-lt}
 use mathlib.Core.Path.{_≡_, refl, sym, ap, _∙_}
-use mathlib.Core.Logic.{_⊎_, inl, inr, ⊎-elim}
+use mathlib.Core.Logic.{_⊎_, inl, inr}
 use mathlib.Core.List.{List, [], _∷_, map}
 use lib.ListN.{length, getD, List·getD-eq-default}
 use Rattle.model.specs.Bytes.{Bytes, le, overlay, byte-of, part, patch, zeros}
 use Rattle.model.specs.Sector.{clip}
-use Rattle.model.specs.Record.{record-bytes, record-in, record-of, operation-records, records, lay, encode, record-at, operation-of}
+use Rattle.model.specs.Record.{record-bytes, record-in, record-of, stamp-record, operation-records, records, lay, encode, record-at, operation-of}
 use Rattle.model.specs.Record.{text-length, group-size}
 use Rattle.model.specs.Scan.{first-from, walk}
 use Rattle.model.specs.LongName.{most-characters}
@@ -19,9 +19,8 @@ use Rattle.model.specs.declared.Record.{Record}
 use Rattle.model.specs.Record.{Change}
 use Rattle.model.specs.declared.Operation.{Operation}
 use Rattle.model.specs.declared.Operation.the-variants.{Create, Update, Delete, Truncate, Rename, Replace}
-use lib.Dec.{eqb}
 use borrow.Author.Tests.{lt-ltb, le-ltb}
-use Rattle.model.proofs.Tests.{less?, by-pick}
+use Rattle.model.proofs.Tests.{less?}
 use Rattle.model.proofs.Cards.{clip-at}
 use Rattle.model.proofs.All.{All}
 use Rattle.model.proofs.Numbers.{read-back, le-local}
@@ -63,6 +62,22 @@ entry-record e number count cluster from size n m h c f s = record {
   from = f;
   cluster = c;
   size = s;
+}
+
+-- A stamp's.
+pub stamp-fits : (stamp : ℕ) → stamp < 256 ^ 4 → RecordFits (stamp-record stamp)
+unfolding stamp-record
+stamp-fits stamp small = record {
+  name = record { stem = omega arith; extension = omega arith };
+  attributes = omega arith;
+  count = omega arith;
+  number = omega arith;
+  directory = small;
+  slot = omega arith;
+  high = omega arith;
+  from = omega arith;
+  cluster = omega arith;
+  size = omega arith;
 }
 
 -- ---- one record
@@ -153,7 +168,8 @@ zero-after rs j h = ap (λ (b : Bytes). b (j % 32)) (List·getD-eq-default rs ze
 pub record Spells (x : Change) : Type 0 where
   pub entry : Entry
   pub count : ℕ
-  pub is : x .operation ≡ Create entry count
+  pub stamp : ℕ
+  pub is : x .operation ≡ Create entry count stamp
   pub some : 1 ≤ count
   pub begins : byte-of (entry .name .stem) 0 ≡ 0 → ⊥
   pub few : text-length (x .text) ≤ most-characters
@@ -201,13 +217,13 @@ abbrev Tells : Operation → (ℕ → Record) → Type 0
 Tells o rs = (k : ℕ) → k < length (operation-records o) → rs k ≡ listed (operation-records o) k
 
 pub operation-back : (o : Operation) (rs : ℕ → Record) → Tells o rs → operation-of rs ≡ o
-unfolding operation-of operation-records record-of pair
-operation-back (Create e count) rs h = λ i. operation-of (pair (h 0 (omega arith) i) (rs 1))
-operation-back (Update e last from size) rs h = λ i. operation-of (pair (h 0 (omega arith) i) (rs 1))
+unfolding operation-of operation-records record-of stamp-record pair
+operation-back (Create e count stamp) rs h = λ i. operation-of (pair (h 0 (omega arith) i) (h 1 (omega arith) i))
+operation-back (Update e last from size stamp) rs h = λ i. operation-of (pair (h 0 (omega arith) i) (h 1 (omega arith) i))
 operation-back (Delete e count first size) rs h = λ i. operation-of (pair (h 0 (omega arith) i) (rs 1))
-operation-back (Truncate e first from size) rs h = λ i. operation-of (pair (h 0 (omega arith) i) (rs 1))
+operation-back (Truncate e first from size stamp) rs h = λ i. operation-of (pair (h 0 (omega arith) i) (h 1 (omega arith) i))
 operation-back (Rename e count first size to renamed) rs h = λ i. operation-of (pair (h 0 (omega arith) i) (h 1 (omega arith) i))
-operation-back (Replace e first from size) rs h = λ i. operation-of (pair (h 0 (omega arith) i) (rs 1))
+operation-back (Replace e first from size stamp) rs h = λ i. operation-of (pair (h 0 (omega arith) i) (h 1 (omega arith) i))
 
 module _ (x : Change) (h : ChangeFits x) where
   pub operation-read : operation-of (record-at (clip (encode x))) ≡ x .operation
@@ -217,27 +233,3 @@ module _ (x : Change) (h : ChangeFits x) where
   pub size-read : group-size (record-at (clip (encode x))) ≡ length (records x)
   unfolding group-size records
   size-read = ap (λ (o : Operation). length (operation-records o)) operation-read
-
--- The slots of the operation that records tell are theirs.
-abbrev Reads : (ℕ → Record) → Operation → Type 0
-Reads rs o = (k : ℕ) → k < length (operation-records o) → listed (operation-records o) k .slot ≡ rs k .slot
-
-one-read : (rs : ℕ → Record) (r : Record) → r .slot ≡ rs 0 .slot → (k : ℕ) → k < 1 → listed (r ∷ []) k .slot ≡ rs k .slot
-one-read rs r e zero less = e
-one-read rs r e (suc k) less = absurd (omega arith)
-
-two-read : (rs : ℕ → Record) (r d : Record) → r .slot ≡ rs 0 .slot → d .slot ≡ rs 1 .slot → (k : ℕ) → k < 2
-    → listed (r ∷ d ∷ []) k .slot ≡ rs k .slot
-two-read rs r d e f zero less = e
-two-read rs r d e f (suc zero) less = f
-two-read rs r d e f (suc (suc k)) less = absurd (omega arith)
-
-pub told-slot : (rs : ℕ → Record) (k : ℕ) → k < group-size rs → listed (operation-records (operation-of rs)) k .slot ≡ rs k .slot
-unfolding group-size operation-of operation-records record-of
-told-slot rs =
-    let n = rs 0 .number in
-    by-pick (Reads rs) (eqb n 1) _ _ (λ _. one-read rs _ refl) (λ _.
-    by-pick (Reads rs) (eqb n 2) _ _ (λ _. one-read rs _ refl) (λ _.
-    by-pick (Reads rs) (eqb n 3) _ _ (λ _. one-read rs _ refl) (λ _.
-    by-pick (Reads rs) (eqb n 4) _ _ (λ _. one-read rs _ refl) (λ _.
-    by-pick (Reads rs) (eqb n 5) _ _ (λ _. two-read rs _ _ refl refl) (λ _. one-read rs _ refl)))))

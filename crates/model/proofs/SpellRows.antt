@@ -12,10 +12,11 @@ use Rattle.model.specs.Sector.{Card}
 use Rattle.model.specs.Root.{Directory, slot-at, vacant, is-label, listed, free-run, end-slot, name-in}
 use Rattle.model.specs.Long.{name-slots, turned, sum-of, is-long, belong, long-count}
 use Rattle.model.specs.LongName.{long-slots, forbidden, all-allowed, text-ok, spelled, fill, long-entry, name-entry, long-byte, long-length, has-text}
-use Rattle.model.specs.Record.{record-bytes, record-of, operation-records, records, text-length, lay, encode, operation-of, group-size, leads, text-in}
-use Rattle.model.specs.Record.{change-of, group-records, plain, with-text, record-at, tells, pends, committed}
-use Rattle.model.specs.Pending.{first-pending, slot-ok, most-counted, count-ok, record-ok, alike, part-ok, records-ok, characters-ok, empty-from}
-use Rattle.model.specs.Pending.{group-ok, alone, accepted, named-slots, end-past, pending-in}
+use Rattle.model.specs.Record.{record-bytes, record-of, stamp-record, operation-records, records}
+use Rattle.model.specs.Record.{text-length, lay, encode, operation-of, group-size, leads}
+use Rattle.model.specs.Record.{text-in, change-of, group-records, plain, with-text, record-at, tells, pends, committed}
+use Rattle.model.specs.Pending.{first-pending, slot-ok, most-counted, count-ok, record-ok, alike, is-stamp, pair-ok, part-ok, records-ok}
+use Rattle.model.specs.Pending.{characters-ok, empty-from, group-ok, alone, accepted, named-slots, end-past, pending-in}
 use Rattle.model.specs.Text.{ascii, digits, decimal, join, line}
 use Rattle.model.specs.Listing.{op-word, state-word, shown-byte, trimmed, dotted, shown-name, record-line, has-line, record-lines, is-table}
 use Rattle.model.specs.Listing.{table-text, log-text}
@@ -26,11 +27,11 @@ use Rattle.model.specs.declared.Pending.{Pending}
 use Rattle.model.specs.declared.Pending.the-variants as Pending
 
 -- All definitions that a row computes.
-unfoldable compute : Unit {0}
+unfoldable pub compute : Unit {0}
 unfolding le byte-of overlay every any between walk first-from indices-from all-from slot-at vacant is-label listed free-run end-slot
     name-slots turned sum-of is-long belong long-count forbidden all-allowed text-ok spelled fill long-entry name-entry long-length has-text
-    record-bytes record-of operation-records records text-length lay encode operation-of group-size leads text-in change-of group-records
-    tells pends committed first-pending slot-ok most-counted count-ok record-ok alike part-ok records-ok characters-ok empty-from group-ok
+    record-bytes record-of stamp-record operation-records records text-length lay encode operation-of group-size leads text-in change-of group-records
+    tells pends committed first-pending slot-ok most-counted count-ok record-ok alike is-stamp pair-ok part-ok records-ok characters-ok empty-from group-ok
     alone accepted named-slots end-past pending-in ascii digits decimal join line op-word state-word shown-byte trimmed dotted shown-name
     record-line has-line record-lines is-table table-text log-text
 compute = tt
@@ -38,7 +39,7 @@ compute = tt
 abbrev bytes : List ℕ → Bytes
 bytes bs j = getD bs j 0
 
-abbrev span : ℕ → Bytes → Span
+abbrev pub span : ℕ → Bytes → Span
 span n b = record { size = n; byte = b }
 
 -- ---- entries, written
@@ -194,36 +195,46 @@ pends-row = refl
 
 -- ---- a group
 
--- The create of A in a slot, with this count, and what stands after its record.
-abbrev group : ℕ → ℕ → Bytes → Bytes
-group count slot t j = pick (ltb j 32) (pick (eqb j 0) 65 (pick (ltb j 11) 32 (getD (32 ∷ count ∷ 1 ∷ 0 ∷ 0 ∷ 0 ∷ 0 ∷ slot ∷ []) (j - 11) 0))) (t (j - 32))
+-- The stamp of the last second of 2107, as a record.
+abbrev pub stamped : Bytes
+stamped i = pick (eqb i 0) 0x54 (pick (ltb i 14) 0 (getD (0x7D ∷ 0xBF ∷ 0x9F ∷ 0xFF ∷ []) (i - 14) 0))
+
+abbrev pub last-stamp : ℕ
+last-stamp = 0xFF9FBF7D
+
+-- The create of A in a slot, with this count, its stamp, and what stands after that.
+abbrev pub group : ℕ → ℕ → Bytes → Bytes
+group count slot t j =
+    pick (ltb j 32) (pick (eqb j 0) 65 (pick (ltb j 11) 32 (getD (32 ∷ count ∷ 1 ∷ 0 ∷ 0 ∷ 0 ∷ 0 ∷ slot ∷ []) (j - 11) 0)))
+    (pick (ltb j 64) (stamped (j - 32)) (t (j - 64)))
 
 -- n characters, each 0x6161.
-abbrev text : ℕ → Bytes
+abbrev pub text : ℕ → Bytes
 text n i = pick (ltb i (2 * n)) 97 0
 
-abbrev A : ℕ → Entry
+abbrev pub A : ℕ → Entry
 A s = record { slot = s; name = name-in (short 65 0x20); attributes = 0x20 }
 
--- The records of 17 characters in slot 2: the main record, 16 of them, the last one and zeros.
-encode-row : map (encode (with-text (Create (A 2) 2) (text 17))) (range 0 512) ≡ map (group 2 2 (text 17)) (range 0 512)
+-- The records of 17 characters in slot 2: the main record, the stamp, 16 of them, the last one and zeros.
+encode-row : map (encode (with-text (Create (A 2) 2 last-stamp) (text 17))) (range 0 512) ≡ map (group 2 2 (text 17)) (range 0 512)
 unfolding compute
 encode-row = refl
 
 -- How many records a group has: of a plain create, of a rename; of 1, 16, 17, 207 and 208 characters.
-records-row : group-records (plain (Create (A 2) 0)) ∷ group-records (plain (Rename (A 2) 0 0 0 3 (A 2 .name)))
-    ∷ map (λ n. group-records (with-text (Create (A 16) (long-slots n)) (text n))) (1 ∷ 16 ∷ 17 ∷ 207 ∷ 208 ∷ [])
-    ≡ 1 ∷ 2 ∷ 2 ∷ 2 ∷ 3 ∷ 14 ∷ 14 ∷ []
+records-row : group-records (plain (Create (A 2) 0 0)) ∷ group-records (plain (Rename (A 2) 0 0 0 3 (A 2 .name)))
+    ∷ map (λ n. group-records (with-text (Create (A 16) (long-slots n) 0) (text n))) (1 ∷ 16 ∷ 17 ∷ 207 ∷ 208 ∷ [])
+    ≡ 2 ∷ 2 ∷ 3 ∷ 3 ∷ 4 ∷ 15 ∷ 15 ∷ []
 unfolding compute
 records-row = refl
 
--- The commit mark of 17 characters: three records begin 0xE5, and no byte else changes.
-commit-row : (map (committed 3 (group 2 2 (text 17))) (0 ∷ 1 ∷ 32 ∷ 33 ∷ 64 ∷ 65 ∷ 66 ∷ 96 ∷ []) ≡ 0xE5 ∷ 32 ∷ 0xE5 ∷ 97 ∷ 0xE5 ∷ 97 ∷ 0 ∷ 0 ∷ [])
+-- The commit mark of 17 characters: four records begin 0xE5, and no byte else changes.
+commit-row : map (committed 4 (group 2 2 (text 17))) (0 ∷ 1 ∷ 32 ∷ 33 ∷ 46 ∷ 64 ∷ 65 ∷ 96 ∷ 97 ∷ 98 ∷ 128 ∷ [])
+    ≡ 0xE5 ∷ 32 ∷ 0xE5 ∷ 0 ∷ 0x7D ∷ 0xE5 ∷ 97 ∷ 0xE5 ∷ 97 ∷ 0 ∷ 0 ∷ []
 unfolding compute
 commit-row = refl
 
 -- What RECORD says of a group, among 64 slots of which slot 40 is the lowest beginning 0.
-abbrev taken : Bytes → Bool
+abbrev pub taken : Bytes → Bool
 taken b = group-ok 64 40 b
 
 -- One character, in slots 1, 40 and 41; slot 0 has none before it.
@@ -233,7 +244,7 @@ one-taken = refl
 
 -- As many characters as the count of slots needs: none, 13, 14; 13, 14, 26, 27; 195, 196, 208, 209; a count of 17.
 many-taken : map (λ n. taken (group 1 30 (text n))) (0 ∷ 13 ∷ 14 ∷ []) ++ map (λ n. taken (group 2 30 (text n))) (13 ∷ 14 ∷ 26 ∷ 27 ∷ [])
-    ++ map (λ n. taken (group 16 30 (text n))) (195 ∷ 196 ∷ 208 ∷ 209 ∷ 240 ∷ []) ++ map (λ n. taken (group 17 30 (text n))) (208 ∷ 209 ∷ [])
+    ++ map (λ n. taken (group 16 30 (text n))) (195 ∷ 196 ∷ 208 ∷ 209 ∷ 224 ∷ []) ++ map (λ n. taken (group 17 30 (text n))) (208 ∷ 209 ∷ [])
     ≡ false ∷ true ∷ false ∷ false ∷ true ∷ true ∷ false ∷ false ∷ true ∷ true ∷ false ∷ false ∷ false ∷ false ∷ []
 unfolding compute
 many-taken = refl
@@ -247,12 +258,12 @@ high-taken = refl
 abbrev after-one : List ℕ → Bool
 after-one bs = taken (group 1 1 (bytes (97 ∷ 0 ∷ bs)))
 
-after-taken : map after-one ((47 ∷ 0 ∷ []) ∷ (31 ∷ 0 ∷ []) ∷ (32 ∷ 0 ∷ []) ∷ (0 ∷ 0 ∷ 98 ∷ []) ∷ (0 ∷ 0 ∷ 0 ∷ 1 ∷ []) ∷ (replicate 477 0 ++ (1 ∷ []))
+after-taken : map after-one ((47 ∷ 0 ∷ []) ∷ (31 ∷ 0 ∷ []) ∷ (32 ∷ 0 ∷ []) ∷ (0 ∷ 0 ∷ 98 ∷ []) ∷ (0 ∷ 0 ∷ 0 ∷ 1 ∷ []) ∷ (replicate 445 0 ++ (1 ∷ []))
     ∷ (0 ∷ 1 ∷ []) ∷ []) ≡ false ∷ false ∷ true ∷ false ∷ false ∷ false ∷ true ∷ []
 unfolding compute
 after-taken = refl
 
--- A plain create: nothing after its record, a byte that begins record 1, and one that does not.
+-- A plain create: nothing after its stamp, a byte that begins record 2, and one that does not.
 plain-taken : map (λ bs. taken (group 0 1 (bytes bs))) ([] ∷ (97 ∷ []) ∷ (0 ∷ 97 ∷ []) ∷ []) ≡ true ∷ false ∷ false ∷ []
 unfolding compute
 plain-taken = refl
@@ -274,8 +285,9 @@ pair-taken = refl
 abbrev five : Bytes
 five k = pick (ltb k 5) 65 0
 
-ends-row : map (λ o. end-past o 16 five) (Rename (A 5) 0 0 0 6 (A 6 .name) ∷ Rename (A 4) 0 0 0 6 (A 6 .name) ∷ Create (A 6) 1 ∷ Create (A 7) 1
-    ∷ Create (A 7) 2 ∷ Delete (A 7) 2 0 0 ∷ Create (A 5) 0 ∷ Update (A 5) 0 0 0 ∷ Truncate (A 5) 0 0 0 ∷ Replace (A 5) 0 0 0 ∷ Update (A 4) 0 0 0 ∷ [])
+ends-row : map (λ o. end-past o 16 five) (Rename (A 5) 0 0 0 6 (A 6 .name) ∷ Rename (A 4) 0 0 0 6 (A 6 .name) ∷ Create (A 6) 1 0 ∷ Create (A 7) 1 0
+    ∷ Create (A 7) 2 0 ∷ Delete (A 7) 2 0 0 ∷ Create (A 5) 0 0 ∷ Update (A 5) 0 0 0 0 ∷ Truncate (A 5) 0 0 0 0 ∷ Replace (A 5) 0 0 0 0
+    ∷ Update (A 4) 0 0 0 0 ∷ [])
     ≡ 7 ∷ 5 ∷ 7 ∷ 5 ∷ 8 ∷ 8 ∷ 6 ∷ 6 ∷ 6 ∷ 6 ∷ 5 ∷ []
 unfolding compute
 ends-row = refl
@@ -302,8 +314,8 @@ beside-row = refl
 
 -- One line, pending and committed, whatever the characters' records begin with. After a record 0 that begins 0 all others are listed.
 listing-row : (log-text (span 512 (group 2 2 (text 17))) ≡ ascii "log 1 sectors\n0 0 create pending A slot 2 first 0 from 0 size 0\n")
-    × (log-text (span 512 (committed 3 (group 2 2 (text 17)))) ≡ ascii "log 1 sectors\n0 0 create committed ? slot 2 first 0 from 0 size 0\n")
+    × (log-text (span 512 (committed 4 (group 2 2 (text 17)))) ≡ ascii "log 1 sectors\n0 0 create committed ? slot 2 first 0 from 0 size 0\n")
     × (log-text (span 512 (patch 1 0 0 (group 2 2 (bytes (97 ∷ 98 ∷ [])))))
-    ≡ ascii "log 1 sectors\n0 1 part pending ab??????.??? slot 0 first 0 from 0 size 0\n")
+    ≡ ascii "log 1 sectors\n0 1 part pending T???????.??? slot 0 first 0 from 0 size 0\n0 2 part pending ab??????.??? slot 0 first 0 from 0 size 0\n")
 unfolding compute
 listing-row = (refl, refl, refl)

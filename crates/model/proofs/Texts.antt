@@ -1,5 +1,5 @@
 -- Laws of the characters in a group's sector: whether its record 0 leads it, and the text that is read from it.
-use Prim.Native.Nat.{ℕ, zero, _+_, _-_, _*_, _/_, _%_, _≤_, _<_}
+use Prim.Native.Nat.{ℕ, _+_, _-_, _*_, _/_, _%_, _≤_, _<_}
 use native.Mathlib.Omega.{arith}
 use mathlib.Core.Path.{_≡_, refl, sym, ap, _∙_, fun-ext}
 use mathlib.Core.Logic.{_⊎_, ⊎-elim}
@@ -33,18 +33,18 @@ leads-by b r e = λ i. every (not (eqb (b 0) 0) ∷ eqb (e i .number) 1 ∷ leb 
 leads-none : (o : Operation) (t : Bool) → fills o ≡ 0
     → every (t ∷ eqb (listed (operation-records o) 0 .number) 1 ∷ leb 1 (listed (operation-records o) 0 .count) ∷ []) ≡ false
 unfolding operation-records record-of every
-leads-none (Create e count) true h = rw h
-leads-none (Create e count) false h = refl
-leads-none (Update e last from size) true h = refl
-leads-none (Update e last from size) false h = refl
+leads-none (Create e count stamp) true h = rw h
+leads-none (Create e count stamp) false h = refl
+leads-none (Update e last from size stamp) true h = refl
+leads-none (Update e last from size stamp) false h = refl
 leads-none (Delete e count first size) true h = refl
 leads-none (Delete e count first size) false h = refl
-leads-none (Truncate e first from size) true h = refl
-leads-none (Truncate e first from size) false h = refl
+leads-none (Truncate e first from size stamp) true h = refl
+leads-none (Truncate e first from size stamp) false h = refl
 leads-none (Rename e count first size to renamed) true h = refl
 leads-none (Rename e count first size to renamed) false h = refl
-leads-none (Replace e first from size) true h = refl
-leads-none (Replace e first from size) false h = refl
+leads-none (Replace e first from size stamp) true h = refl
+leads-none (Replace e first from size stamp) false h = refl
 
 pub record-first : (r : Record) → record-bytes r 0 ≡ byte-of (r .name .stem) 0
 unfolding record-bytes overlay
@@ -62,12 +62,12 @@ first-of x h some = before-text x 0 (omega arith) ∙ go (records x) some
 -- An operation is told by some records, no more than a sector has.
 pub told-records : (o : Operation) → (0 < length (operation-records o)) × (length (operation-records o) ≤ 16)
 unfolding operation-records
-told-records (Create e count) = (omega arith, omega arith)
-told-records (Update e last from size) = (omega arith, omega arith)
+told-records (Create e count stamp) = (omega arith, omega arith)
+told-records (Update e last from size stamp) = (omega arith, omega arith)
 told-records (Delete e count first size) = (omega arith, omega arith)
-told-records (Truncate e first from size) = (omega arith, omega arith)
+told-records (Truncate e first from size stamp) = (omega arith, omega arith)
 told-records (Rename e count first size to renamed) = (omega arith, omega arith)
-told-records (Replace e first from size) = (omega arith, omega arith)
+told-records (Replace e first from size stamp) = (omega arith, omega arith)
 
 module _ (x : Change) (h : ChangeFits x) where
   -- There is a record.
@@ -81,17 +81,17 @@ module _ (x : Change) (h : ChangeFits x) where
   silent-leads s = leads-by (clip (encode x)) (listed (records x) 0) (record-read x h 0 some-told) ∙ leads-none (x .operation) _ (s .1)
 
   -- that of one that does leads its sector.
-  pub one-record : Spells x → length (records x) ≡ 1
+  text-begins : Spells x → 32 * length (records x) ≡ text-start
   unfolding records operation-records
-  one-record s = ap (λ (o : Operation). length (operation-records o)) (s .is)
+  text-begins s = ap (λ (o : Operation). 32 * length (operation-records o)) (s .is)
 
   pub spells-leads : Spells x → leads (clip (encode x)) ≡ true
   unfolding records operation-records record-of every
   spells-leads s =
-      let r : Record = listed (operation-records (Create (s .entry) (s .count))) 0 in
+      let r : Record = listed (operation-records (Create (s .entry) (s .count) (s .stamp))) 0 in
       let same : listed (records x) 0 ≡ r = ap (λ (o : Operation). listed (operation-records o) 0) (s .is) in
       let live : eqb (clip (encode x) 0) 0 ≡ false =
-          ne-eqb _ 0 (λ e. s .begins (sym (first-of x h some-told ∙ ap (λ (r : Record). byte-of (r .name .stem) 0) same) ∙ e)) in
+      ne-eqb _ 0 (λ e. s .begins (sym (first-of x h some-told ∙ ap (λ (r : Record). byte-of (r .name .stem) 0) same) ∙ e)) in
       leads-by (clip (encode x)) r (record-read x h 0 some-told ∙ same) ∙ rw (live, le-leb 1 (s .count) (s .some))
 
   -- The text is read back.
@@ -100,7 +100,7 @@ module _ (x : Change) (h : ChangeFits x) where
   text-read = fun-ext (λ i. ⊎-elim
       (λ s. rw (silent-leads s) (sym (λ t. s .0 t i)))
       (λ s. rw (spells-leads s) (⊎-elim
-      (λ less. let one = one-record s in
+      (λ less. let start = text-begins s in
       rw (lt-ltb i text-room less) (clip-at (encode x) (text-start + i) (omega arith) ∙ in-text x (text-start + i) (omega arith)
       ∙ ap (x .text) (let e : text-start + i - 32 * length (records x) ≡ i = omega arith in e)))
       (λ more. rw (le-ltb i text-room more) (sym (s .after i (omega (arith, s .few))))) (less? i text-room)))

@@ -4,7 +4,8 @@ use native.Mathlib.Nat.{mul-le-mul-right}
 use native.Mathlib.Omega.{arith}
 use mathlib.Core.Path.{_≡_, refl, sym, ap, _∙_}
 use mathlib.Core.Bool.{true, false, not}
-use borrow.Author.Tests.{not-false, leb-true}
+use lib.Dec.{ltb}
+use borrow.Author.Tests.{not-false, leb-true, lt-ltb, le-ltb, ltb-false}
 use Rattle.model.specs.Sector.{Card, Window}
 use Rattle.model.specs.Boot.{layout}
 use Rattle.model.specs.Fat.{Fat, fat1-of, fats-agree}
@@ -12,8 +13,9 @@ use Rattle.model.specs.Chain.{cluster-sector}
 use Rattle.model.specs.Root.{root-ok, first-bytes}
 use Rattle.model.specs.Log.{area, run, run-ok, marked}
 use Rattle.model.specs.Pending.{pending, is-broken, is-held}
-use Rattle.model.specs.Ground.{granted}
-use Rattle.model.specs.Volume.{mount, locate, examine, inspect, settled, clean}
+use Rattle.model.specs.Calendar.{last-second}
+use Rattle.model.specs.Ground.{refused, granted}
+use Rattle.model.specs.Volume.{mount, locate, examine, inspect, settled, clean, clean-at}
 use Rattle.model.specs.Promises.{Shape}
 use Rattle.model.specs.declared.Area.{Area}
 use Rattle.model.specs.declared.Ground.{Ground}
@@ -24,7 +26,7 @@ use Rattle.model.specs.declared.Volume.{Volume}
 use Rattle.model.proofs.Tests.{clash, every-at}
 use Rattle.model.proofs.Scan.{first-ge, first-count, first-same, count-same, all-same}
 use Rattle.model.proofs.Boot.{shape}
-use Rattle.model.proofs.Grounds.{asked, then, passed, bound}
+use Rattle.model.proofs.Grounds.{asked, then, ends, passed, barred, bound}
 use Rattle.model.specs.declared.Pending.the-variants as Pending
 use Rattle.model.specs.declared.Ground.the-variants as Ground
 
@@ -242,3 +244,28 @@ module _ (size : ℕ) (c x : Card) (h : Alike c x) where
   clean-same f root calm agree =
       then (examine (window size x)) _ (volume-of c Pending.Nothing) (examine-same f Pending.Nothing root calm refl)
       ∙ passed Ground.Unclean _ _ refl ∙ passed Ground.Unclean _ _ (ap not agree)
+
+-- ---- CLOCK
+
+-- Grounds 1 to 7 and CLOCK: refused by the card, or for the seconds, or neither.
+module _ (w : Window) (s : ℕ) where
+  pub at-refused : (g : Ground) → clean w ≡ refused g → clean-at w s ≡ refused g
+  unfolding clean-at
+  at-refused g e = ends (clean w) _ g e
+
+  pub at-late : (v : Volume) → clean w ≡ granted v → last-second < s → clean-at w s ≡ refused Ground.Clock
+  unfolding clean-at
+  at-late v e late = then (clean w) _ v e ∙ barred Ground.Clock (ltb last-second s) (granted v) (lt-ltb last-second s late)
+
+  pub at-granted : (v : Volume) → clean w ≡ granted v → s ≤ last-second → clean-at w s ≡ granted v
+  unfolding clean-at
+  at-granted v e timely = then (clean w) _ v e ∙ passed Ground.Clock (ltb last-second s) (granted v) (le-ltb last-second s timely)
+
+  pub timely : (v : Volume) → clean-at w s ≡ granted v → (clean w ≡ granted v) × (s ≤ last-second)
+  unfolding clean-at
+  timely v h =
+      let b = bound (clean w) _ v h in
+      let a = asked Ground.Clock (ltb last-second s) (granted (b .0)) v (b .2) in
+      let e : granted (b .0) ≡ granted v = a .1 in
+      let same : b .0 ≡ v = cc in
+      (b .1 ∙ ap granted same, ltb-false last-second s (a .0))

@@ -56,11 +56,22 @@ alike r d =
 abbrev pub apart : (ℕ → Record) → ℕ → ℕ → Bool
 apart rs s i = not (among (name-slots (rs i .slot) (rs i .count)) s)
 
+-- "RECORD requires the extra record in these groups": "operation 0, first byte 0x54, .. and zero elsewhere"; time and date, which are its
+-- directory field, may be any.
+unfoldable pub is-stamp : Record → Bool
+is-stamp r =
+    every (
+    eqb (r .name .stem) 0x54 ∷ eqb (r .name .extension) 0 ∷ eqb (r .attributes) 0 ∷ eqb (r .count) 0 ∷ eqb (r .number) 0
+    ∷ eqb (r .slot) 0 ∷ eqb (r .high) 0 ∷ eqb (r .from) 0 ∷ eqb (r .cluster) 0 ∷ eqb (r .size) 0 ∷ [])
+
 -- Record k of a group, a "part of the record before": "for rename two different slots, both records .. alike", "with the new slot outside
--- those marked".
-unfoldable pub part-ok : ℕ → ℕ → (ℕ → Record) → ℕ → Bool
-part-ok n z rs k =
+-- those marked"; for the others a stamp.
+unfoldable pub pair-ok : ℕ → ℕ → (ℕ → Record) → ℕ → Bool
+pair-ok n z rs k =
     every (alike (rs (k - 1)) (rs k) ∷ slot-ok n z (rs k .slot) ∷ all (apart rs (rs k .slot)) k ∷ [])
+
+unfoldable pub part-ok : ℕ → ℕ → (ℕ → Record) → ℕ → Bool
+part-ok n z rs k = pick (eqb (rs 0 .number) 5) (pair-ok n z rs k) (is-stamp (rs k))
 
 -- What is asked of the records of a group: of record 0, and of each after it.
 unfoldable pub records-ok : ℕ → ℕ → (ℕ → Record) → Bool
@@ -68,12 +79,12 @@ records-ok n z rs = every (record-ok n z (rs 0) ∷ all-from (part-ok n z rs) 1 
 
 -- How many long slots an operation fills.
 abbrev pub fills : Operation → ℕ
-fills (Create e count) = count
-fills (Update e last from size) = 0
+fills (Create e count stamp) = count
+fills (Update e last from size stamp) = 0
 fills (Delete e count first size) = 0
-fills (Truncate e first from size) = 0
+fills (Truncate e first from size stamp) = 0
 fills (Rename e count first size to renamed) = 0
-fills (Replace e first from size) = 0
+fills (Replace e first from size stamp) = 0
 
 -- "and the characters before the first zero are allowed ones, are as many as that count of long slots needs"
 unfoldable pub characters-ok : Change → Bool
@@ -83,8 +94,8 @@ characters-ok x = let n = text-length (x .text) in eqb (long-slots n) (fills (x 
 unfoldable pub empty-from : ℕ → Bytes → Bool
 empty-from i b = all-from (λ j. eqb (b j) 0) i (512 - i)
 
--- The records of a sector are a group as above, all of them begun as "pending" ones, and "the rest of the sector is zero": the characters "have only zeros after
--- them".
+-- The records of a sector are a group as above, all of them begun as "pending" ones, and "the rest of the sector is zero": the characters
+-- "have only zeros after them".
 unfoldable pub group-ok : ℕ → ℕ → Bytes → Bool
 group-ok n z b =
     let m = group-size (record-at b) in
@@ -104,12 +115,12 @@ accepted entries z n g i =
 
 -- The slots that an operation names, long ones included.
 unfoldable pub named-slots : Operation → List ℕ
-named-slots (Create e count) = name-slots (e .slot) count
-named-slots (Update e last from size) = name-slots (e .slot) 0
+named-slots (Create e count stamp) = name-slots (e .slot) count
+named-slots (Update e last from size stamp) = name-slots (e .slot) 0
 named-slots (Delete e count first size) = name-slots (e .slot) count
-named-slots (Truncate e first from size) = name-slots (e .slot) 0
+named-slots (Truncate e first from size stamp) = name-slots (e .slot) 0
 named-slots (Rename e count first size to renamed) = name-slots (e .slot) count ++ (to ∷ [])
-named-slots (Replace e first from size) = name-slots (e .slot) 0
+named-slots (Replace e first from size stamp) = name-slots (e .slot) 0
 
 -- "to find the lowest slot beginning 0 it reads all slots that a group names, long ones included, as if they began 0xE5": that slot, of n
 -- that begin with f.

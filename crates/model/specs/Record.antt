@@ -89,20 +89,36 @@ record-of e number count cluster from size = record {
 abbrev pub last-number : ℕ
 last-number = 6
 
+-- "The group gains a record right after the main one, with operation 0, first byte 0x54, the time at 14, the date at 16 and zero elsewhere":
+-- the stamp takes the four bytes at 14.
+unfoldable pub stamp-record : ℕ → Record
+stamp-record stamp = record {
+  name = record { stem = 0x54; extension = 0 };
+  attributes = 0;
+  count = 0;
+  number = 0;
+  directory = stamp;
+  slot = 0;
+  high = 0;
+  from = 0;
+  cluster = 0;
+  size = 0;
+}
+
 -- "First/last: create 0; update, the last cluster before; others, the first cluster." "DIR_Cluster: update and truncate; others 0."
 -- "Size: 0 for create." "Rename's record 1 is record 0 with the new name, operation 0 and the new slot." Replace: "The record has
 -- operation 6, the old first cluster in first/last, the new first cluster (0 for no bytes) in DIR_Cluster, and the new size." Delete and
 -- rename: "The record's long-name count holds how many there are"; create: "the count field holds the number of long slots"; in all others
--- it is 0.
+-- it is 0. Create, update, truncate and replace have a stamp.
 unfoldable pub operation-records : Operation → List Record
-operation-records (Create e count) = record-of e 1 count 0 0 0 ∷ []
-operation-records (Update e last from size) = record-of e 2 0 last from size ∷ []
+operation-records (Create e count stamp) = record-of e 1 count 0 0 0 ∷ stamp-record stamp ∷ []
+operation-records (Update e last from size stamp) = record-of e 2 0 last from size ∷ stamp-record stamp ∷ []
 operation-records (Delete e count first size) = record-of e 3 count first 0 size ∷ []
-operation-records (Truncate e first from size) = record-of e 4 0 first from size ∷ []
+operation-records (Truncate e first from size stamp) = record-of e 4 0 first from size ∷ stamp-record stamp ∷ []
 operation-records (Rename e count first size to renamed) =
     record-of e 5 count first 0 size
     ∷ record-of (record { slot = to; name = renamed; attributes = e .attributes }) 0 count first 0 size ∷ []
-operation-records (Replace e first from size) = record-of e 6 0 first from size ∷ []
+operation-records (Replace e first from size stamp) = record-of e 6 0 first from size ∷ stamp-record stamp ∷ []
 
 -- What a group of records tells: an operation, and the characters of the long name that it writes, two bytes each, with zeros after them;
 -- the operation alone, where it writes none.
@@ -120,12 +136,13 @@ plain o = with-text o zeros
 unfoldable pub records : Change → List Record
 records x = operation-records (x .operation)
 
--- "They go into records of 16 each after the main record": where the characters begin in a sector, and for how many bytes of them it has room.
+-- "They go into records of 16 each after the main record", and so after its stamp: where the characters begin in a sector, and for how many
+-- bytes of them it has room.
 abbrev pub text-start : ℕ
-text-start = 32
+text-start = 64
 
 abbrev pub text-room : ℕ
-text-room = 480
+text-room = 448
 
 -- How many characters a text has, "before the first zero", of those for which there is room.
 unfoldable pub text-length : Bytes → ℕ
@@ -153,14 +170,15 @@ unfoldable pub operation-of : (ℕ → Record) → Operation
 operation-of rs =
     let r = rs 0 in
     let e = entry-in r in
-    pick (eqb (r .number) 1) (Create e (r .count))
-    (pick (eqb (r .number) 2) (Update e (r .cluster) (r .from) (r .size))
+    let stamp = rs 1 .directory in
+    pick (eqb (r .number) 1) (Create e (r .count) stamp)
+    (pick (eqb (r .number) 2) (Update e (r .cluster) (r .from) (r .size) stamp)
     (pick (eqb (r .number) 3) (Delete e (r .count) (r .cluster) (r .size))
-    (pick (eqb (r .number) 4) (Truncate e (r .cluster) (r .from) (r .size))
+    (pick (eqb (r .number) 4) (Truncate e (r .cluster) (r .from) (r .size) stamp)
     (pick (eqb (r .number) 5) (Rename e (r .count) (r .cluster) (r .size) (rs 1 .slot) (rs 1 .name))
-    (Replace e (r .cluster) (r .from) (r .size))))))
+    (Replace e (r .cluster) (r .from) (r .size) stamp)))))
 
--- How many of a sector's records tell the operation: "record 0 of a sector, with record 1 for a rename".
+-- How many of a sector's records tell the operation: "record 0 of a sector, with record 1 for a rename", and with the stamp.
 unfoldable pub group-size : (ℕ → Record) → ℕ
 group-size rs = length (operation-records (operation-of rs))
 
@@ -168,7 +186,7 @@ group-size rs = length (operation-records (operation-of rs))
 unfoldable pub leads : Bytes → Bool
 leads b = every (not (eqb (b 0) 0) ∷ eqb (r-number b) 1 ∷ leb 1 (r-count b) ∷ [])
 
--- The characters in such a sector run from the record after the main one to its end; another has none.
+-- The characters in such a sector run from the record after the stamp to its end; another has none.
 unfoldable pub text-in : Bytes → Bytes
 text-in b i = pick (leads b && ltb i text-room) (b (text-start + i)) 0
 

@@ -1,5 +1,5 @@
 -- Grounds 1 to 7: what every call asks of the card.
-use Prim.Native.Nat.{_*_}
+use Prim.Native.Nat.{ℕ, _*_}
 use mathlib.Core.Bool.{not}
 use lib.Dec.{ltb}
 use Rattle.model.specs.Sector.{Card, Window}
@@ -8,6 +8,7 @@ use Rattle.model.specs.Fat.{Fat, fat1-of, fats-agree}
 use Rattle.model.specs.Root.{first-bytes, root-ok}
 use Rattle.model.specs.Log.{area, run, run-ok}
 use Rattle.model.specs.Pending.{pending, is-broken, is-held}
+use Rattle.model.specs.Calendar.{last-second}
 use Rattle.model.specs.Ground.{Answer, granted, _when_, _>>=_, _>>_}
 use Rattle.model.specs.declared.Layout.{Layout}
 use Rattle.model.specs.declared.Area.{Area}
@@ -54,3 +55,10 @@ settled c v = do
 -- "A card passing 1 to 7 is clean."
 unfoldable pub clean : Window → Answer Volume
 clean w = examine w >>= settled (w .card)
+
+-- "18 CLOCK, the seconds exceed 4,039,286,399, asked right after UNCLEAN": grounds 1 to 7, then this one.
+unfoldable pub clean-at : Window → ℕ → Answer Volume
+clean-at w seconds = do
+  v ← clean w
+  Ground.Clock when ltb last-second seconds
+  granted v

@@ -84,17 +84,19 @@ pub struct Elapsed {
 }
 
 // The operations that the log can hold, each with its own fields. `from` is DIR_Cluster, `count` how many entries of a long name stand
-// directly before the slot, or are to stand there.
+// directly before the slot, or are to stand there, `stamp` the time (low two bytes) and the date (high two) that the entry gets.
 pub enum Operation {
     Create {
         entry: Entry,
         count: u32,
+        stamp: u32,
     },
     Update {
         entry: Entry,
         last: u32,
         from: u32,
         size: u32,
+        stamp: u32,
     },
     Delete {
         entry: Entry,
@@ -107,6 +109,7 @@ pub enum Operation {
         first: u32,
         from: u32,
         size: u32,
+        stamp: u32,
     },
     Rename {
         entry: Entry,
@@ -121,6 +124,7 @@ pub enum Operation {
         first: u32,
         from: u32,
         size: u32,
+        stamp: u32,
     },
 }
 
@@ -180,6 +184,7 @@ pub enum Ground {
     Nospace,
     Locked,
     Longname,
+    Clock,
 }
 
 // How a call ends: refused; done, with its count (of stores, of bytes read, of entries) or the cluster that it gives; a no;
