@@ -26,21 +26,25 @@ unfolding ones onesIn
     Rattle.model.specs.LongName.spelled Rattle.model.specs.LongName.fill Rattle.model.specs.LongName.long-entry
     Rattle.model.specs.LongName.name-entry Rattle.model.specs.LongName.long-length Rattle.model.specs.LongName.has-text
     Rattle.model.specs.LongName.find-text
+    Rattle.model.specs.Calendar.is-leap Rattle.model.specs.Calendar.year-days Rattle.model.specs.Calendar.month-days
+    Rattle.model.specs.Calendar.count-off Rattle.model.specs.Calendar.moment Rattle.model.specs.Calendar.stamp-of
     Rattle.model.specs.Log.run Rattle.model.specs.Log.run-ok Rattle.model.specs.Log.area Rattle.model.specs.Log.unused
-    Rattle.model.specs.Record.record-bytes Rattle.model.specs.Record.record-of Rattle.model.specs.Record.operation-records Rattle.model.specs.Record.records
+    Rattle.model.specs.Record.record-bytes Rattle.model.specs.Record.record-of Rattle.model.specs.Record.stamp-record
+    Rattle.model.specs.Record.operation-records Rattle.model.specs.Record.records
     Rattle.model.specs.Record.lay Rattle.model.specs.Record.encode Rattle.model.specs.Record.operation-of Rattle.model.specs.Record.change-of
     Rattle.model.specs.Record.group-size Rattle.model.specs.Record.tells Rattle.model.specs.Record.pends Rattle.model.specs.Record.committed
     Rattle.model.specs.Record.commit Rattle.model.specs.Record.text-length Rattle.model.specs.Record.leads Rattle.model.specs.Record.text-in
     Rattle.model.specs.Record.group-records
     Rattle.model.specs.Pending.first-pending Rattle.model.specs.Pending.slot-ok Rattle.model.specs.Pending.record-ok Rattle.model.specs.Pending.alike
     Rattle.model.specs.Pending.most-counted Rattle.model.specs.Pending.count-ok
+    Rattle.model.specs.Pending.is-stamp Rattle.model.specs.Pending.pair-ok
     Rattle.model.specs.Pending.part-ok Rattle.model.specs.Pending.records-ok Rattle.model.specs.Pending.empty-from Rattle.model.specs.Pending.group-ok
     Rattle.model.specs.Pending.alone Rattle.model.specs.Pending.accepted Rattle.model.specs.Record.group-in Rattle.model.specs.Pending.pending-in
     Rattle.model.specs.Pending.pending Rattle.model.specs.Pending.characters-ok Rattle.model.specs.Pending.named-slots
     Rattle.model.specs.Pending.end-past
     Rattle.model.specs.Ground._>>=_ Rattle.model.specs.Ground._when_ Rattle.model.specs.Ground._>>_
     Rattle.model.specs.Volume.mount Rattle.model.specs.Volume.locate Rattle.model.specs.Volume.inspect Rattle.model.specs.Volume.examine
-    Rattle.model.specs.Volume.settled Rattle.model.specs.Volume.clean
+    Rattle.model.specs.Volume.settled Rattle.model.specs.Volume.clean Rattle.model.specs.Volume.clean-at
     Rattle.model.specs.Text.ascii Rattle.model.specs.Text.digits Rattle.model.specs.Text.decimal Rattle.model.specs.Text.join Rattle.model.specs.Text.line
     Rattle.model.specs.Listing.op-word Rattle.model.specs.Listing.state-word Rattle.model.specs.Listing.shown-byte Rattle.model.specs.Listing.trimmed
     Rattle.model.specs.Listing.dotted Rattle.model.specs.Listing.shown-name Rattle.model.specs.Listing.record-line

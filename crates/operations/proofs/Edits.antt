@@ -15,6 +15,7 @@ use Rattle.model.specs.Sector.{Card, clip}
 use Rattle.model.specs.Root.{Directory, root-place, slot-at}
 use Rattle.model.specs.Long.{name-slots, checksum}
 use Rattle.model.specs.LongName.{place, fill, long-entry, name-entry}
+use Rattle.model.specs.Calendar.{stamp-time, stamp-date}
 use Rattle.model.specs.Record.{text-length}
 use Rattle.model.specs.declared.Entry.{Entry}
 use Rattle.model.specs.declared.Layout.{Layout}
@@ -22,7 +23,8 @@ use Rattle.model.specs.declared.Name.{Name}
 use Rattle.model.specs.Record.{Change}
 use Rattle.model.specs.declared.Operation.{Operation}
 use Rattle.model.specs.declared.Operation.the-variants.{Create, Update, Delete, Truncate, Rename, Replace}
-use Rattle.operations.specs.Finish.{set-size, set-first, mark-deleted, set-name, new-entry, name-slot, Edit, edit, edit-from, set-slots, each, marks}
+use Rattle.operations.specs.Finish.{set-stamp, set-size, set-first, mark-deleted, set-name, new-entry}
+use Rattle.operations.specs.Finish.{name-slot, Edit, edit, edit-from, set-slots, each, marks}
 use Rattle.operations.specs.Finish.{operation-edits, edits}
 use Rattle.operations.specs.Finish.{effect, Slots, root-sector, concerns}
 use Rattle.model.proofs.Tests.{told, less?, same?, or-false, clash}
@@ -78,11 +80,19 @@ pub laid-local : (f : Bytes → Bytes) (j : ℕ) → Laid f j → Over f (λ b. 
 laid-local f j (inl k) b x e = k .2 x ∙ sym (k .2 b)
 laid-local f j (inr k) b x e = k x ∙ e ∙ sym (k b)
 
--- The entry that is updated or cut: the size, and the first cluster if a test holds.
-pub laid-resized : (t : Bool) (k size j : ℕ) → Laid (λ b. set-size size (pick t (set-first k b) b)) j
-laid-resized t k size j =
-    laid-then (λ b. set-size size b) (λ b. pick t (set-first k b) b) j (laid-patch 4 size 28 j)
-    (laid-if t (λ b. set-first k b) j (laid-patch 2 k 26 j))
+-- A stamp: write time and date, and access date.
+pub laid-stamp : (st j : ℕ) → Laid (λ b. set-stamp st b) j
+laid-stamp st j =
+    laid-then (λ b. patch 2 (stamp-time st) 22 b) _ j (laid-patch 2 (stamp-time st) 22 j)
+    (laid-then (λ b. patch 2 (stamp-date st) 24 b) (λ b. patch 2 (stamp-date st) 18 b) j (laid-patch 2 (stamp-date st) 24 j)
+    (laid-patch 2 (stamp-date st) 18 j))
+
+-- The entry that is updated or cut: the stamp, the size, and the first cluster if a test holds.
+pub laid-resized : (t : Bool) (k size st j : ℕ) → Laid (λ b. set-stamp st (set-size size (pick t (set-first k b) b))) j
+laid-resized t k size st j =
+    laid-then (λ b. set-stamp st b) (λ b. set-size size (pick t (set-first k b) b)) j (laid-stamp st j)
+    (laid-then (λ b. set-size size b) (λ b. pick t (set-first k b) b) j (laid-patch 4 size 28 j)
+    (laid-if t (λ b. set-first k b) j (laid-patch 2 k 26 j)))
 
 pub laid-name : (n : Name) (j : ℕ) → Laid (λ b. set-name n b) j
 laid-name n j = laid-then (λ b. patch 8 (n .stem) 0 b) (λ b. patch 3 (n .extension) 8 b) j (laid-patch 8 (n .stem) 0 j) (laid-patch 3 (n .extension) 8 j)
@@ -91,14 +101,14 @@ pub laid-mark : (j : ℕ) → Laid (λ b. mark-deleted b) j
 laid-mark j = laid-patch 1 0xE5 0 j
 
 -- A new entry, whatever stood there.
-pub laid-new : (n : Name) (j : ℕ) → Laid (λ b. new-entry n) j
+pub laid-new : (n : Name) (st j : ℕ) → Laid (λ b. new-entry n st) j
 unfolding new-entry
-laid-new n j =
+laid-new n st j =
     laid-then (λ b. set-name n b) _ j (laid-name n j)
     (laid-then (λ b. patch 1 0x20 11 b) _ j (laid-patch 1 0x20 11 j)
-    (laid-then (λ b. patch 2 0x21 16 b) _ j (laid-patch 2 0x21 16 j)
-    (laid-then (λ b. patch 2 0x21 18 b) _ j (laid-patch 2 0x21 18 j)
-    (laid-then (λ b. patch 2 0x21 24 b) (λ b. zeros) j (laid-patch 2 0x21 24 j) (laid-zeros j)))))
+    (laid-then (λ b. patch 2 (stamp-time st) 14 b) _ j (laid-patch 2 (stamp-time st) 14 j)
+    (laid-then (λ b. patch 2 (stamp-date st) 16 b) _ j (laid-patch 2 (stamp-date st) 16 j)
+    (laid-then (λ b. set-stamp st b) (λ b. zeros) j (laid-stamp st j) (laid-zeros j)))))
 
 -- A slot of a new name, whatever stood there.
 laid-fill : (f : ℕ → ℕ) (h : Bytes → Bytes) (n j : ℕ) → Laid h j → Laid (λ b. fill f (h b) n) j
@@ -118,11 +128,11 @@ laid-either : (t : Bool) (g h : Bytes → Bytes) (j : ℕ) → Laid g j → Laid
 laid-either true g h j k m = k
 laid-either false g h j k m = m
 
-pub laid-name-slot : (e : Entry) (t : Bytes) (k j : ℕ) → Laid (λ b. name-slot e t k) j
+pub laid-name-slot : (e : Entry) (st : ℕ) (t : Bytes) (k j : ℕ) → Laid (λ b. name-slot e st t k) j
 unfolding name-slot name-entry
-laid-name-slot e t k j =
-    laid-either (eqb k (e .slot)) (λ b. new-entry (e .name)) (λ b. name-entry (checksum (new-entry (e .name))) t (text-length t) (e .slot - k)) j
-    (laid-new (e .name) j) (laid-entry _ _ _ j)
+laid-name-slot e st t k j =
+    laid-either (eqb k (e .slot)) (λ b. new-entry (e .name) st) (λ b. name-entry (checksum (new-entry (e .name) st)) t (text-length t) (e .slot - k)) j
+    (laid-new (e .name) st j) (laid-entry _ _ _ j)
 
 -- A name covers the mark of a deleted slot.
 name-over : (n : Name) (j : ℕ) → Over (λ b. set-name n b) (λ b. mark-deleted b) j
@@ -269,12 +279,12 @@ own-again s f j k = ((k, ((λ _. (refl, laid-again f j k)), λ _. tt)), tt)
 
 operation-again : (o : Operation) (t : Bytes) (j : ℕ) → Again (operation-edits o t) j
 unfolding operation-edits
-operation-again (Create e count) t j = each-alone (λ k b. name-slot e t k) (name-slots (e .slot) count) j (λ k. laid-name-slot e t k j)
-operation-again (Update e last from size) t j =
-    own-again (e .slot) (λ b. set-size size (pick (eqb last 0) (set-first from b) b)) j (laid-resized (eqb last 0) from size j)
+operation-again (Create e count st) t j = each-alone (λ k b. name-slot e st t k) (name-slots (e .slot) count) j (λ k. laid-name-slot e st t k j)
+operation-again (Update e last from size st) t j =
+    own-again (e .slot) (λ b. set-stamp st (set-size size (pick (eqb last 0) (set-first from b) b))) j (laid-resized (eqb last 0) from size st j)
 operation-again (Delete e count first size) t j = each-alone (λ k b. mark-deleted b) (name-slots (e .slot) count) j (λ k. laid-mark j)
-operation-again (Truncate e first from size) t j =
-    own-again (e .slot) (λ b. set-size size (pick (eqb size 0) (set-first 0 b) b)) j (laid-resized (eqb size 0) 0 size j)
+operation-again (Truncate e first from size st) t j =
+    own-again (e .slot) (λ b. set-stamp st (set-size size (pick (eqb size 0) (set-first 0 b) b))) j (laid-resized (eqb size 0) 0 size st j)
 operation-again (Rename e count first size to renamed) t j =
     let ks : List ℕ = name-slots (e .slot) count in
     let named : Edit = edit-from (e .slot) to (λ b. set-name renamed b) in
@@ -286,7 +296,8 @@ operation-again (Rename e count first size to renamed) t j =
       ),
       tt,
     )
-operation-again (Replace e first from size) t j = own-again (e .slot) (λ b. set-size size (set-first from b)) j (laid-resized true from size j)
+operation-again (Replace e first from size st) t j =
+    own-again (e .slot) (λ b. set-stamp st (set-size size (set-first from b))) j (laid-resized true from size st j)
 
 pub again : (o : Change) (j : ℕ) → Again (edits o) j
 unfolding edits

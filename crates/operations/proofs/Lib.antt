@@ -2,6 +2,8 @@ pub mod Compute
 pub mod Small
 pub mod LongRows
 pub mod SpellRows
+pub mod DateRows
+pub mod Clock
 pub mod Locked
 pub mod FitRows
 pub mod Admitted

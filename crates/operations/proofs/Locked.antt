@@ -30,7 +30,7 @@ b = letter 66
 
 -- A has 600 bytes in slot 0, B none in slot 1; the attributes of A are x.
 abbrev both : Bytes → Card
-both d = after (stores (create-stores v (appended d) 1 two no-text)) (appended d)
+both d = after (stores (create-stores v (appended d) 1 two no-text 0)) (appended d)
 
 abbrev with : ℕ → Bytes → Card
 with x d = put (both d) (store 3 (patch 1 x 11 (both d 3)))
@@ -42,8 +42,9 @@ answer p = outcome largest p
 -- computed once.)
 abbrev changes : Bytes → Card → List (Answer Program)
 changes e c =
-    append-on v c a (span 100 e) ∷ append-on v c a (span 0 e) ∷ truncate-on v c a 512 ∷ truncate-on v c a 600 ∷ truncate-on v c a 601 ∷ delete-on v c a
-    ∷ rename-on v c a (letter 67) ∷ rename-on v c a b ∷ rename-on v c a a ∷ replace-on v c a (span 700 e) ∷ replace-on v c a (span 0 e) ∷ []
+    append-on v c a (span 100 e) 0 ∷ append-on v c a (span 0 e) 0 ∷ truncate-on v c a 512 0 ∷ truncate-on v c a 600 0 ∷ truncate-on v c a 601 0
+    ∷ delete-on v c a
+    ∷ rename-on v c a (letter 67) ∷ rename-on v c a b ∷ rename-on v c a a ∷ replace-on v c a (span 700 e) 0 ∷ replace-on v c a (span 0 e) 0 ∷ []
 
 locked-row : (d e : Bytes) → map answer (changes e (with 0x21 d)) ≡ replicate 11 (Refused Ground.Locked)
 unfolding compute
@@ -64,13 +65,13 @@ directory-row d = refl
 
 -- Read does not ask it, nor does create; another file is changed, and renamed onto the locked one's name it is EXISTS.
 abbrev goes-on : Bytes → Card → List Outcome
-goes-on e c = filled-outcome (read-on v c a 0 700) ∷ map answer (create-on v c (letter 67) ∷ append-on v c b (span 0 e) ∷ rename-on v c b a ∷ [])
+goes-on e c = filled-outcome (read-on v c a 0 700) ∷ map answer (create-on v c (letter 67) 0 ∷ append-on v c b (span 0 e) 0 ∷ rename-on v c b a ∷ [])
 
 open-row : (d e : Bytes) → goes-on e (with 0x21 d) ≡ Done 600 ∷ Done 3 ∷ Done 0 ∷ Refused Ground.Exists ∷ []
 unfolding compute
 open-row d e = refl
 
 -- Without the mark nothing is refused, whatever the bits beside it are: a truncate to the present size is done.
-unlocked-row : (d : Bytes) → answer (truncate-on v (with 0x26 d) a 600) ≡ Done 0
+unlocked-row : (d : Bytes) → answer (truncate-on v (with 0x26 d) a 600 0) ≡ Done 0
 unfolding compute
 unlocked-row d = refl

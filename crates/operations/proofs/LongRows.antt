@@ -153,7 +153,8 @@ many-rows = (refl, refl, refl, refl)
 
 -- ---- the slots that calls change
 
-changed-rows : map (λ k. changed-by v two k) (deletes (span 65) ∷ renames (span 65) (span 66) ∷ creates (span 66) ∷ appends (span 65) (span 66) ∷ recovers ∷ [])
+changed-rows : map (λ k. changed-by v two k) (deletes (span 65) ∷ renames (span 65) (span 66) ∷ creates (span 66) 0 ∷ appends (span 65) (span 66) 0 ∷ recovers
+    ∷ [])
     ≡ (15 ∷ 16 ∷ 17 ∷ []) ∷ (15 ∷ 16 ∷ 17 ∷ 18 ∷ []) ∷ (18 ∷ []) ∷ (17 ∷ []) ∷ [] ∷ []
 unfolding compute
 changed-rows = refl

@@ -10,7 +10,7 @@ use borrow.Author.Tests.{eqb-false}
 use Rattle.model.specs.Bytes.{Bytes}
 use Rattle.model.specs.Scan.{any, among}
 use Rattle.model.specs.Root.{Directory}
-use Rattle.model.specs.Record.{operation-records, operation-of, record-of, Change, group-size}
+use Rattle.model.specs.Record.{operation-records, operation-of, record-of, stamp-record, Change, group-size}
 use Rattle.model.specs.Long.{name-slots}
 use Rattle.model.specs.Pending.{named-slots, records-ok}
 use Rattle.model.specs.declared.Name.{Name}
@@ -23,8 +23,8 @@ use Rattle.operations.specs.Finish.{effect, concerns, Slots}
 use Rattle.model.proofs.Tests.{or-false}
 use Rattle.model.proofs.All.{All, all-append, all-image, all-map}
 use Rattle.model.proofs.Long.{all-slots}
-use Rattle.model.proofs.Records.{listed, told-slot}
-use Rattle.model.proofs.Pendings.{Seat, seat-at}
+use Rattle.model.proofs.Records.{listed}
+use Rattle.model.proofs.Recorded.{Seat, seat-at, told-slot}
 use Rattle.operations.proofs.Edits.{each-slots, set-out}
 
 -- ---- by their names
@@ -37,13 +37,13 @@ only-slots f ks = ap slots-of (sym (append-nil (each f ks))) ∙ each-slots f []
 
 operation-slots : (o : Operation) (t : Bytes) → slots-of (operation-edits o t) ≡ named-slots o
 unfolding operation-edits named-slots name-slots
-operation-slots (Create e count) t = only-slots (λ k b. name-slot e t k) (name-slots (e .slot) count)
-operation-slots (Update e last from size) t = refl
+operation-slots (Create e count st) t = only-slots (λ k b. name-slot e st t k) (name-slots (e .slot) count)
+operation-slots (Update e last from size st) t = refl
 operation-slots (Delete e count first size) t = only-slots (λ k b. mark-deleted b) (name-slots (e .slot) count)
-operation-slots (Truncate e first from size) t = refl
+operation-slots (Truncate e first from size st) t = refl
 operation-slots (Rename e count first size to renamed) t =
     each-slots (λ k b. mark-deleted b) (edit-from (e .slot) to (λ b. set-name renamed b) ∷ []) (name-slots (e .slot) count)
-operation-slots (Replace e first from size) t = refl
+operation-slots (Replace e first from size st) t = refl
 
 -- A change edits the slots that its operation names,
 pub edit-slots : (x : Change) → slots-of (edits x) ≡ named-slots (x .operation)
@@ -89,18 +89,18 @@ each-named f rs s n some e =
 
 -- What each operation supplies: its edits are of slots that its records name, or of ones before them.
 operation-named : (o : Operation) (t : Bytes) → All (Told (operation-records o)) (operation-edits o t)
-unfolding operation-records operation-edits record-of
-operation-named (Create e count) t =
-    each-named (λ k b. name-slot e t k) (operation-records (Create e count)) (e .slot) count (omega arith) refl
-operation-named (Update e last from size) t = (((0, omega arith, omega arith), (0, omega arith, omega arith)), tt)
+unfolding operation-records operation-edits record-of stamp-record
+operation-named (Create e count st) t =
+    each-named (λ k b. name-slot e st t k) (operation-records (Create e count st)) (e .slot) count (omega arith) refl
+operation-named (Update e last from size st) t = (((0, omega arith, omega arith), (0, omega arith, omega arith)), tt)
 operation-named (Delete e count first size) t =
     each-named (λ k b. mark-deleted b) (operation-records (Delete e count first size)) (e .slot) count (omega arith) refl
-operation-named (Truncate e first from size) t = (((0, omega arith, omega arith), (0, omega arith, omega arith)), tt)
+operation-named (Truncate e first from size st) t = (((0, omega arith, omega arith), (0, omega arith, omega arith)), tt)
 operation-named (Rename e count first size to renamed) t =
     let rs : List Record = operation-records (Rename e count first size to renamed) in
     all-append (Told rs) (marks (name-slots (e .slot) count)) _ (each-named (λ k b. mark-deleted b) rs (e .slot) count (omega arith) refl)
     (((1, omega arith, omega arith), (0, omega arith, omega arith)), tt)
-operation-named (Replace e first from size) t = (((0, omega arith, omega arith), (0, omega arith, omega arith)), tt)
+operation-named (Replace e first from size st) t = (((0, omega arith, omega arith), (0, omega arith, omega arith)), tt)
 
 -- RECORD asks that a change's slots are the root's and not above z.
 abbrev pub Seated : ℕ → ℕ → Edit → Type 0
@@ -114,7 +114,7 @@ told-seats n z rs t h =
   where
     seat : (s : ℕ) → Named (operation-records (operation-of rs)) s → Seat n z s
     seat s t =
-        let is : listed (operation-records (operation-of rs)) (t .0) .slot ≡ rs (t .0) .slot = told-slot rs (t .0) (t .1) in
+        let is : listed (operation-records (operation-of rs)) (t .0) .slot ≡ rs (t .0) .slot = told-slot n z rs h (t .0) (t .1) in
         let low : s ≤ listed (operation-records (operation-of rs)) (t .0) .slot = t .2 in
         let at : Seat n z (rs (t .0) .slot) = seat-at n z rs h (t .0) (t .1) in
         (omega (arith, at .0), omega (arith, at .1))
@@ -132,9 +132,9 @@ each-seats f n s count less =
     (all-slots (λ k. (k < n) × (k < n)) s count (λ k w. (omega (arith, w .0), omega (arith, w .0))))
 
 module _ (n : ℕ) (e : Entry) (count : ℕ) (less : e .slot < n) where
-  pub create-slots : (t : Bytes) → Slots n (record { operation = Create e count; text = t })
+  pub create-slots : (st : ℕ) (t : Bytes) → Slots n (record { operation = Create e count st; text = t })
   unfolding edits operation-edits
-  create-slots t = each-seats (λ k b. name-slot e t k) n (e .slot) count less
+  create-slots st t = each-seats (λ k b. name-slot e st t k) n (e .slot) count less
 
   pub delete-slots : (first size : ℕ) (t : Bytes) → Slots n (record { operation = Delete e count first size; text = t })
   unfolding edits operation-edits

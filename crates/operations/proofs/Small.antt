@@ -1,7 +1,7 @@
 -- Rows on a card that is small enough to compute quickly: 8 clusters, one sector to a FAT, 16 root slots, a log of two sectors, and 0xAA
 -- in all other data sectors. No boot sector says so, and grounds 1 to 7 are not asked; what follows them is. The edits in must-fail are
 -- refused here and in `Locked`. The rows of the requirements' own card stand in the crate `worked`.
-use Prim.Native.Nat.{ℕ}
+use Prim.Native.Nat.{ℕ, _+_, _*_}
 use mathlib.Core.Path.{_≡_, refl}
 use mathlib.Core.List.{List, [], _∷_, map}
 use mathlib.Core.Bool.{_||_}
@@ -29,7 +29,7 @@ use Rattle.operations.specs.Outcome.{made, outcome}
 use Rattle.operations.specs.Reading.{reading, file-byte}
 use Rattle.operations.proofs.Compute.{compute}
 
-abbrev l : Layout
+abbrev pub l : Layout
 l = record { factor = 1; fatsize = 1; fat1 = 1; fat2 = 2; root = 3; entries = 16; start = 4; total = 12; clusters = 8 }
 
 abbrev log : Area
@@ -54,41 +54,45 @@ two = record { stem = 0x2020202020202042; extension = 0x202020 }
 abbrev pub span : ℕ → Bytes → Span
 span n b = record { size = n; byte = b }
 
+-- Stamp i: its four bytes are 10 i + 1 to 10 i + 4.
+abbrev pub stamp : ℕ → ℕ
+stamp i = 0x04030201 + 0x0A0A0A0A * i
+
 -- ---- the programs: create, append 600 bytes, append 100, truncate to 512, rename, delete, each after the ones before it
 
-abbrev creation : Program
-creation = create-stores v blank 0 one no-text
+abbrev pub creation : Program
+creation = create-stores v blank 0 one no-text (stamp 0)
 
-abbrev created : Card
+abbrev pub created : Card
 created = after (stores creation) blank
 
-abbrev appending : Bytes → Program
-appending d = append-stores v created (file-at l created 0) (span 600 d)
+abbrev pub appending : Bytes → Program
+appending d = append-stores v created (file-at l created 0) (span 600 d) (stamp 1)
 
 abbrev pub appended : Bytes → Card
 appended d = after (stores (appending d)) created
 
 abbrev lengthening : Bytes → Bytes → Program
-lengthening d e = append-stores v (appended d) (file-at l (appended d) 0) (span 100 e)
+lengthening d e = append-stores v (appended d) (file-at l (appended d) 0) (span 100 e) (stamp 2)
 
-abbrev shortening : Bytes → Program
-shortening d = truncate-stores v (appended d) (file-at l (appended d) 0) 512
+abbrev pub shortening : Bytes → Program
+shortening d = truncate-stores v (appended d) (file-at l (appended d) 0) 512 (stamp 2)
 
 abbrev deletion : Bytes → Program
 deletion d = delete-stores v (appended d) (file-at l (appended d) 0)
 
-abbrev renaming : Bytes → Program
+abbrev pub renaming : Bytes → Program
 renaming d = rename-stores v (appended d) (file-at l (appended d) 0) 1 two
 
 -- Replace of the 600 bytes by n others, and of no bytes by none.
-abbrev replacing : Bytes → ℕ → Bytes → Program
-replacing d n e = replace-stores v (appended d) (file-at l (appended d) 0) (span n e)
+abbrev pub replacing : Bytes → ℕ → Bytes → Program
+replacing d n e = replace-stores v (appended d) (file-at l (appended d) 0) (span n e) (stamp 2)
 
 abbrev replaced : Bytes → Bytes → Card
 replaced d e = after (stores (replacing d 700 e)) (appended d)
 
 abbrev replacing-none : Bytes → Program
-replacing-none e = replace-stores v created (file-at l created 0) (span 0 e)
+replacing-none e = replace-stores v created (file-at l created 0) (span 0 e) (stamp 2)
 
 -- ---- what is seen of them
 
@@ -115,10 +119,10 @@ seen s c = record { size = file-size (slot-at l c s); chain = clusters-of l (fat
 abbrev recovery : Card → Program
 recovery c = recover-stores l c (pending l log c)
 
-abbrev cut : ℕ → Program → Card → Card
+abbrev pub cut : ℕ → Program → Card → Card
 cut limit p c = after (made limit (granted p)) c
 
-abbrev recovered : Card → Card
+abbrev pub recovered : Card → Card
 recovered c = after (stores (recovery c)) c
 
 -- ---- rows

@@ -29,6 +29,10 @@ text n = record { size = 2 * n; byte = λ i. 100 + i % 100 }
 abbrev text-of-bytes : List ℕ → ℕ → Span
 text-of-bytes bs n = record { size = n; byte = λ i. getD bs i 0 }
 
+-- Its bytes are 1, 2, 3 and 4: the time is the first two, the date the others.
+abbrev stamp : ℕ
+stamp = 0x04030201
+
 -- A card with a file Z in each of the first n slots, and slots never used after them.
 abbrev files : ℕ → Card
 files n = with-root (λ k. pick (ltb k n) (letter 90) zeros)
@@ -42,7 +46,7 @@ deleted j = pick (eqb j 0) 0xE5 0
 -- ---- B with 14 characters: entries in slots 14 and 15, B in slot 16, on both sides of the border of sectors 3 and 4
 
 abbrev creation : Answer Program
-creation = create-long-on v fourteen (span 66) (text 14)
+creation = create-long-on v fourteen (span 66) (text 14) stamp
 
 abbrev stored : ℕ → List Store
 stored limit = made limit creation
@@ -63,7 +67,7 @@ abbrev filled : List (List ℕ)
 filled =
     (0x42 ∷ 126 ∷ 127 ∷ 0 ∷ 0 ∷ replicate 6 0xFF ++ (0x0F ∷ 0 ∷ 192 ∷ replicate 12 0xFF ++ (0 ∷ 0 ∷ replicate 4 0xFF)))
     ∷ (1 ∷ range 100 10 ++ (0x0F ∷ 0 ∷ 192 ∷ range 110 12 ++ (0 ∷ 0 ∷ 122 ∷ 123 ∷ 124 ∷ 125 ∷ [])))
-    ∷ (B ++ (0x20 ∷ 0 ∷ 0 ∷ 0 ∷ 0 ∷ 0x21 ∷ 0 ∷ 0x21 ∷ 0 ∷ 0 ∷ 0 ∷ 0 ∷ 0 ∷ 0x21 ∷ replicate 7 0)) ∷ []
+    ∷ (B ++ (0x20 ∷ 0 ∷ 0 ∷ 1 ∷ 2 ∷ 3 ∷ 4 ∷ 3 ∷ 4 ∷ 0 ∷ 0 ∷ 1 ∷ 2 ∷ 3 ∷ 4 ∷ replicate 6 0)) ∷ []
 
 abbrev slots : Card → List (List ℕ)
 slots c = map (λ k. map (slot-at l c k) (range 0 32)) (14 ∷ 15 ∷ 16 ∷ [])
@@ -73,11 +77,18 @@ creation-row : (sectors (stored largest) ≡ 7 ∷ 3 ∷ 4 ∷ 7 ∷ []) × (beg
 unfolding compute
 creation-row = (refl, refl, refl)
 
--- The main record: attributes, count 2, operation 1, slot 16; then 28 bytes of characters, and zeros. Committed, both records begin 0xE5.
+-- The main record: attributes, count 2, operation 1, slot 16; the stamp; then 28 bytes of characters, and zeros. Committed, all three records begin
+-- 0xE5.
+abbrev main : List ℕ
+main = replicate 10 32 ++ (0x20 ∷ 2 ∷ 1 ∷ 0 ∷ 0 ∷ 0 ∷ 0 ∷ 16 ∷ replicate 13 0)
+
+abbrev stamped : List ℕ
+stamped = replicate 13 0 ++ (1 ∷ 2 ∷ 3 ∷ 4 ∷ replicate 14 0)
+
 group-row : (map (bytes-at (stored largest) 0) (range 0 512)
-    ≡ B ++ (0x20 ∷ 2 ∷ 1 ∷ 0 ∷ 0 ∷ 0 ∷ 0 ∷ 16 ∷ replicate 13 0 ++ (range 100 28 ++ replicate 452 0)))
+    ≡ 66 ∷ main ++ (0x54 ∷ stamped ++ (range 100 28 ++ replicate 420 0)))
     × (map (bytes-at (stored largest) 3) (range 0 512)
-    ≡ 0xE5 ∷ replicate 10 32 ++ (0x20 ∷ 2 ∷ 1 ∷ 0 ∷ 0 ∷ 0 ∷ 0 ∷ 16 ∷ replicate 13 0 ++ (0xE5 ∷ range 101 27 ++ replicate 452 0)))
+    ≡ 0xE5 ∷ main ++ (0xE5 ∷ stamped ++ (0xE5 ∷ range 101 27 ++ replicate 420 0)))
 unfolding compute
 group-row = (refl, refl)
 
@@ -143,8 +154,8 @@ abbrev joined : Card
 joined = with-root (λ k. pick (eqb k 12 || eqb k 14 || eqb k 15) deleted (pick (ltb k 14) (letter 90) zeros))
 
 joined-row : (map (λ n. run-end l joined (text n)) (0 ∷ 1 ∷ 13 ∷ 14 ∷ 208 ∷ []) ≡ 12 ∷ 15 ∷ 15 ∷ 16 ∷ 30 ∷ [])
-    × (map (λ n. sectors (made largest (create-long-on v joined (span 66) (text n)))) (13 ∷ 14 ∷ []) ≡ (7 ∷ 3 ∷ 7 ∷ []) ∷ (7 ∷ 3 ∷ 4 ∷ 7 ∷ []) ∷ [])
-    × (map (changed-by v joined) (creates (span 66) ∷ creates-long (span 66) (text 1) ∷ creates-long (span 66) (text 14) ∷ [])
+    × (map (λ n. sectors (made largest (create-long-on v joined (span 66) (text n) stamp))) (13 ∷ 14 ∷ []) ≡ (7 ∷ 3 ∷ 7 ∷ []) ∷ (7 ∷ 3 ∷ 4 ∷ 7 ∷ []) ∷ [])
+    × (map (changed-by v joined) (creates (span 66) 0 ∷ creates-long (span 66) (text 1) 0 ∷ creates-long (span 66) (text 14) 0 ∷ [])
     ≡ (12 ∷ []) ∷ (14 ∷ 15 ∷ []) ∷ (14 ∷ 15 ∷ 16 ∷ []) ∷ [])
 unfolding compute
 joined-row = (refl, refl, refl)
@@ -156,16 +167,16 @@ answer p = outcome largest p
 abbrev holes : Card
 holes = with-root (λ k. pick (eqb (k % 2) 0) (letter 90) deleted)
 
-full-row : answer (create-long-on v holes (span 66) (text 1)) ∷ answer (create-on v holes (span 66))
-    ∷ answer (create-long-on v (files 62) (span 66) (text 13)) ∷ answer (create-long-on v (files 62) (span 66) (text 14))
-    ∷ answer (create-on v (files 64) (span 66)) ∷ []
+full-row : answer (create-long-on v holes (span 66) (text 1) stamp) ∷ answer (create-on v holes (span 66) stamp)
+    ∷ answer (create-long-on v (files 62) (span 66) (text 13) stamp) ∷ answer (create-long-on v (files 62) (span 66) (text 14) stamp)
+    ∷ answer (create-on v (files 64) (span 66) stamp) ∷ []
     ≡ Refused Ground.Rootfull ∷ Done 3 ∷ Done 3 ∷ Refused Ground.Rootfull ∷ Refused Ground.Rootfull ∷ []
 unfolding compute
 full-row = refl
 
--- 208 characters: seventeen slots, 14 to 30, and a group of fourteen records.
+-- 208 characters: seventeen slots, 14 to 30, and a group of fifteen records.
 abbrev longest : List Store
-longest = made largest (create-long-on v fourteen (span 66) (text 208))
+longest = made largest (create-long-on v fourteen (span 66) (text 208) stamp)
 
 abbrev longest-seen : List Store → Card → List (List ℕ)
 longest-seen ss c =
@@ -173,7 +184,7 @@ longest-seen ss c =
     ∷ map (λ k. slot-at l c k 31) (range 14 16) ∷ []
 
 longest-row : (longest-seen longest (after longest fourteen)
-    ≡ (7 ∷ 3 ∷ 4 ∷ 7 ∷ []) ∷ (replicate 14 0xE5 ++ (0 ∷ 0 ∷ []))
+    ≡ (7 ∷ 3 ∷ 4 ∷ 7 ∷ []) ∷ (replicate 15 0xE5 ++ (0 ∷ []))
     ∷ (90 ∷ 0x50 ∷ 15 ∷ 14 ∷ 13 ∷ 12 ∷ 11 ∷ 10 ∷ 9 ∷ 8 ∷ 7 ∷ 6 ∷ 5 ∷ 4 ∷ 3 ∷ 2 ∷ 1 ∷ 66 ∷ 0 ∷ [])
     ∷ (115 ∷ 189 ∷ 163 ∷ 137 ∷ 111 ∷ 185 ∷ 159 ∷ 133 ∷ 107 ∷ 181 ∷ 155 ∷ 129 ∷ 103 ∷ 177 ∷ 151 ∷ 125 ∷ []) ∷ [])
     × (length-read (after longest fourteen) (span 66) 0 ≡ Done 208)
@@ -183,27 +194,28 @@ longest-row = (refl, refl)
 -- ---- what is refused
 
 -- C on the card that has B: with B's characters; the first 13 of them; 14 others; none. B with other characters, and with none.
-taken-row : map answer (create-long-on v created (span 67) (text 14) ∷ create-long-on v created (span 67) (text 13)
-    ∷ create-long-on v created (span 67) (record { size = 28; byte = λ i. 101 + i }) ∷ create-on v created (span 67)
-    ∷ create-long-on v created (span 66) (text 13) ∷ create-on v created (span 66) ∷ [])
+taken-row : map answer (create-long-on v created (span 67) (text 14) stamp ∷ create-long-on v created (span 67) (text 13) stamp
+    ∷ create-long-on v created (span 67) (record { size = 28; byte = λ i. 101 + i }) stamp ∷ create-on v created (span 67) stamp
+    ∷ create-long-on v created (span 66) (text 13) stamp ∷ create-on v created (span 66) stamp ∷ [])
     ≡ Refused Ground.Exists ∷ Done 3 ∷ Done 3 ∷ Done 3 ∷ Refused Ground.Exists ∷ Refused Ground.Exists ∷ []
 unfolding compute
 taken-row = refl
 
 -- C with B's characters, where B's run is broken, where its slot has bit 0x08, where it is a directory's. C named Z, beside a file Z.
-broken-row : map (λ c. answer (create-long-on v c (span 67) (text 14))) (altered 3 2 448 created ∷ altered 4 0x28 11 created ∷ altered 4 0x10 11 created ∷ [])
-    ++ (answer (create-long-on v created (span 67) (text-of-bytes (90 ∷ 0 ∷ []) 2)) ∷ [])
+broken-row : map (λ c. answer (create-long-on v c (span 67) (text 14) stamp)) (altered 3 2 448 created ∷ altered 4 0x28 11 created ∷ altered 4 0x10 11 created
+    ∷ [])
+    ++ (answer (create-long-on v created (span 67) (text-of-bytes (90 ∷ 0 ∷ []) 2) stamp) ∷ [])
     ≡ Done 3 ∷ Done 3 ∷ Refused Ground.Exists ∷ Done 3 ∷ []
 unfolding compute
 broken-row = refl
 
 -- NAME, then LONGNAME, then EXISTS, then ROOTFULL, as numbers: a name of 10 bytes with an odd text; B, which is taken, with an odd text, no
 -- character, 209, one that is forbidden; B with a proper one; Z and C where no slot is free.
-numbers-row : map (λ p. outcome-number (answer p)) (create-long-on v created (text-of-bytes (66 ∷ []) 10) (text-of-bytes (97 ∷ 0 ∷ 97 ∷ []) 3)
-    ∷ create-long-on v created (span 66) (text-of-bytes (97 ∷ 0 ∷ 97 ∷ []) 3) ∷ create-long-on v created (span 66) no-text
-    ∷ create-long-on v created (span 66) (text 209) ∷ create-long-on v created (span 66) (text-of-bytes (97 ∷ 0 ∷ 63 ∷ 0 ∷ []) 4)
-    ∷ create-long-on v created (span 66) (text 14) ∷ create-long-on v (files 64) (span 90) (text 1)
-    ∷ create-long-on v (files 64) (span 67) no-text ∷ create-long-on v (files 64) (span 67) (text 1) ∷ creation ∷ [])
+numbers-row : map (λ p. outcome-number (answer p)) (create-long-on v created (text-of-bytes (66 ∷ []) 10) (text-of-bytes (97 ∷ 0 ∷ 97 ∷ []) 3) stamp
+    ∷ create-long-on v created (span 66) (text-of-bytes (97 ∷ 0 ∷ 97 ∷ []) 3) stamp ∷ create-long-on v created (span 66) no-text stamp
+    ∷ create-long-on v created (span 66) (text 209) stamp ∷ create-long-on v created (span 66) (text-of-bytes (97 ∷ 0 ∷ 63 ∷ 0 ∷ []) 4) stamp
+    ∷ create-long-on v created (span 66) (text 14) stamp ∷ create-long-on v (files 64) (span 90) (text 1) stamp
+    ∷ create-long-on v (files 64) (span 67) no-text stamp ∷ create-long-on v (files 64) (span 67) (text 1) stamp ∷ creation ∷ [])
     ≡ 34359738368 ∷ 73014444032 ∷ 73014444032 ∷ 73014444032 ∷ 73014444032 ∷ 47244640256 ∷ 47244640256 ∷ 73014444032 ∷ 51539607552 ∷ 4 ∷ []
 unfolding compute
 numbers-row = refl

@@ -12,7 +12,8 @@ use Rattle.model.specs.Root.{slot-at, name-ok, name-in, find, free-run, file-at
 use Rattle.model.specs.Long.{name-slots, long-count}
 use Rattle.model.specs.LongName.{text-ok, find-text}
 use Rattle.model.specs.Ground.{Answer, refused, granted, _when_, _>>=_, _>>_}
-use Rattle.model.specs.Volume.{examine, clean}
+use Rattle.model.specs.Calendar.{stamp-of}
+use Rattle.model.specs.Volume.{examine, clean, clean-at}
 use Rattle.model.specs.declared.Name.{Name}
 use Rattle.model.specs.declared.File.{File}
 use Rattle.model.specs.declared.Layout.{Layout}
@@ -84,54 +85,54 @@ new-slot v c n t = do
 
 -- ---- each call on a clean card: what is asked after grounds 1 to 7
 
-unfoldable pub create-as : Volume → Card → Span → Span → Answer Program
-create-as v c n t = do
+unfoldable pub create-as : Volume → Card → Span → Span → ℕ → Answer Program
+create-as v c n t st = do
   s ← new-slot v c n t
-  granted (create-stores v c s (name-of n) t)
+  granted (create-stores v c s (name-of n) t st)
 
-unfoldable pub create-on : Volume → Card → Span → Answer Program
-create-on v c n = do
+unfoldable pub create-on : Volume → Card → Span → ℕ → Answer Program
+create-on v c n st = do
   Ground.Name when not (name-ok n)
-  create-as v c n no-text
+  create-as v c n no-text st
 
 -- "Create gains a form with a short name and 1 to 208 characters of 16 bits." "17 LONGNAME, .., asked right after NAME".
-unfoldable pub create-long-on : Volume → Card → Span → Span → Answer Program
-create-long-on v c n t = do
+unfoldable pub create-long-on : Volume → Card → Span → Span → ℕ → Answer Program
+create-long-on v c n t st = do
   Ground.Name when not (name-ok n)
   Ground.Longname when not (text-ok t)
-  create-as v c n t
+  create-as v c n t st
 
--- "Appending 0 bytes or truncating to the present size makes no store."
+-- "Appending 0 bytes or truncating to the present size makes no store", and so sets no date.
 unfoldable pub unless-none : ℕ → Program → Program
 unless-none n p = pick (eqb n 0) (ending []) p
 
 -- "15. NOSPACE: append needs more clusters than FAT1 has free." To a file that was found, and to the one that a name means.
-unfoldable pub append-to : Volume → Card → File → Span → Answer Program
-append-to v c f d = do
+unfoldable pub append-to : Volume → Card → File → Span → ℕ → Answer Program
+append-to v c f d st = do
   Ground.Nospace when ltb (length (free-clusters (v .layout) (old-fat v c))) (added (v .layout) f (d .size))
-  granted (unless-none (d .size) (append-stores v c f d))
+  granted (unless-none (d .size) (append-stores v c f d st))
 
-unfoldable pub append-on : Volume → Card → Span → Span → Answer Program
-append-on v c n d = file-of Access.Write v c n >>= λ f. append-to v c f d
+unfoldable pub append-on : Volume → Card → Span → Span → ℕ → Answer Program
+append-on v c n d st = file-of Access.Write v c n >>= λ f. append-to v c f d st
 
 -- "One call should replace a file's bytes." "Answers: append's grounds", NOSPACE for all clusters of the new bytes. "A replace always
 -- writes a group."
-unfoldable pub replace-file : Volume → Card → File → Span → Answer Program
-replace-file v c f d = do
+unfoldable pub replace-file : Volume → Card → File → Span → ℕ → Answer Program
+replace-file v c f d st = do
   Ground.Nospace when ltb (length (free-clusters (v .layout) (old-fat v c))) (needed (v .layout) (d .size))
-  granted (replace-stores v c f d)
+  granted (replace-stores v c f d st)
 
-unfoldable pub replace-on : Volume → Card → Span → Span → Answer Program
-replace-on v c n d = file-of Access.Write v c n >>= λ f. replace-file v c f d
+unfoldable pub replace-on : Volume → Card → Span → Span → ℕ → Answer Program
+replace-on v c n d st = file-of Access.Write v c n >>= λ f. replace-file v c f d st
 
 -- "14. LENGTH: truncate asks more than the present size."
-unfoldable pub truncate-as : Volume → Card → File → ℕ → Answer Program
-truncate-as v c f size = do
+unfoldable pub truncate-as : Volume → Card → File → ℕ → ℕ → Answer Program
+truncate-as v c f size st = do
   Ground.Length when ltb (f .size) size
-  granted (unless-none (f .size - size) (truncate-stores v c f size))
+  granted (unless-none (f .size - size) (truncate-stores v c f size st))
 
-unfoldable pub truncate-on : Volume → Card → Span → ℕ → Answer Program
-truncate-on v c n size = file-of Access.Write v c n >>= λ f. truncate-as v c f size
+unfoldable pub truncate-on : Volume → Card → Span → ℕ → ℕ → Answer Program
+truncate-on v c n size st = file-of Access.Write v c n >>= λ f. truncate-as v c f size st
 
 unfoldable pub delete-on : Volume → Card → Span → Answer Program
 delete-on v c n = file-of Access.Write v c n >>= λ f. granted (delete-stores v c f)
@@ -150,30 +151,31 @@ rename-on v c n m = do
 
 -- ---- the calls
 
-unfoldable pub create : Window → Span → Answer Program
-create w n = do
-  v ← clean w
-  create-on v (w .card) n
+-- "Create, append, truncate and replace now take the seconds since 1980 began."
+unfoldable pub create : Window → Span → ℕ → Answer Program
+create w n seconds = do
+  v ← clean-at w seconds
+  create-on v (w .card) n (stamp-of seconds)
 
-unfoldable pub create-long : Window → Span → Span → Answer Program
-create-long w n t = do
-  v ← clean w
-  create-long-on v (w .card) n t
+unfoldable pub create-long : Window → Span → Span → ℕ → Answer Program
+create-long w n t seconds = do
+  v ← clean-at w seconds
+  create-long-on v (w .card) n t (stamp-of seconds)
 
-unfoldable pub append : Window → Span → Span → Answer Program
-append w n d = do
-  v ← clean w
-  append-on v (w .card) n d
+unfoldable pub append : Window → Span → Span → ℕ → Answer Program
+append w n d seconds = do
+  v ← clean-at w seconds
+  append-on v (w .card) n d (stamp-of seconds)
 
-unfoldable pub replace : Window → Span → Span → Answer Program
-replace w n d = do
-  v ← clean w
-  replace-on v (w .card) n d
+unfoldable pub replace : Window → Span → Span → ℕ → Answer Program
+replace w n d seconds = do
+  v ← clean-at w seconds
+  replace-on v (w .card) n d (stamp-of seconds)
 
-unfoldable pub truncate : Window → Span → ℕ → Answer Program
-truncate w n size = do
-  v ← clean w
-  truncate-on v (w .card) n size
+unfoldable pub truncate : Window → Span → ℕ → ℕ → Answer Program
+truncate w n size seconds = do
+  v ← clean-at w seconds
+  truncate-on v (w .card) n size (stamp-of seconds)
 
 unfoldable pub delete : Window → Span → Answer Program
 delete w n = do
@@ -193,24 +195,24 @@ recover w = do
 
 -- The writing calls and recovery, with what each is given besides the window and the limit.
 pub data Call : Type 0 where
-  creates : (name : Span) → Call
-  creates-long : (name text : Span) → Call
-  appends : (name bytes : Span) → Call
-  truncates : (name : Span) (size : ℕ) → Call
+  creates : (name : Span) (seconds : ℕ) → Call
+  creates-long : (name text : Span) (seconds : ℕ) → Call
+  appends : (name bytes : Span) (seconds : ℕ) → Call
+  truncates : (name : Span) (size seconds : ℕ) → Call
   deletes : (name : Span) → Call
   renames : (name new-name : Span) → Call
-  replaces : (name bytes : Span) → Call
+  replaces : (name bytes : Span) (seconds : ℕ) → Call
   recovers : Call
 
 -- What a call would store on a window, or its refusal.
 unfoldable pub plan : Call → Window → Answer Program
-plan (creates n) w = create w n
-plan (creates-long n t) w = create-long w n t
-plan (appends n d) w = append w n d
-plan (truncates n size) w = truncate w n size
+plan (creates n seconds) w = create w n seconds
+plan (creates-long n t seconds) w = create-long w n t seconds
+plan (appends n d seconds) w = append w n d seconds
+plan (truncates n size seconds) w = truncate w n size seconds
 plan (deletes n) w = delete w n
 plan (renames n m) w = rename w n m
-plan (replaces n d) w = replace w n d
+plan (replaces n d seconds) w = replace w n d seconds
 plan recovers w = recover w
 
 -- The clusters that a call takes, and those that it releases, if it is not refused: "Free clusters after a finished call are those
@@ -219,23 +221,23 @@ unfoldable pub named-file : Volume → Card → Span → File
 named-file v c n = file-at (v .layout) c (slot-of v c n)
 
 unfoldable pub taken-by : Volume → Card → Call → List ℕ
-taken-by v c (creates n) = []
-taken-by v c (creates-long n t) = []
-taken-by v c (appends n d) = new-clusters v c (named-file v c n) (d .size)
-taken-by v c (truncates n size) = []
+taken-by v c (creates n seconds) = []
+taken-by v c (creates-long n t seconds) = []
+taken-by v c (appends n d seconds) = new-clusters v c (named-file v c n) (d .size)
+taken-by v c (truncates n size seconds) = []
 taken-by v c (deletes n) = []
 taken-by v c (renames n m) = []
-taken-by v c (replaces n d) = fresh-clusters v c (d .size)
+taken-by v c (replaces n d seconds) = fresh-clusters v c (d .size)
 taken-by v c recovers = []
 
 unfoldable pub released-by : Volume → Card → Call → List ℕ
-released-by v c (creates n) = []
-released-by v c (creates-long n t) = []
-released-by v c (appends n d) = []
-released-by v c (truncates n size) = drop (needed (v .layout) size) (clusters-of (v .layout) (old-fat v c) (named-file v c n))
+released-by v c (creates n seconds) = []
+released-by v c (creates-long n t seconds) = []
+released-by v c (appends n d seconds) = []
+released-by v c (truncates n size seconds) = drop (needed (v .layout) size) (clusters-of (v .layout) (old-fat v c) (named-file v c n))
 released-by v c (deletes n) = clusters-of (v .layout) (old-fat v c) (named-file v c n)
 released-by v c (renames n m) = []
-released-by v c (replaces n d) = clusters-of (v .layout) (old-fat v c) (named-file v c n)
+released-by v c (replaces n d seconds) = clusters-of (v .layout) (old-fat v c) (named-file v c n)
 released-by v c recovers = []
 
 -- The slots of a name: those of the long entries that belong to its slot, then its own.
@@ -248,11 +250,11 @@ new-slots l c t = name-slots (run-end l c t) (slots-for t)
 
 -- The slots that a call changes, if it is not refused.
 unfoldable pub changed-by : Volume → Card → Call → List ℕ
-changed-by v c (creates n) = new-slots (v .layout) c no-text
-changed-by v c (creates-long n t) = new-slots (v .layout) c t
-changed-by v c (appends n d) = slot-of v c n ∷ []
-changed-by v c (truncates n size) = slot-of v c n ∷ []
+changed-by v c (creates n seconds) = new-slots (v .layout) c no-text
+changed-by v c (creates-long n t seconds) = new-slots (v .layout) c t
+changed-by v c (appends n d seconds) = slot-of v c n ∷ []
+changed-by v c (truncates n size seconds) = slot-of v c n ∷ []
 changed-by v c (deletes n) = old-slots v c n
 changed-by v c (renames n m) = old-slots v c n ++ new-slots (v .layout) c no-text
-changed-by v c (replaces n d) = slot-of v c n ∷ []
+changed-by v c (replaces n d seconds) = slot-of v c n ∷ []
 changed-by v c recovers = []

@@ -11,6 +11,7 @@ use Rattle.model.specs.Fat.{fat1-of, fat2-of, write-fat}
 use Rattle.model.specs.Root.{Directory, root-place, slot-at}
 use Rattle.model.specs.Long.{name-slots, checksum}
 use Rattle.model.specs.LongName.{name-entry}
+use Rattle.model.specs.Calendar.{stamp-time, stamp-date}
 use Rattle.model.specs.Record.{Change, Group, text-length, commit}
 use Rattle.model.specs.Pending.{fills}
 use Rattle.model.specs.declared.Layout.{Layout}
@@ -47,6 +48,10 @@ set-first k b = patch 2 k 26 b
 abbrev pub set-size : ℕ → Bytes → Bytes
 set-size n b = patch 4 n 28 b
 
+-- "the others set write time, write date and access date": at 22, 24 and 18.
+abbrev pub set-stamp : ℕ → Bytes → Bytes
+set-stamp st b = patch 2 (stamp-time st) 22 (patch 2 (stamp-date st) 24 (patch 2 (stamp-date st) 18 b))
+
 abbrev pub mark-deleted : Bytes → Bytes
 mark-deleted b = patch 1 0xE5 0 b
 
@@ -57,27 +62,29 @@ each f ks = map (λ k. edit k (f k)) ks
 abbrev pub marks : List ℕ → List Edit
 marks ks = each (λ k b. mark-deleted b) ks
 
--- "attributes 0x20, the three dates 0x0021, all else 0 but the name"
-unfoldable pub new-entry : Name → Bytes
-new-entry n = set-name n (patch 1 0x20 11 (patch 2 0x21 16 (patch 2 0x21 18 (patch 2 0x21 24 zeros))))
+-- "attributes 0x20, .. all else 0 but the name"; "A new file gets all its dates and times from it, tenths 0": creation time and date, at 14 and
+-- 16, and those that every stamp sets.
+unfoldable pub new-entry : Name → ℕ → Bytes
+new-entry n st = set-name n (patch 1 0x20 11 (patch 2 (stamp-time st) 14 (patch 2 (stamp-date st) 16 (set-stamp st zeros))))
 
 -- A slot of a new name, whose long name is a text: its entries, counted back from the short one, which is its last.
-unfoldable pub name-slot : Entry → Bytes → ℕ → Bytes
-name-slot e t k =
-    pick (eqb k (e .slot)) (new-entry (e .name)) (name-entry (checksum (new-entry (e .name))) t (text-length t) (e .slot - k))
+unfoldable pub name-slot : Entry → ℕ → Bytes → ℕ → Bytes
+name-slot e st t k =
+    pick (eqb k (e .slot)) (new-entry (e .name) st) (name-entry (checksum (new-entry (e .name) st)) t (text-length t) (e .slot - k))
 
 -- "Root effect. Create: a new slot .. Update: size; first cluster becomes DIR_Cluster if the last was 0. Truncate: size; first
 -- cluster 0 if size is 0. Delete: first byte 0xE5. Rename: the new slot gets the new name and bytes 11 to 31 of the old, the old
 -- gets 0xE5." Delete and rename "also mark the old name's long entries with 0xE5", as many as the record's count says. Replace: "The root
--- slot gets that first cluster and size", those of the record. A create fills as many slots before its own as its count says.
+-- slot gets that first cluster and size", those of the record. A create fills as many slots before its own as its count says. The dates are
+-- those of the record's stamp: "Recovery gives that same stamp."
 unfoldable pub operation-edits : Operation → Bytes → List Edit
-operation-edits (Create e count) t = each (λ k b. name-slot e t k) (name-slots (e .slot) count)
-operation-edits (Update e last from size) t = edit (e .slot) (λ b. set-size size (pick (eqb last 0) (set-first from b) b)) ∷ []
+operation-edits (Create e count st) t = each (λ k b. name-slot e st t k) (name-slots (e .slot) count)
+operation-edits (Update e last from size st) t = edit (e .slot) (λ b. set-stamp st (set-size size (pick (eqb last 0) (set-first from b) b))) ∷ []
 operation-edits (Delete e count first size) t = marks (name-slots (e .slot) count)
-operation-edits (Truncate e first from size) t = edit (e .slot) (λ b. set-size size (pick (eqb size 0) (set-first 0 b) b)) ∷ []
+operation-edits (Truncate e first from size st) t = edit (e .slot) (λ b. set-stamp st (set-size size (pick (eqb size 0) (set-first 0 b) b))) ∷ []
 operation-edits (Rename e count first size to renamed) t =
     marks (name-slots (e .slot) count) ++ (edit-from (e .slot) to (λ b. set-name renamed b) ∷ [])
-operation-edits (Replace e first from size) t = edit (e .slot) (λ b. set-size size (set-first from b)) ∷ []
+operation-edits (Replace e first from size st) t = edit (e .slot) (λ b. set-stamp st (set-size size (set-first from b))) ∷ []
 
 unfoldable pub edits : Change → List Edit
 edits x = operation-edits (x .operation) (x .text)

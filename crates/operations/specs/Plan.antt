@@ -68,10 +68,10 @@ no-text = record { size = 0; byte = zeros }
 abbrev pub slots-for : Span → ℕ
 slots-for t = long-slots (t .size / 2)
 
-unfoldable pub create-stores : Volume → Card → ℕ → Name → Span → Program
-create-stores v c s name t =
+unfoldable pub create-stores : Volume → Card → ℕ → Name → Span → ℕ → Program
+create-stores v c s name t st =
     operate v c [] (old-fat v c)
-    (record { operation = Create (record { slot = s; name = name; attributes = 0x20 }) (slots-for t); text = text-of t })
+    (record { operation = Create (record { slot = s; name = name; attributes = 0x20 }) (slots-for t) st; text = text-of t })
 
 -- The clusters of a file.
 unfoldable pub clusters-of : Layout → Fat → File → List ℕ
@@ -112,28 +112,28 @@ extend old [] t = t
 extend old (k ∷ ks) t = link (last-of old ++ (k ∷ ks)) t
 
 -- An append along a file's old and new clusters.
-unfoldable pub append-along : Volume → Card → File → Span → List ℕ → List ℕ → Program
-append-along v c f d old new =
+unfoldable pub append-along : Volume → Card → File → Span → ℕ → List ℕ → List ℕ → Program
+append-along v c f d st old new =
     operate v c (data-stores (v .layout) c (old ++ new) (f .size) d) (extend old new (old-fat v c))
-    (plain (Update (f .entry) (last-cluster old) (getD new 0 0) (f .size + d .size)))
+    (plain (Update (f .entry) (last-cluster old) (getD new 0 0) (f .size + d .size) st))
 
-unfoldable pub append-stores : Volume → Card → File → Span → Program
-append-stores v c f d = append-along v c f d (clusters-of (v .layout) (old-fat v c) f) (new-clusters v c f (d .size))
+unfoldable pub append-stores : Volume → Card → File → Span → ℕ → Program
+append-stores v c f d st = append-along v c f d st (clusters-of (v .layout) (old-fat v c) f) (new-clusters v c f (d .size))
 
 -- "Freed entries are 0; where any is freed, the last one kept gets the end value."
 unfoldable pub shorten : List ℕ → List ℕ → Fat → Fat
 shorten kept [] t = t
 shorten kept (k ∷ ks) t = release (k ∷ ks) (link (last-of kept) t)
 
-unfoldable pub truncate-along : Volume → Card → File → ℕ → List ℕ → List ℕ → Program
-truncate-along v c f size kept freed =
-    operate v c [] (shorten kept freed (old-fat v c)) (plain (Truncate (f .entry) (f .first) (getD freed 0 0) size))
+unfoldable pub truncate-along : Volume → Card → File → ℕ → ℕ → List ℕ → List ℕ → Program
+truncate-along v c f size st kept freed =
+    operate v c [] (shorten kept freed (old-fat v c)) (plain (Truncate (f .entry) (f .first) (getD freed 0 0) size st))
 
-unfoldable pub truncate-stores : Volume → Card → File → ℕ → Program
-truncate-stores v c f size =
+unfoldable pub truncate-stores : Volume → Card → File → ℕ → ℕ → Program
+truncate-stores v c f size st =
     let ks = clusters-of (v .layout) (old-fat v c) f in
     let n = needed (v .layout) size in
-    truncate-along v c f size (take n ks) (drop n ks)
+    truncate-along v c f size st (take n ks) (drop n ks)
 
 -- How many entries of a long name belong to a file's slot.
 abbrev pub long-entries : Volume → Card → File → ℕ
@@ -156,13 +156,13 @@ exchange old new t = release old (link new t)
 
 -- "Data sectors go first, as in append": from the file's first byte on, along the new clusters alone. "The record has .. the old first
 -- cluster in first/last, the new first cluster (0 for no bytes) in DIR_Cluster, and the new size."
-unfoldable pub replace-along : Volume → Card → File → Span → List ℕ → List ℕ → Program
-replace-along v c f d old new =
+unfoldable pub replace-along : Volume → Card → File → Span → ℕ → List ℕ → List ℕ → Program
+replace-along v c f d st old new =
     operate v c (data-stores (v .layout) c new 0 d) (exchange old new (old-fat v c))
-    (plain (Replace (f .entry) (f .first) (getD new 0 0) (d .size)))
+    (plain (Replace (f .entry) (f .first) (getD new 0 0) (d .size) st))
 
-unfoldable pub replace-stores : Volume → Card → File → Span → Program
-replace-stores v c f d = replace-along v c f d (clusters-of (v .layout) (old-fat v c) f) (fresh-clusters v c (d .size))
+unfoldable pub replace-stores : Volume → Card → File → Span → ℕ → Program
+replace-stores v c f d st = replace-along v c f d st (clusters-of (v .layout) (old-fat v c) f) (fresh-clusters v c (d .size))
 
 -- "Recovery, pending group: FAT2 sectors that differ go to FAT1, rising, then 5 and 6 from the record. No pending group: FAT1
 -- sectors that differ go to FAT2, rising."

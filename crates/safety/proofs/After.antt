@@ -21,7 +21,8 @@ use Rattle.model.proofs.All.{All, all-map}
 use Rattle.model.proofs.Cards.{put-case, clip-clip, clip-same}
 use Rattle.model.proofs.Changes.{Clipped, Keeps, after-keeps, Covers, after-is}
 use Rattle.model.proofs.Records.{ChangeFits}
-use Rattle.model.proofs.Pendings.{Stored, Recorded}
+use Rattle.model.proofs.Recorded.{Recorded}
+use Rattle.model.proofs.Pendings.{Stored}
 use Rattle.model.proofs.Volumes.{layout-of, SameMarks, first-fat, area-of}
 use Rattle.safety.proofs.Start.{Fixed, Start, shape-of}
 use Rattle.operations.proofs.Edits.{Near, unconcerned, sector-mix}

@@ -11,6 +11,7 @@ use Rattle.model.specs.Sector.{Card, after}
 use Rattle.model.specs.Fat.{Fat, entry, release}
 use Rattle.model.specs.Chain.{needed, chain}
 use Rattle.model.specs.Root.{file-at, slot-at, first-cluster, file-size}
+use Rattle.model.specs.Calendar.{stamp-of}
 use Rattle.model.specs.Ground.{Answer, refused, granted}
 use Rattle.model.specs.Volume.{clean}
 use Rattle.model.specs.Promises.{Shape}
@@ -23,6 +24,7 @@ use Rattle.operations.specs.Calls.{Call, taken-by, released-by, slot-of, create
 use Rattle.operations.specs.Calls.{recover, recovers, plan}
 use Rattle.operations.specs.Outcome.{left, made, largest}
 use Rattle.safety.specs.Cuts.{program-of}
+use Rattle.model.proofs.Calendar.{stamp-small}
 use Rattle.model.proofs.All.{All, all-take}
 use Rattle.model.proofs.Lists.{drop-all}
 use Rattle.model.proofs.Walks.{chain-length}
@@ -65,20 +67,21 @@ module _ {size : ℕ} {c : Card} (st : Start size c) (is : clean (window size c)
   abbrev Shown : Call → Answer Program → Type 1
   Shown k a = Fair size c (if-granted a (taken-by v c k)) (if-granted a (released-by v c k)) (program-of a)
 
-  made-shown : (n t : Span) (p : Program) → Created st is n t p → Fair size c [] [] p
-  made-shown n t p a =
+  made-shown : (n t : Span) (sec : ℕ) (p : Program) → Created st is n t sec p → Fair size c [] [] p
+  made-shown n t sec p a =
       subst (Fair size c [] []) (a .same)
-      (plain-fair st fat (creates-as st n t) (create-supplies st n t (a .ok) (a .fine) (a .room)) [] [] (none-free fat))
+      (plain-fair st fat (creates-as st n t (stamp-of sec)) (create-supplies st n t (stamp-of sec) (a .ok) (a .fine) (a .room) (stamp-small sec
+      (a .timely))) [] [] (none-free fat))
 
-  create-shown : (n : Span) (a : Answer Program) → plan (creates n) (window size c) ≡ a → Shown (creates n) a
+  create-shown : (n : Span) (sec : ℕ) (a : Answer Program) → plan (creates n sec) (window size c) ≡ a → Shown (creates n sec) a
   unfolding taken-by released-by
-  create-shown n (refused g) h = idle-fair st is
-  create-shown n (granted p) h = made-shown n no-text p (create-granted st is n p h)
+  create-shown n sec (refused g) h = idle-fair st is
+  create-shown n sec (granted p) h = made-shown n no-text sec p (create-granted st is n sec p h)
 
-  long-shown : (n t : Span) (a : Answer Program) → plan (creates-long n t) (window size c) ≡ a → Shown (creates-long n t) a
+  long-shown : (n t : Span) (sec : ℕ) (a : Answer Program) → plan (creates-long n t sec) (window size c) ≡ a → Shown (creates-long n t sec) a
   unfolding taken-by released-by
-  long-shown n t (refused g) h = idle-fair st is
-  long-shown n t (granted p) h = made-shown n t p (long-granted st is n t p h)
+  long-shown n t sec (refused g) h = idle-fair st is
+  long-shown n t sec (granted p) h = made-shown n t sec p (long-granted st is n t sec p h)
 
   rename-shown : (n m : Span) (a : Answer Program) → plan (renames n m) (window size c) ≡ a → Shown (renames n m) a
   unfolding taken-by released-by
@@ -108,11 +111,11 @@ module _ {size : ℕ} {c : Card} (st : Start size c) (is : clean (window size c)
   nothing-freed s m e = drop-all (needed l m) (chain (entry fat) (needed l (file-size (slot-at l c s))) (first-cluster (slot-at l c s)))
       (rw (chain-length (entry fat) (needed l (file-size (slot-at l c s))) (first-cluster (slot-at l c s)), e) (omega arith))
 
-  truncate-shown : (n : Span) (m : ℕ) (a : Answer Program) → plan (truncates n m) (window size c) ≡ a → Shown (truncates n m) a
+  truncate-shown : (n : Span) (m sec : ℕ) (a : Answer Program) → plan (truncates n m sec) (window size c) ≡ a → Shown (truncates n m sec) a
   unfolding taken-by released-by named-file clusters-of file-at
-  truncate-shown n m (refused g) h = idle-fair st is
-  truncate-shown n m (granted p) h =
-      let a : Truncated st is n m p = truncate-granted st is n m p h in
+  truncate-shown n m sec (refused g) h = idle-fair st is
+  truncate-shown n m sec (granted p) h =
+      let a : Truncated st is n m sec p = truncate-granted st is n m sec p h in
       let live = a .it .live in
       let keeps = a .it .keeps in
       let js : List ℕ = ks st (at n) live keeps in
@@ -122,7 +125,8 @@ module _ {size : ℕ} {c : Card} (st : Start size c) (is : clean (window size c)
       ⊎-elim
       (λ z. idle-shown [] (drop i js) p refl (nothing-freed (at n) m (omega (arith, z .0, a .less))) (z .1))
       (λ z. subst (Fair size c [] (drop i js)) (z .1)
-      (plain-fair st (cut-fat st (at n) live keeps m) (truncates-as st (at n) live keeps m) (truncate-supplies st (at n) live keeps m (a .less)) [] (drop i js)
+      (plain-fair st (cut-fat st (at n) live keeps m) (truncates-as st (at n) live keeps m (stamp-of sec)) (truncate-supplies st (at n) live keeps m
+      (stamp-of sec) (a .less) (stamp-small sec (a .timely))) [] (drop i js)
       (shorten-free l (sh .few) fat (take i js) (all-take (Plain l fat) i js kept) (all-take (λ k. entry fat k ≡ 0 → ⊥) i js busy) (drop i js))))
       (a .same)
 
@@ -133,11 +137,11 @@ module _ {size : ℕ} {c : Card} (st : Start size c) (is : clean (window size c)
       let none : needed l (file-at l c s .size + n) - needed l (file-at l c s .size) ≡ 0 = rw same (omega arith) in
       rw none
 
-  append-shown : (n d : Span) (a : Answer Program) → plan (appends n d) (window size c) ≡ a → Shown (appends n d) a
+  append-shown : (n d : Span) (sec : ℕ) (a : Answer Program) → plan (appends n d sec) (window size c) ≡ a → Shown (appends n d sec) a
   unfolding taken-by released-by named-file
-  append-shown n d (refused g) h = idle-fair st is
-  append-shown n d (granted p) h =
-      let a : Appended st is n d p = append-granted st is n d p h in
+  append-shown n d sec (refused g) h = idle-fair st is
+  append-shown n d sec (granted p) h =
+      let a : Appended st is n d sec p = append-granted st is n d sec p h in
       let s : ℕ = at n in
       let live = a .it .live in
       let keeps = a .it .keeps in
@@ -146,21 +150,23 @@ module _ {size : ℕ} {c : Card} (st : Start size c) (is : clean (window size c)
       ⊎-elim
       (λ z. idle-shown new [] p (nothing-taken s (d .size) (z .0)) refl (z .1))
       (λ z. subst (Fair size c new []) (z .1)
-      (operate-fair st (ds st x) (longer-fat st s live keeps x) (updates-as st s live keeps x) (append-supplies st s live keeps x) new [] (few-data st x)
+      (operate-fair st (ds st x) (longer-fat st s live keeps x) (updates-as st s live keeps x (stamp-of sec)) (append-supplies st s live keeps x
+      (stamp-of sec) (stamp-small sec (a .timely))) new [] (few-data st x)
       (extend-free l (sh .few) fat (ks st s live keeps) (old-plain st s live keeps) (old-busy st s live keeps) new (new-plain st x))
       (append-spared st s live keeps x (a .it .file))))
       (a .same)
 
-  replace-shown : (n d : Span) (a : Answer Program) → plan (replaces n d) (window size c) ≡ a → Shown (replaces n d) a
+  replace-shown : (n d : Span) (sec : ℕ) (a : Answer Program) → plan (replaces n d sec) (window size c) ≡ a → Shown (replaces n d sec) a
   unfolding taken-by released-by named-file clusters-of file-at
-  replace-shown n d (refused g) h = idle-fair st is
-  replace-shown n d (granted p) h =
-      let a : Replaced st is n d p = replace-granted st is n d p h in
+  replace-shown n d sec (refused g) h = idle-fair st is
+  replace-shown n d sec (granted p) h =
+      let a : Replaced st is n d sec p = replace-granted st is n d sec p h in
       let live = a .it .live in
       let keeps = a .it .keeps in
       let x : Renewal st is d = a .extent in
       subst (Fair size c _ _) (a .same)
-      (operate-fair st (ds st x) (exchanged-fat st (at n) live keeps x) (replaces-as st (at n) live keeps x) (replace-supplies st (at n) live keeps x) _ _
+      (operate-fair st (ds st x) (exchanged-fat st (at n) live keeps x) (replaces-as st (at n) live keeps x (stamp-of sec)) (replace-supplies st
+      (at n) live keeps x (stamp-of sec) (stamp-small sec (a .timely))) _ _
       (few-data st x) (exchange-free l (sh .few) fat (ks st (at n) live keeps) (fresh-clusters v c (d .size)) (new-plain st x)) (replace-spared st x))
 
   -- Recovery of a clean card stores nothing.
@@ -170,13 +176,13 @@ module _ {size : ℕ} {c : Card} (st : Start size c) (is : clean (window size c)
 
   pub shown : (k : Call) → Shown k (plan k (window size c))
   unfolding plan
-  shown (creates n) = create-shown n (plan (creates n) (window size c)) refl
-  shown (creates-long n t) = long-shown n t (plan (creates-long n t) (window size c)) refl
-  shown (appends n d) = append-shown n d (plan (appends n d) (window size c)) refl
-  shown (truncates n m) = truncate-shown n m (plan (truncates n m) (window size c)) refl
+  shown (creates n sec) = create-shown n sec (plan (creates n sec) (window size c)) refl
+  shown (creates-long n t sec) = long-shown n t sec (plan (creates-long n t sec) (window size c)) refl
+  shown (appends n d sec) = append-shown n d sec (plan (appends n d sec) (window size c)) refl
+  shown (truncates n m sec) = truncate-shown n m sec (plan (truncates n m sec) (window size c)) refl
   shown (deletes n) = delete-shown n (plan (deletes n) (window size c)) refl
   shown (renames n m) = rename-shown n m (plan (renames n m) (window size c)) refl
-  shown (replaces n d) = replace-shown n d (plan (replaces n d) (window size c)) refl
+  shown (replaces n d sec) = replace-shown n d sec (plan (replaces n d sec) (window size c)) refl
   shown recovers = recover-shown (recover (window size c)) refl
 
   -- With the largest limit all is stored.

@@ -13,6 +13,7 @@ use Rattle.model.specs.Sector.{Card, Window, after}
 use Rattle.model.specs.Fat.{Fat, entry}
 use Rattle.model.specs.Chain.{needed, file-sector}
 use Rattle.model.specs.Root.{slot-at, file-size, first-cluster, file-at, entry-at}
+use Rattle.model.specs.Calendar.{stamp-of}
 use Rattle.model.specs.Ground.{granted}
 use Rattle.model.specs.Volume.{clean}
 use Rattle.model.specs.Promises.{Shape}
@@ -27,6 +28,7 @@ use Rattle.operations.specs.Outcome.{left, largest}
 use Rattle.operations.specs.Reading.{file-byte}
 use Rattle.safety.specs.Sound.{chain-of, proper}
 use Rattle.safety.specs.Saved.{Holds}
+use Rattle.model.proofs.Calendar.{stamp-small}
 use Rattle.model.proofs.Tests.{same?}
 use Rattle.model.proofs.All.{All, all-map, all-take}
 use Rattle.model.proofs.Cards.{after-nil}
@@ -88,19 +90,20 @@ module _ {size : ℕ} {c : Card} (st : Start size c) (s : ℕ) (live : Live (lay
 
   -- ---- cut to n bytes
 
-  module _ (n : ℕ) (less : n < file-size b) {t : Card} (end : Ended size c [] (cut-fat st s live keeps n) (truncates-as st s live keeps n) t) where
+  module _ (n : ℕ) (less : n < file-size b) {stamp : ℕ} {t : Card}
+      (end : Ended size c [] (cut-fat st s live keeps n) (truncates-as st s live keeps n stamp) t) where
     abbrev new : Bytes
-    new = resized (eqb n 0) 0 n b
+    new = resized (eqb n 0) 0 n stamp b
 
-    pub cut-edit : Resizes c (truncates-as st s live keeps n) s new
+    pub cut-edit : Resizes c (truncates-as st s live keeps n stamp) s new
     unfolding edits operation-edits entry-at
-    cut-edit = resizes c (truncates-as st s live keeps n) s (eqb n 0) 0 n refl
+    cut-edit = resizes c (truncates-as st s live keeps n stamp) s (eqb n 0) 0 n stamp refl
 
     pub cut-size : file-size new ≡ n
-    cut-size = resized-size (eqb n 0) 0 n b (omega (arith, size-fits st s live))
+    cut-size = resized-size (eqb n 0) 0 n stamp b (omega (arith, size-fits st s live))
 
     cut-first : first-cluster new ≡ pick (eqb n 0) 0 (first-cluster b)
-    cut-first = resized-first (eqb n 0) 0 n b (omega arith)
+    cut-first = resized-first (eqb n 0) 0 n stamp b (omega arith)
 
     abbrev few : ℕ
     few = needed l n
@@ -151,8 +154,8 @@ module _ {size : ℕ} {c : Card} (st : Start size c) (is : clean (window size c)
   unfolding after
   unstored n m content h = h
 
-  module _ (n : Span) (m : ℕ) (g : NamedFile st is n) (less : m < file-size (slot-at (layout-of c) c (at n))) {t : Card}
-      (end : Ended size c [] (cut-fat st (at n) (g .live) (g .keeps) m) (truncates-as st (at n) (g .live) (g .keeps) m) t) where
+  module _ (n : Span) (m : ℕ) (g : NamedFile st is n) (less : m < file-size (slot-at (layout-of c) c (at n))) {stamp : ℕ} {t : Card}
+      (end : Ended size c [] (cut-fat st (at n) (g .live) (g .keeps) m) (truncates-as st (at n) (g .live) (g .keeps) m stamp) t) where
     cut-then : (size′ : ℕ) (content : Bytes) → Holds w n size′ content → Holds (window size t) n m content
     cut-then size′ content h =
         let x : ℕ = at n in
@@ -161,20 +164,20 @@ module _ {size : ℕ} {c : Card} (st : Start size c) (is : clean (window size c)
         (cut-chain st x (g .live) (g .keeps) m less end .keeps)
         (λ i small. cut-bytes st x (g .live) (g .keeps) m less end i small ∙ r .same i (omega (arith, r .sized)))
 
-  pub truncate-holds : (n : Span) (m : ℕ) (p : Program) → plan (truncates n m) w ≡ granted p → (size′ : ℕ) (content : Bytes) → Holds w n size′ content
-      → Holds (left largest (truncates n m) w) n m content
-  truncate-holds n m p h size′ content holds =
-      let g : Truncated st is n m p = truncate-granted st is n m p h in
+  pub truncate-holds : (n : Span) (m sec : ℕ) (p : Program) → plan (truncates n m sec) w ≡ granted p → (size′ : ℕ) (content : Bytes) → Holds w n size′ content
+      → Holds (left largest (truncates n m sec) w) n m content
+  truncate-holds n m sec p h size′ content holds =
+      let g : Truncated st is n m sec p = truncate-granted st is n m sec p h in
       let f : NamedFile st is n = g .it in
       let old : ℕ = file-size (slot-at (layout-of c) c (at n)) in
       let le : m ≤ old = g .less in
       ⊎-elim
       (λ a. let sized : old ≡ size′ = holds-read w v is n size′ content holds .sized in
       let none : old - m ≡ 0 = a .0 in
-      finish-with st is (λ x. Holds x n m content) (truncates n m) p (ending []) h (sym (a .1))
+      finish-with st is (λ x. Holds x n m content) (truncates n m sec) p (ending []) h (sym (a .1))
       (unstored n m content (subst (λ k. Holds w n k content) (let e : size′ ≡ m = omega arith in e) holds)))
       (λ a. let some : old - m ≡ 0 → ⊥ = a .0 in
-      finish-with st is (λ x. Holds x n m content) (truncates n m) p _ h (a .1)
-      (cut-then n m f (omega arith) (ended st [] _ (truncates-as st (at n) (f .live) (f .keeps) m)
-      (truncate-supplies st (at n) (f .live) (f .keeps) m le)) size′ content holds))
+      finish-with st is (λ x. Holds x n m content) (truncates n m sec) p _ h (a .1)
+      (cut-then n m f (omega arith) (ended st [] _ (truncates-as st (at n) (f .live) (f .keeps) m (stamp-of sec))
+      (truncate-supplies st (at n) (f .live) (f .keeps) m (stamp-of sec) le (stamp-small sec (g .timely)))) size′ content holds))
       (g .same)

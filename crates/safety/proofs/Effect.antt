@@ -12,11 +12,11 @@ use Rattle.model.specs.Root.{Directory}
 use Rattle.model.specs.Record.{Change, records, operation-records, operation-of}
 use Rattle.model.specs.Pending.{named-slots}
 use Rattle.model.specs.declared.Operation.{Operation}
-use Rattle.operations.specs.Finish.{set-first, set-size, Edit, set-slots, marks, operation-edits, edits, effect, Slots}
+use Rattle.operations.specs.Finish.{set-stamp, set-first, set-size, Edit, set-slots, marks, operation-edits, edits, effect, Slots}
 use Rattle.model.proofs.Tests.{same?, clash}
 use Rattle.model.proofs.All.{All}
 use Rattle.model.proofs.Records.{listed, operation-back}
-use Rattle.model.proofs.Pendings.{Recorded}
+use Rattle.model.proofs.Recorded.{Recorded}
 use Rattle.operations.proofs.Edits.{set-in, set-out}
 use Rattle.operations.proofs.Seats.{Seated, told-seats, told-slots, slots-of, edit-slots}
 
@@ -49,10 +49,10 @@ marks-live d [] = tt
 marks-live d (k ∷ ks) = ((λ r. omega arith), marks-live d ks)
 
 -- A new size and first cluster do not change the first byte.
-pub resized-lives : (t : Bool) (k size : ℕ) (b : Bytes) → (b 0 ≡ 0 → ⊥) → set-size size (pick t (set-first k b) b) 0 ≡ 0 → ⊥
+pub resized-lives : (t : Bool) (k size stamp : ℕ) (b : Bytes) → (b 0 ≡ 0 → ⊥) → set-stamp stamp (set-size size (pick t (set-first k b) b)) 0 ≡ 0 → ⊥
 unfolding overlay
-resized-lives true k size b h e = h e
-resized-lives false k size b h e = h e
+resized-lives true k size stamp b h e = h e
+resized-lives false k size stamp b h e = h e
 
 -- So a slot that is edited has what all edits' slots have, and begins otherwise than 0 then.
 edits-begin : (P : ℕ → Type 0) (es : List Edit) (d : Directory) (k : ℕ) → All (λ e. P (e .slot) × Begun d e) es → among (slots-of es) k ≡ true

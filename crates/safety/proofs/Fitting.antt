@@ -13,8 +13,9 @@ use Rattle.model.specs.Scan.{any, count-from, nth-from}
 use Rattle.model.specs.Sector.{Card, Window}
 use Rattle.model.specs.Fat.{is-free, entry, fat1-of, free-clusters}
 use Rattle.model.specs.Chain.{needed}
+use Rattle.model.specs.Calendar.{stamp-of, last-second}
 use Rattle.model.specs.Ground.{Answer, refused, granted, _when_, _>>_}
-use Rattle.model.specs.Volume.{clean}
+use Rattle.model.specs.Volume.{clean, clean-at}
 use Rattle.model.specs.declared.File.{File}
 use Rattle.model.specs.declared.Ground.{Ground}
 use Rattle.model.specs.declared.Layout.{Layout}
@@ -28,7 +29,7 @@ use Rattle.model.proofs.Searches.{indices-count}
 use Rattle.model.proofs.Indices.{Rising, pairwise-take, pairwise-indices, all-getD}
 use Rattle.model.proofs.Nths.{Placed, nth-placed, placed-here, placed-below, nth-inside}
 use Rattle.model.proofs.Grounds.{passed, then}
-use Rattle.model.proofs.Volumes.{cleaned, fit-shape, volume-of}
+use Rattle.model.proofs.Volumes.{cleaned, fit-shape, volume-of, at-granted}
 use Rattle.operations.specs.Program.{Program}
 use Rattle.operations.specs.Plan.{added, last-cluster, new-clusters, fresh-clusters}
 use Rattle.operations.specs.Calls.{Call, creates, appends, replaces, plan, append, append-on, append-to, replace, replace-on, replace-file, file-of, named-file}
@@ -110,28 +111,28 @@ module _ (w : Window) (v : Volume) (is : clean w ≡ granted v) where
         go (inr enough) =
             record { says-no = λ e. refused-granted e (long enough .1); says-yes = λ _. top enough; goes-on = λ j e. long enough }
 
-  module _ (n d : Span) (f : File) (found : file-of Access.Write v c n ≡ granted f) where
-    append-is : plan (appends n d) w ≡ append-to v c f d
+  module _ (n d : Span) (sec : ℕ) (timely : sec ≤ last-second) (f : File) (found : file-of Access.Write v c n ≡ granted f) where
+    append-is : plan (appends n d sec) w ≡ append-to v c f d (stamp-of sec)
     unfolding plan append append-on
-    append-is = then (clean w) _ v is ∙ then (file-of Access.Write v c n) _ f found
+    append-is = then (clean-at w sec) _ v (at-granted w sec v is timely) ∙ then (file-of Access.Write v c n) _ f found
 
-    replace-is : plan (replaces n d) w ≡ replace-file v c f d
+    replace-is : plan (replaces n d sec) w ≡ replace-file v c f d (stamp-of sec)
     unfolding plan replace replace-on
-    replace-is = then (clean w) _ v is ∙ then (file-of Access.Write v c n) _ f found
+    replace-is = then (clean-at w sec) _ v (at-granted w sec v is timely) ∙ then (file-of Access.Write v c n) _ f found
 
-    tells-append : f .size ≡ 0 → Tells w v (d .size) (appends n d)
+    tells-append : f .size ≡ 0 → Tells w v (d .size) (appends n d sec)
     unfolding append-to taken-by new-clusters named-file
     tells-append empty =
         let e : added l f (d .size) ≡ needed l (d .size) = added-empty l some-sectors f (d .size) empty in
-        tells (d .size) (appends n d)
+        tells (d .size) (appends n d sec)
         (λ few. append-is ∙ space (length ks) (added l f (d .size)) _ (omega arith))
         (λ enough. (_, append-is ∙ passed Ground.Nospace _ _ (le-ltb (length ks) (added l f (d .size)) (omega arith))))
         (ap (λ (g : File). take (added l g (d .size)) ks) (found-in w v is Access.Write n f found .mine) ∙ ap (λ m. take m ks) e)
 
-    tells-replace : Tells w v (d .size) (replaces n d)
+    tells-replace : Tells w v (d .size) (replaces n d sec)
     unfolding replace-file taken-by fresh-clusters
     tells-replace =
-        tells (d .size) (replaces n d)
+        tells (d .size) (replaces n d sec)
         (λ few. replace-is ∙ space (length ks) (needed l (d .size)) _ few)
         (λ enough. (_, replace-is ∙ passed Ground.Nospace _ _ (le-ltb (length ks) (needed l (d .size)) enough)))
         refl
@@ -179,35 +180,35 @@ pub fits-lowest : FitsLowest
 fits-lowest w v is bytes k e = lowest-of w v is bytes k e
 
 pub fits-append : FitsAppend
-fits-append w v is n d file = tells-append w v is n d (file .0) (file .1) (file .2)
+fits-append w v is n d sec timely file = tells-append w v is n d sec timely (file .0) (file .1) (file .2)
 
 pub fits-replace : FitsReplace
-fits-replace w v is n d f found = tells-replace w v is n d f found
+fits-replace w v is n d sec timely f found = tells-replace w v is n d sec timely f found
 
 -- ---- a path that fits, saved under a new name
 
 -- A create takes no cluster, and frees none.
-create-free : (w : Window) (v : Volume) → Genuine w → clean w ≡ granted v → (n : Span) (p : Program) → plan (creates n) w ≡ granted p
-    → free-clusters (v .layout) (fat1-of (v .layout) (finished (creates n) w)) ≡ free-clusters (v .layout) (fat1-of (v .layout) (w .card))
+create-free : (w : Window) (v : Volume) → Genuine w → clean w ≡ granted v → (n : Span) (sec : ℕ) (p : Program) → plan (creates n sec) w ≡ granted p
+    → free-clusters (v .layout) (fat1-of (v .layout) (finished (creates n sec) w)) ≡ free-clusters (v .layout) (fat1-of (v .layout) (w .card))
 unfolding free-clusters released-by taken-by any
-create-free w v real is n p made =
-    let t : Card = finished (creates n) w in
+create-free w v real is n sec p made =
+    let t : Card = finished (creates n sec) w in
     indices-same (λ j. is-free (entry (fat1-of (v .layout) t) j)) (λ j. is-free (entry (fat1-of (v .layout) (w .card)) j)) 2 (v .layout .clusters)
-    (λ j lo hi. after-calls (creates n) w v real is .free-clusters-then p made j hi ∙ and-true (is-free (entry (fat1-of (v .layout) (w .card)) j)))
+    (λ j lo hi. after-calls (creates n sec) w v real is .free-clusters-then p made j hi ∙ and-true (is-free (entry (fat1-of (v .layout) (w .card)) j)))
 
 -- Its file may be written, and is empty.
-pub created-empty : (w : Window) (v : Volume) → Genuine w → clean w ≡ granted v → (n : Span) (p : Program) → plan (creates n) w ≡ granted p
-    → Empty v (finished (creates n) w) n
-created-empty w v real is n p made =
+pub created-empty : (w : Window) (v : Volume) → Genuine w → clean w ≡ granted v → (n : Span) (sec : ℕ) (p : Program) → plan (creates n sec) w ≡ granted p
+    → Empty v (finished (creates n sec) w) n
+created-empty w v real is n sec p made =
     let same : v ≡ volume-of (w .card) Pending.Nothing = volume-is w v is in
-    rw same (create-leaves (started w v real is) (is ∙ ap granted same) n p made)
+    rw same (create-leaves (started w v real is) (is ∙ ap granted same) n sec p made)
 
 pub fitting-saved : FittingSaved
-fitting-saved w v real is n d cluster room p made =
-    let x : Window = left largest (creates n) w in
-    let is′ : clean x ≡ granted v = after-calls (creates n) w v real is .clean-again in
+fitting-saved w v real is n d cluster room sec t timely p made =
+    let x : Window = left largest (creates n sec) w in
+    let is′ : clean x ≡ granted v = after-calls (creates n sec) w v real is .clean-again in
     let same : fits x (d .size) ≡ fits w (d .size) =
-    by-free x v is′ (d .size) ∙ ap (λ ks. granted (fit (needed (v .layout) (d .size)) ks)) (create-free w v real is n p made)
+    by-free x v is′ (d .size) ∙ ap (λ ks. granted (fit (needed (v .layout) (d .size)) ks)) (create-free w v real is n sec p made)
     ∙ sym (by-free w v is (d .size)) in
-    let more = fits-append x v is′ n d (created-empty w v real is n p made) .goes-on cluster (same ∙ room) in
-    path-saved w v real is n d p (more .0) made (more .1)
+    let more = fits-append x v is′ n d t timely (created-empty w v real is n sec p made) .goes-on cluster (same ∙ room) in
+    path-saved w v real is n d sec t p (more .0) made (more .1)

@@ -16,7 +16,8 @@ use Rattle.model.specs.Chain.{needed}
 use Rattle.model.specs.LongName.{text-ok}
 use Rattle.model.specs.Root.{slot-at, name-ok, free-run, free-slot, file-size, entry-at, file-at, is-file, is-directory, is-locked}
 use Rattle.model.specs.Ground.{Answer, granted, _>>=_}
-use Rattle.model.specs.Volume.{clean}
+use Rattle.model.specs.Calendar.{stamp-of, last-second}
+use Rattle.model.specs.Volume.{clean, clean-at}
 use Rattle.model.specs.declared.File.{File}
 use Rattle.model.specs.declared.Layout.{Layout}
 use Rattle.model.specs.declared.Pending.{Pending}
@@ -37,7 +38,7 @@ use Rattle.operations.proofs.Spelled.{TextFine}
 use Rattle.model.proofs.Tests.{which, or-false, and-left, and-right, and-both}
 use Rattle.model.proofs.Grounds.{then, asked, bound}
 use Rattle.model.proofs.Names.{Live, found-live, found-listed}
-use Rattle.model.proofs.Volumes.{window, layout-of, first-fat, volume-of}
+use Rattle.model.proofs.Volumes.{window, layout-of, first-fat, volume-of, timely}
 use Rattle.safety.proofs.Start.{Start, shape-of}
 use Rattle.safety.proofs.Operations.{KeepsChain}
 use Rattle.safety.proofs.Readings.{Meant, admitted-in, unmarked-in, found-in}
@@ -66,6 +67,15 @@ module _ {size : ℕ} {c : Card} (st : Start size c) (is : clean (window size c)
 
   opened : {B : Type 0} (k : Volume → Answer B) (a : Answer B) → (clean w >>= k) ≡ a → k v ≡ a
   opened k a h = sym (then (clean w) k v is) ∙ h
+
+  -- The seconds of a granted call pass CLOCK.
+  opened-at : {B : Type 0} (sec : ℕ) (k : Volume → Answer B) (b : B) → (clean-at w sec >>= k) ≡ granted b → (sec ≤ last-second) × (k v ≡ granted b)
+  opened-at sec k b h =
+      let a = bound (clean-at w sec) k b h in
+      let t = timely w sec (a .0) (a .1) in
+      let e : granted (a .0) ≡ granted v = sym (t .0) ∙ is in
+      let same : a .0 ≡ v = cc in
+      (t .1, ap k (sym same) ∙ a .2)
 
   -- A run of m free slots is there.
   abbrev pub Room : ℕ → Type 0
@@ -98,34 +108,38 @@ module _ {size : ℕ} {c : Card} (st : Start size c) (is : clean (window size c)
   -- ---- create and rename
 
   -- A create, with a text or without.
-  pub record Created (n t : Span) (p : Program) : Type 0 where
+  pub record Created (n t : Span) (sec : ℕ) (p : Program) : Type 0 where
+    pub timely : sec ≤ last-second
     pub ok : name-ok n ≡ true
     pub fine : TextFine t
     pub unused : l .entries ≤ at n
     pub room : Room (slots-for t + 1)
-    pub same : operate v c [] fat (creates-as st n t) ≡ p
+    pub same : operate v c [] fat (creates-as st n t (stamp-of sec)) ≡ p
 
-  created-as : (n t : Span) (p : Program) → name-ok n ≡ true → TextFine t → create-as v c n t ≡ granted p → Created n t p
+  created-as : (n t : Span) (sec : ℕ) (p : Program) → sec ≤ last-second → name-ok n ≡ true → TextFine t
+      → create-as v c n t (stamp-of sec) ≡ granted p → Created n t sec p
   unfolding create-as create-stores
-  created-as n t p ok fine h =
+  created-as n t sec p timely ok fine h =
       let b = bound (new-slot v c n t) _ p h in
       let a = placed n t (b .0) (b .1) in
-      let e : granted (create-stores v c (b .0) (name-of n) t) ≡ granted p = b .2 in
-      let s : create-stores v c (b .0) (name-of n) t ≡ p = cc in
-      record { ok = ok; fine = fine; unused = a .0; room = a .1; same = ap (λ k. create-stores v c k (name-of n) t) (a .2) ∙ s }
+      let e : granted (create-stores v c (b .0) (name-of n) t (stamp-of sec)) ≡ granted p = b .2 in
+      let s : create-stores v c (b .0) (name-of n) t (stamp-of sec) ≡ p = cc in
+      record { timely = timely; ok = ok; fine = fine; unused = a .0; room = a .1; same = ap (λ k. create-stores v c k (name-of n) t (stamp-of sec)) (a .2) ∙ s }
 
-  pub create-granted : (n : Span) (p : Program) → plan (creates n) w ≡ granted p → Created n no-text p
+  pub create-granted : (n : Span) (sec : ℕ) (p : Program) → plan (creates n sec) w ≡ granted p → Created n no-text sec p
   unfolding plan create create-on
-  create-granted n p h =
-      let h1 = asked Ground.Name (not (name-ok n)) _ p (opened _ (granted p) h) in
-      created-as n no-text p (not-false (name-ok n) (h1 .0)) (inl refl) (h1 .1)
+  create-granted n sec p h =
+      let a = opened-at sec _ p h in
+      let h1 = asked Ground.Name (not (name-ok n)) _ p (a .1) in
+      created-as n no-text sec p (a .0) (not-false (name-ok n) (h1 .0)) (inl refl) (h1 .1)
 
-  pub long-granted : (n t : Span) (p : Program) → plan (creates-long n t) w ≡ granted p → Created n t p
+  pub long-granted : (n t : Span) (sec : ℕ) (p : Program) → plan (creates-long n t sec) w ≡ granted p → Created n t sec p
   unfolding plan create-long create-long-on
-  long-granted n t p h =
-      let h1 = asked Ground.Name (not (name-ok n)) _ p (opened _ (granted p) h) in
+  long-granted n t sec p h =
+      let a = opened-at sec _ p h in
+      let h1 = asked Ground.Name (not (name-ok n)) _ p (a .1) in
       let h2 = asked Ground.Longname (not (text-ok t)) _ p (h1 .1) in
-      created-as n t p (not-false (name-ok n) (h1 .0)) (inr (not-false (text-ok t) (h2 .0))) (h2 .1)
+      created-as n t sec p (a .0) (not-false (name-ok n) (h1 .0)) (inr (not-false (text-ok t) (h2 .0))) (h2 .1)
 
   pub record Renamed (n m : Span) (p : Program) : Type 0 where
     pub ok : name-ok n ≡ true
@@ -202,81 +216,91 @@ module _ {size : ℕ} {c : Card} (st : Start size c) (is : clean (window size c)
   unfolding unless-none
   unless-is n q p h = ⊎-elim (λ a. inl (eqb-true n 0 (a .0), sym (a .1))) (λ a. inr (eqb-false n 0 (a .0), a .1)) (which (eqb n 0) (ending []) q p h)
 
-  pub record Truncated (n : Span) (m : ℕ) (p : Program) : Type 0 where
+  pub record Truncated (n : Span) (m sec : ℕ) (p : Program) : Type 0 where
+    pub timely : sec ≤ last-second
     pub it : NamedFile n
     pub less : m ≤ file-size (slot-at l c (at n))
     pub same : Unless (file-size (slot-at l c (at n)) - m)
-        (operate v c [] (cut-fat st (at n) (it .live) (it .keeps) m) (truncates-as st (at n) (it .live) (it .keeps) m)) p
+        (operate v c [] (cut-fat st (at n) (it .live) (it .keeps) m) (truncates-as st (at n) (it .live) (it .keeps) m (stamp-of sec))) p
 
-  pub truncate-granted : (n : Span) (m : ℕ) (p : Program) → plan (truncates n m) w ≡ granted p → Truncated n m p
+  pub truncate-granted : (n : Span) (m sec : ℕ) (p : Program) → plan (truncates n m sec) w ≡ granted p → Truncated n m sec p
   unfolding plan truncate truncate-on truncate-as truncate-stores truncate-along file-at clusters-of
-  truncate-granted n m p h =
-      let b = bound (file-of Access.Write v c n) _ p (opened _ (granted p) h) in
+  truncate-granted n m sec p h =
+      let a = opened-at sec _ p h in
+      let b = bound (file-of Access.Write v c n) _ p (a .1) in
       let f : File = b .0 in
       let h2 = asked Ground.Length (ltb (f .size) m) _ p (b .2) in
-      let e : granted (unless-none (f .size - m) (truncate-stores v c f m)) ≡ granted p = h2 .1 in
-      let s : unless-none (f .size - m) (truncate-stores v c f m) ≡ p = cc in
+      let e : granted (unless-none (f .size - m) (truncate-stores v c f m (stamp-of sec))) ≡ granted p = h2 .1 in
+      let s : unless-none (f .size - m) (truncate-stores v c f m (stamp-of sec)) ≡ p = cc in
       let mine : file-at l c (at n) ≡ f = found-file n f (b .1) in
       let sized : file-size (slot-at l c (at n)) ≡ f .size = ap (λ f. f .size) mine in
       let le : m ≤ f .size = ltb-false (f .size) m (h2 .0) in
       record {
+        timely = a .0;
         it = named-in n f (b .1);
         less = omega arith;
         same = unless-is _ _ p
-            (ap (λ (g : File). unless-none (g .size - m) (truncate-stores v c g m)) mine ∙ s);
+            (ap (λ (g : File). unless-none (g .size - m) (truncate-stores v c g m (stamp-of sec))) mine ∙ s);
       }
 
   -- The clusters that an append is written along.
   abbrev pub Growth : (n d : Span) → NamedFile n → Type 0
   Growth n d g = Extent c (ks st (at n) (g .live) (g .keeps)) (new-clusters v c (file-at l c (at n)) (d .size)) (file-size (slot-at l c (at n))) d
 
-  pub record Appended (n d : Span) (p : Program) : Type 0 where
+  pub record Appended (n d : Span) (sec : ℕ) (p : Program) : Type 0 where
+    pub timely : sec ≤ last-second
     pub it : NamedFile n
     pub extent : Growth n d it
     pub same : Unless (d .size)
-        (operate v c (ds st extent) (longer-fat st (at n) (it .live) (it .keeps) extent) (updates-as st (at n) (it .live) (it .keeps) extent)) p
+        (operate v c (ds st extent) (longer-fat st (at n) (it .live) (it .keeps) extent) (updates-as st (at n) (it .live) (it .keeps) extent (stamp-of sec))) p
 
-  pub append-granted : (n d : Span) (p : Program) → plan (appends n d) w ≡ granted p → Appended n d p
+  pub append-granted : (n d : Span) (sec : ℕ) (p : Program) → plan (appends n d sec) w ≡ granted p → Appended n d sec p
   unfolding plan append append-on append-to append-stores append-along file-at clusters-of new-clusters
-  append-granted n d p h =
-      let b = bound (file-of Access.Write v c n) _ p (opened _ (granted p) h) in
+  append-granted n d sec p h =
+      let a = opened-at sec _ p h in
+      let b = bound (file-of Access.Write v c n) _ p (a .1) in
       let f : File = b .0 in
       let h2 = asked Ground.Nospace (ltb (length (free-clusters l fat)) (added l f (d .size))) _ p (b .2) in
-      let e : granted (unless-none (d .size) (append-stores v c f d)) ≡ granted p = h2 .1 in
-      let s : unless-none (d .size) (append-stores v c f d) ≡ p = cc in
+      let e : granted (unless-none (d .size) (append-stores v c f d (stamp-of sec))) ≡ granted p = h2 .1 in
+      let s : unless-none (d .size) (append-stores v c f d (stamp-of sec)) ≡ p = cc in
       let mine : file-at l c (at n) ≡ f = found-file n f (b .1) in
       let space : added l f (d .size) ≤ length (free-clusters l fat) = ltb-false (length (free-clusters l fat)) (added l f (d .size)) (h2 .0) in
       let it : NamedFile n = named-in n f (b .1) in
       let m : ℕ = added l (file-at l c (at n)) (d .size) in
       record {
+        timely = a .0;
         it = it;
         extent = extent-of st (file-base st (at n) (it .live) (it .keeps)) d m (rw (ap (λ g. added l g (d .size)) mine) space)
             (added-sum l (shape-of st .factor-low) (file-at l c (at n)) (d .size));
         same = unless-is _ _ p
-            (ap (λ g. unless-none (d .size) (append-stores v c g d)) mine ∙ s);
+            (ap (λ g. unless-none (d .size) (append-stores v c g d (stamp-of sec))) mine ∙ s);
       }
 
   -- The clusters that a replace is written along: new ones alone.
   abbrev pub Renewal : Span → Type 0
   Renewal d = Extent c [] (fresh-clusters v c (d .size)) 0 d
 
-  pub record Replaced (n d : Span) (p : Program) : Type 0 where
+  pub record Replaced (n d : Span) (sec : ℕ) (p : Program) : Type 0 where
+    pub timely : sec ≤ last-second
     pub it : NamedFile n
     pub extent : Renewal d
-    pub same : operate v c (ds st extent) (exchanged-fat st (at n) (it .live) (it .keeps) extent) (replaces-as st (at n) (it .live) (it .keeps) extent) ≡ p
+    pub same : operate v c (ds st extent) (exchanged-fat st (at n) (it .live) (it .keeps) extent) (replaces-as st (at n) (it .live) (it .keeps) extent
+        (stamp-of sec)) ≡ p
 
-  pub replace-granted : (n d : Span) (p : Program) → plan (replaces n d) w ≡ granted p → Replaced n d p
+  pub replace-granted : (n d : Span) (sec : ℕ) (p : Program) → plan (replaces n d sec) w ≡ granted p → Replaced n d sec p
   unfolding plan replace replace-on replace-file replace-stores replace-along file-at clusters-of fresh-clusters
-  replace-granted n d p h =
-      let b = bound (file-of Access.Write v c n) _ p (opened _ (granted p) h) in
+  replace-granted n d sec p h =
+      let a = opened-at sec _ p h in
+      let b = bound (file-of Access.Write v c n) _ p (a .1) in
       let f : File = b .0 in
       let m : ℕ = needed l (d .size) in
       let h2 = asked Ground.Nospace (ltb (length (free-clusters l fat)) m) _ p (b .2) in
-      let e : granted (replace-stores v c f d) ≡ granted p = h2 .1 in
-      let s : replace-stores v c f d ≡ p = cc in
+      let e : granted (replace-stores v c f d (stamp-of sec)) ≡ granted p = h2 .1 in
+      let s : replace-stores v c f d (stamp-of sec) ≡ p = cc in
       record {
+        timely = a .0;
         it = named-in n f (b .1);
         extent = extent-of st (no-base st) d m (ltb-false (length (free-clusters l fat)) m (h2 .0))
             (simp (needed-none l (shape-of st .factor-low), zero-add));
-        same = ap (λ g. replace-stores v c g d) (found-file n f (b .1)) ∙ s;
+        same = ap (λ g. replace-stores v c g d (stamp-of sec)) (found-file n f (b .1)) ∙ s;
       }

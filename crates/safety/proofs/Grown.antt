@@ -12,6 +12,7 @@ use Rattle.model.specs.Sector.{Card, Window}
 use Rattle.model.specs.Fat.{Fat, entry}
 use Rattle.model.specs.Chain.{needed, chain}
 use Rattle.model.specs.Root.{slot-at, file-size, first-cluster, file-at, entry-at}
+use Rattle.model.specs.Calendar.{stamp-of}
 use Rattle.model.specs.Ground.{granted}
 use Rattle.model.specs.Volume.{clean}
 use Rattle.model.specs.Promises.{Shape}
@@ -26,6 +27,7 @@ use Rattle.operations.specs.Outcome.{left, largest}
 use Rattle.operations.specs.Reading.{file-byte}
 use Rattle.safety.specs.Sound.{chain-of}
 use Rattle.safety.specs.Saved.{Holds}
+use Rattle.model.proofs.Calendar.{stamp-small}
 use Rattle.model.proofs.Tests.{same?, less?}
 use Rattle.model.proofs.Indices.{all-getD}
 use Rattle.model.proofs.Chains.{Used}
@@ -101,20 +103,20 @@ module _ {size : ℕ} {c : Card} (st : Start size c) (s : ℕ) (live : Live (lay
 
   -- ---- the card at the end
 
-  module _ {t : Card} (end : Ended size c (ds st x) (longer-fat st s live keeps x) (updates-as st s live keeps x) t) where
+  module _ {stamp : ℕ} {t : Card} (end : Ended size c (ds st x) (longer-fat st s live keeps x) (updates-as st s live keeps x stamp) t) where
     abbrev grown : Bytes
-    grown = resized (eqb (last-cluster own) 0) (getD new 0 0) total b
+    grown = resized (eqb (last-cluster own) 0) (getD new 0 0) total stamp b
 
-    pub grown-edit : Resizes c (updates-as st s live keeps x) s grown
+    pub grown-edit : Resizes c (updates-as st s live keeps x stamp) s grown
     unfolding edits operation-edits entry-at
-    grown-edit = resizes c (updates-as st s live keeps x) s (eqb (last-cluster own) 0) (getD new 0 0) total refl
+    grown-edit = resizes c (updates-as st s live keeps x stamp) s (eqb (last-cluster own) 0) (getD new 0 0) total stamp refl
 
     pub grown-size : file-size grown ≡ total
-    grown-size = resized-size (eqb (last-cluster own) 0) (getD new 0 0) total b (total-fits st x)
+    grown-size = resized-size (eqb (last-cluster own) 0) (getD new 0 0) total stamp b (total-fits st x)
 
     pub grown-chain : HasChain l t s both
     grown-chain = linked-then st end s (live .in-root) grown (grown-edit .slot) both both-linked (all-high st x)
-        (sym (resized-first (eqb (last-cluster own) 0) (getD new 0 0) total b (plain-fits l (sh .few) fat new (new-plain st x) 0) ∙ head-then))
+        (sym (resized-first (eqb (last-cluster own) 0) (getD new 0 0) total stamp b (plain-fits l (sh .few) fat new (new-plain st x) 0) ∙ head-then))
         (all-long st x ∙ ap (needed l) (sym grown-size)) (λ e. some (let z : total ≡ 0 = sym grown-size ∙ e in omega arith))
 
     pub same-bytes : (i : ℕ) → i < old → file-byte l t (file-at l t s) i ≡ file-byte l c (file-at l c s) i
@@ -135,8 +137,8 @@ module _ {size : ℕ} {c : Card} (st : Start size c) (is : clean (window size c)
   abbrev pub then-new : ℕ → Bytes → Span → Bytes
   then-new size content d i = pick (ltb i size) (content i) (d .byte (i - size))
 
-  module _ (n d : Span) (g : NamedFile st is n) (x : Growth st is n d g) (some : d .size ≡ 0 → ⊥) {t : Card}
-      (end : Ended size c (ds st x) (longer-fat st (at n) (g .live) (g .keeps) x) (updates-as st (at n) (g .live) (g .keeps) x) t) where
+  module _ (n d : Span) (g : NamedFile st is n) (x : Growth st is n d g) (some : d .size ≡ 0 → ⊥) {stamp : ℕ} {t : Card}
+      (end : Ended size c (ds st x) (longer-fat st (at n) (g .live) (g .keeps) x) (updates-as st (at n) (g .live) (g .keeps) x stamp) t) where
     grown-then : (size′ : ℕ) (content : Bytes) → Holds w n size′ content → Holds (window size t) n (size′ + d .size) (then-new size′ content d)
     grown-then size′ content h =
         let s : ℕ = at n in
@@ -159,16 +161,17 @@ module _ {size : ℕ} {c : Card} (st : Start size c) (is : clean (window size c)
       holds-of w v is n (at n) (r .found) (size′ + d .size) (then-new size′ content d) (r .sized ∙ (let e : size′ ≡ size′ + d .size = omega arith in e))
       (λ i less. r .same i (omega arith) ∙ sym (ap (λ t. pick t (content i) (d .byte (i - size′))) (lt-ltb i size′ (omega arith))))
 
-  pub append-holds : (n d : Span) (p : Program) → plan (appends n d) w ≡ granted p → (size′ : ℕ) (content : Bytes) → Holds w n size′ content
-      → Holds (left largest (appends n d) w) n (size′ + d .size) (then-new size′ content d)
-  append-holds n d p h size′ content holds =
-      let g : Appended st is n d p = append-granted st is n d p h in
+  pub append-holds : (n d : Span) (sec : ℕ) (p : Program) → plan (appends n d sec) w ≡ granted p → (size′ : ℕ) (content : Bytes) → Holds w n size′ content
+      → Holds (left largest (appends n d sec) w) n (size′ + d .size) (then-new size′ content d)
+  append-holds n d sec p h size′ content holds =
+      let g : Appended st is n d sec p = append-granted st is n d sec p h in
       let f : NamedFile st is n = g .it in
       let x : Growth st is n d f = g .extent in
       ⊎-elim
-      (λ a. finish-with st is (λ x. Holds x n (size′ + d .size) (then-new size′ content d)) (appends n d) p (ending []) h (sym (a .1))
+      (λ a. finish-with st is (λ x. Holds x n (size′ + d .size) (then-new size′ content d)) (appends n d sec) p (ending []) h (sym (a .1))
       (unstored st is n (size′ + d .size) (then-new size′ content d) (none-then n d size′ content (a .0) holds)))
-      (λ a. finish-with st is (λ x. Holds x n (size′ + d .size) (then-new size′ content d)) (appends n d) p _ h (a .1)
-      (grown-then n d f x (a .0) (ended st _ _ (updates-as st (at n) (f .live) (f .keeps) x) (append-supplies st (at n) (f .live) (f .keeps) x))
+      (λ a. finish-with st is (λ x. Holds x n (size′ + d .size) (then-new size′ content d)) (appends n d sec) p _ h (a .1)
+      (grown-then n d f x (a .0) (ended st _ _ (updates-as st (at n) (f .live) (f .keeps) x (stamp-of sec)) (append-supplies st (at n) (f .live) (f .keeps) x
+      (stamp-of sec) (stamp-small sec (g .timely))))
       size′ content holds))
       (g .same)

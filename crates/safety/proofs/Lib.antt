@@ -39,3 +39,4 @@ pub mod Same
 pub mod Restored
 pub mod Fitting
 pub mod Spelled
+pub mod Dates

@@ -23,12 +23,12 @@ use Rattle.safety.proofs.Sounds.{all-keep}
 named-unmarked : {size : ℕ} {c : Card} → Start size c → clean (window size c) ≡ granted (volume-of c Pending.Nothing)
     → (k : Call) (p : Program) → plan k (window size c) ≡ granted p → (s : ℕ) → Names (volume-of c Pending.Nothing) c k s
     → is-locked (slot-at (layout-of c) c s) ≡ false
-named-unmarked st is (creates n) p h s e = absurd e
-named-unmarked st is (appends n d) p h s e = rw e (append-granted st is n d p h .it .unmarked)
-named-unmarked st is (truncates n m) p h s e = rw e (truncate-granted st is n m p h .it .unmarked)
+named-unmarked st is (creates n sec) p h s e = absurd e
+named-unmarked st is (appends n d sec) p h s e = rw e (append-granted st is n d sec p h .it .unmarked)
+named-unmarked st is (truncates n m sec) p h s e = rw e (truncate-granted st is n m sec p h .it .unmarked)
 named-unmarked st is (deletes n) p h s e = rw e (delete-granted st is n p h .it .unmarked)
 named-unmarked st is (renames n m) p h s e = rw e (rename-granted st is n m p h .unmarked)
-named-unmarked st is (replaces n d) p h s e = rw e (replace-granted st is n d p h .it .unmarked)
+named-unmarked st is (replaces n d sec) p h s e = rw e (replace-granted st is n d sec p h .it .unmarked)
 named-unmarked st is recovers p h s e = absurd e
 
 pub locked-stays : LockedStays

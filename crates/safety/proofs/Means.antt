@@ -9,6 +9,7 @@ use Rattle.model.specs.Bytes.{Bytes, Span}
 use Rattle.model.specs.Sector.{Card, Store}
 use Rattle.model.specs.Fat.{Fat, release}
 use Rattle.model.specs.Root.{Directory, slot-at, free-slot, bears, find, file-size, file-at}
+use Rattle.model.specs.Calendar.{stamp-of}
 use Rattle.model.specs.Ground.{granted}
 use Rattle.model.specs.Volume.{clean}
 use Rattle.model.specs.declared.Layout.{Layout}
@@ -94,14 +95,15 @@ module _ {size : ℕ} {c : Card} (st : Start size c) (is : clean (window size c)
           })
           n content (size-is st end x less b (r .slot) ∙ sized) same
 
-  pub create-means : (n t : Span) (p : Program) (g : Created st is n t p) {u : Card} (end : Ended size c [] (first-fat c) (creates-as st n t) u) (m : Span)
+  pub create-means : (n t : Span) {sec : ℕ} (p : Program) (g : Created st is n t sec p) {u : Card}
+      (end : Ended size c [] (first-fat c) (creates-as st n t (stamp-of sec)) u) (m : Span)
       → at m < l .entries → slot-of v u m ≡ at m
-  create-means n t p g {u} end m there = means-same v c m u (λ k less. ⊎-elim
-      (λ q. edited end m k less (new-entry (name-of n)) (ap (effect (creates-as st n t) d) q ∙ new-slot st is n t p g end)
-      (not-new n m (new-entry (name-of n)) (g .unused) there (new-named (name-of m) (name-of n) (name-fits n (g .ok)))
+  create-means n t {sec} p g {u} end m there = means-same v c m u (λ k less. ⊎-elim
+      (λ q. edited end m k less (new-entry (name-of n) (stamp-of sec)) (ap (effect (creates-as st n t (stamp-of sec)) d) q ∙ new-slot st is n t p g end)
+      (not-new n m (new-entry (name-of n) (stamp-of sec)) (g .unused) there (new-named (name-of m) (name-of n) (stamp-of sec) (name-fits n (g .ok)))
       ∙ sym (ap (λ k. bears (name-of m) (d k)) q ∙ vacant-bears (name-of m) (d (run-end l c t)) (new-vacant st is n t p g end (run-end l c t)
       (omega arith, omega arith)))))
-      (λ ne. edited end m k less (effect (creates-as st n t) d k) refl (unlisted-bears (name-of m) (d k) _ (other-slot st is n t p g end k ne)))
+      (λ ne. edited end m k less (effect (creates-as st n t (stamp-of sec)) d k) refl (unlisted-bears (name-of m) (d k) _ (other-slot st is n t p g end k ne)))
       (same? k (run-end l c t)))
 
   pub rename-means : (n n′ : Span) (p : Program) (g : Renamed st is n n′ p) {t : Card}

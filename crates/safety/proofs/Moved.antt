@@ -12,6 +12,7 @@ use Rattle.model.specs.Fat.{Fat, entry, release}
 use Rattle.model.specs.Chain.{file-sector, chain}
 use Rattle.model.specs.Root.{Directory, slot-at, free-slot, bears, is-label, listed, vacant, file-size, file-at, entry-at}
 use Rattle.model.specs.Long.{name-slots, long-count, checksum}
+use Rattle.model.specs.Calendar.{stamp-of}
 use Rattle.model.specs.Ground.{granted}
 use Rattle.model.specs.Volume.{clean}
 use Rattle.model.specs.Record.{Change, text-length}
@@ -28,6 +29,7 @@ use Rattle.operations.specs.Reading.{file-byte}
 use Rattle.safety.specs.Sound.{chain-of, proper}
 use Rattle.safety.specs.Saved.{Holds, Gone, Alone}
 use Rattle.safety.specs.Fitting.{Empty}
+use Rattle.model.proofs.Calendar.{stamp-small}
 use Rattle.model.proofs.Tests.{clash, same?, told, and-right}
 use Rattle.model.proofs.All.{All}
 use Rattle.model.proofs.Long.{OfName, of-name, not-of-name, of-name?}
@@ -81,7 +83,7 @@ module _ {size : ℕ} {c : Card} (st : Start size c) (is : clean (window size c)
 
   -- ---- create
 
-  module _ (n t : Span) (p : Program) (g : Created st is n t p) {u : Card} (end : Ended size c [] fat (creates-as st n t) u) where
+  module _ (n t : Span) {sec : ℕ} (p : Program) (g : Created st is n t sec p) {u : Card} (end : Ended size c [] fat (creates-as st n t (stamp-of sec)) u) where
     -- The slot of the new file.
     abbrev pub new : ℕ
     new = run-end l c t
@@ -95,25 +97,26 @@ module _ {size : ℕ} {c : Card} (st : Start size c) (is : clean (window size c)
     own : among (name-slots new (slots-for t)) new ≡ true
     own = of-name new (slots-for t) new (omega arith, omega arith)
 
-    pub new-slot : effect (creates-as st n t) d new ≡ new-entry (name-of n)
+    pub new-slot : effect (creates-as st n t (stamp-of sec)) d new ≡ new-entry (name-of n) (stamp-of sec)
     unfolding effect edits operation-edits name-slot
-    new-slot = only-in (λ k b. name-slot made (text-of t) k) (name-slots new (slots-for t)) d new own ∙ rw (eq-eqb new new refl)
+    new-slot = only-in (λ k b. name-slot made (stamp-of sec) (text-of t) k) (name-slots new (slots-for t)) d new own ∙ rw (eq-eqb new new refl)
 
     -- A long entry's slot, and a slot that is not the name's.
     pub entry-slot : (k : ℕ) → OfName new (slots-for t) k → (k ≡ new → ⊥)
-        → effect (creates-as st n t) d k ≡ name-entry (checksum (new-entry (name-of n))) (text-of t) (text-length (text-of t)) (new - k)
+        → effect (creates-as st n t (stamp-of sec)) d k ≡ name-entry (checksum (new-entry (name-of n) (stamp-of sec))) (text-of t) (text-length (text-of t))
+        (new - k)
     unfolding effect edits operation-edits name-slot
     entry-slot k w ne =
-        only-in (λ k b. name-slot made (text-of t) k) (name-slots new (slots-for t)) d k (of-name new (slots-for t) k w) ∙ rw (ne-eqb k new ne)
+        only-in (λ k b. name-slot made (stamp-of sec) (text-of t) k) (name-slots new (slots-for t)) d k (of-name new (slots-for t) k w) ∙ rw (ne-eqb k new ne)
 
-    pub off-slot : (k : ℕ) → (OfName new (slots-for t) k → ⊥) → effect (creates-as st n t) d k ≡ d k
+    pub off-slot : (k : ℕ) → (OfName new (slots-for t) k → ⊥) → effect (creates-as st n t (stamp-of sec)) d k ≡ d k
     unfolding effect edits operation-edits
-    off-slot k off = only-out (λ k b. name-slot made (text-of t) k) (name-slots new (slots-for t)) d k (not-of-name new (slots-for t) k off)
+    off-slot k off = only-out (λ k b. name-slot made (stamp-of sec) (text-of t) k) (name-slots new (slots-for t)) d k (not-of-name new (slots-for t) k off)
 
     pub new-vacant : (k : ℕ) → OfName new (slots-for t) k → vacant (d k) ≡ true
     new-vacant k w = run-vacant l c (slots-for t + 1) (g .room) k (omega (arith, w)) (omega (arith, w))
 
-    pub other-slot : (k : ℕ) → (k ≡ new → ⊥) → Unlisted (d k) (effect (creates-as st n t) d k)
+    pub other-slot : (k : ℕ) → (k ≡ new → ⊥) → Unlisted (d k) (effect (creates-as st n t (stamp-of sec)) d k)
     unfolding name-entry
     other-slot k ne = ⊎-elim
         (λ w. inr (vacant-unlisted (d k) (new-vacant k w), ap listed (entry-slot k w ne) ∙ entry-unlisted _ _ _))
@@ -123,50 +126,55 @@ module _ {size : ℕ} {c : Card} (st : Start size c) (is : clean (window size c)
     create-found = record {
       ok = g .ok;
       at = means v u n new new-in
-          (same-bears (slot-at l u new) (new-entry (name-of n)) (head-is st end new new-in (new-entry (name-of n)) new-slot) (name-of n)
-          ∙ new-bears (name-of n) (name-fits n (g .ok)) (name-starts n (g .ok)))
-          (λ j less. same-bears (slot-at l u j) (effect (creates-as st n t) d j) (head-is st end j (omega (arith, new-in)) _ refl) (name-of n)
+          (same-bears (slot-at l u new) (new-entry (name-of n) (stamp-of sec)) (head-is st end new new-in (new-entry (name-of n) (stamp-of sec)) new-slot)
+          (name-of n)
+          ∙ new-bears (name-of n) (stamp-of sec) (name-fits n (g .ok)) (name-starts n (g .ok)))
+          (λ j less. same-bears (slot-at l u j) (effect (creates-as st n t (stamp-of sec)) d j) (head-is st end j (omega (arith, new-in)) _ refl) (name-of n)
           ∙ unlisted-bears (name-of n) (d j) _ (other-slot j (λ e. omega arith))
           ∙ lower-not v c n j (omega (arith, new-in, g .unused)));
       in-root = new-in;
-      plain = same-directory (slot-at l u new) (new-entry (name-of n)) (head-is st end new new-in (new-entry (name-of n)) new-slot)
-          ∙ new-directory (name-of n);
-      keeps = empty-then st end new new-in (new-entry (name-of n)) new-slot (new-first (name-of n)) (new-size (name-of n)) .keeps;
+      plain = same-directory (slot-at l u new) (new-entry (name-of n) (stamp-of sec)) (head-is st end new new-in (new-entry (name-of n)
+          (stamp-of sec)) new-slot)
+          ∙ new-directory (name-of n) (stamp-of sec);
+      keeps = empty-then st end new new-in (new-entry (name-of n) (stamp-of sec)) new-slot (new-first (name-of n) (stamp-of sec)) (new-size (name-of n)
+          (stamp-of sec)) .keeps;
     }
 
     pub create-then : (content : Bytes) → Holds (window size u) n 0 content
     create-then content = holds-of (window size u) v (end .cleans) n new create-found 0 content
-        (size-is st end new new-in (new-entry (name-of n)) new-slot ∙ new-size (name-of n)) (λ i less. absurd (omega arith))
+        (size-is st end new new-in (new-entry (name-of n) (stamp-of sec)) new-slot ∙ new-size (name-of n) (stamp-of sec)) (λ i less. absurd (omega arith))
 
     create-empty : Empty v u n
     unfolding file-at
     create-empty =
-        let b : Bytes = new-entry (name-of n) in
+        let b : Bytes = new-entry (name-of n) (stamp-of sec) in
         let head = head-is st end new new-in b new-slot in (
           file-at l u new,
-          granted-write (window size u) v (end .cleans) n new create-found (same-locked (slot-at l u new) b head ∙ new-locked (name-of n)),
-          size-is st end new new-in b new-slot ∙ new-size (name-of n),
+          granted-write (window size u) v (end .cleans) n new create-found (same-locked (slot-at l u new) b head ∙ new-locked (name-of n) (stamp-of sec)),
+          size-is st end new new-in b new-slot ∙ new-size (name-of n) (stamp-of sec),
         )
 
-  pub create-end : (n t : Span) (p : Program) (g : Created st is n t p)
-      → Ended size c [] fat (creates-as st n t) (after (stores (operate v c [] fat (creates-as st n t))) c)
-  create-end n t p g = ended st [] fat (creates-as st n t) (create-supplies st n t (g .ok) (g .fine) (g .room))
+  pub create-end : (n t : Span) {sec : ℕ} (p : Program) (g : Created st is n t sec p)
+      → Ended size c [] fat (creates-as st n t (stamp-of sec)) (after (stores (operate v c [] fat (creates-as st n t (stamp-of sec)))) c)
+  create-end n t {sec} p g = ended st [] fat (creates-as st n t (stamp-of sec)) (create-supplies st n t (stamp-of sec) (g .ok) (g .fine) (g .room)
+      (stamp-small sec (g .timely)))
 
-  pub create-holds : (n : Span) (p : Program) → plan (creates n) w ≡ granted p → (content : Bytes) → Holds (left largest (creates n) w) n 0 content
-  create-holds n p h content =
-      let g : Created st is n no-text p = create-granted st is n p h in
-      finish-with (λ x. Holds x n 0 content) (creates n) p _ h (g .same) (create-then n no-text p g (create-end n no-text p g) content)
+  pub create-holds : (n : Span) (sec : ℕ) (p : Program) → plan (creates n sec) w ≡ granted p → (content : Bytes)
+      → Holds (left largest (creates n sec) w) n 0 content
+  create-holds n sec p h content =
+      let g : Created st is n no-text sec p = create-granted st is n sec p h in
+      finish-with (λ x. Holds x n 0 content) (creates n sec) p _ h (g .same) (create-then n no-text p g (create-end n no-text p g) content)
 
-  pub long-holds : (n t : Span) (p : Program) → plan (creates-long n t) w ≡ granted p → (content : Bytes)
-      → Holds (left largest (creates-long n t) w) n 0 content
-  long-holds n t p h content =
-      let g : Created st is n t p = long-granted st is n t p h in
-      finish-with (λ x. Holds x n 0 content) (creates-long n t) p _ h (g .same) (create-then n t p g (create-end n t p g) content)
+  pub long-holds : (n t : Span) (sec : ℕ) (p : Program) → plan (creates-long n t sec) w ≡ granted p → (content : Bytes)
+      → Holds (left largest (creates-long n t sec) w) n 0 content
+  long-holds n t sec p h content =
+      let g : Created st is n t sec p = long-granted st is n t sec p h in
+      finish-with (λ x. Holds x n 0 content) (creates-long n t sec) p _ h (g .same) (create-then n t p g (create-end n t p g) content)
 
-  pub create-leaves : (n : Span) (p : Program) → plan (creates n) w ≡ granted p → Empty v (left largest (creates n) w .card) n
-  create-leaves n p h =
-      let g : Created st is n no-text p = create-granted st is n p h in
-      finish-with (λ x. Empty v (x .card) n) (creates n) p _ h (g .same) (create-empty n no-text p g (create-end n no-text p g))
+  pub create-leaves : (n : Span) (sec : ℕ) (p : Program) → plan (creates n sec) w ≡ granted p → Empty v (left largest (creates n sec) w .card) n
+  create-leaves n sec p h =
+      let g : Created st is n no-text sec p = create-granted st is n sec p h in
+      finish-with (λ x. Empty v (x .card) n) (creates n sec) p _ h (g .same) (create-empty n no-text p g (create-end n no-text p g))
 
   -- ---- rename
 
@@ -222,6 +230,12 @@ module _ {size : ℕ} {c : Card} (st : Start size c) (is : clean (window size c)
     lower j less = ⊎-elim (λ e. rw e (x-not m))
         (λ ne. rest-bears m j (omega (arith, g .room)) ne (λ e. omega arith) ∙ lower-not v c m j (omega (arith, g .room, g .unused))) (same? j x)
 
+    -- The new name means the new slot.
+    pub rename-at : slot-of v t m ≡ z
+    rename-at = means v t m z (g .room)
+        (same-bears (slot-at l t z) b (head-is st end z (g .room) b named-slot) (name-of m)
+        ∙ named-bears (name-of m) (d x) (name-fits m (g .new-ok)) (name-starts m (g .new-ok)) no-label) lower
+
     module _ (keeps : proper l c x ≡ true) where
       pub rename-chain : HasChain l t z (chain-of l c x)
       rename-chain = kept-then st end z (g .room) b named-slot x (named-first (name-of m) (d x)) (named-size (name-of m) (d x)) keeps
@@ -234,9 +248,7 @@ module _ {size : ℕ} {c : Card} (st : Start size c) (is : clean (window size c)
       rename-found : Meant v t m z
       rename-found = record {
         ok = g .new-ok;
-        at = means v t m z (g .room)
-            (same-bears (slot-at l t z) b (head-is st end z (g .room) b named-slot) (name-of m)
-            ∙ named-bears (name-of m) (d x) (name-fits m (g .new-ok)) (name-starts m (g .new-ok)) no-label) lower;
+        at = rename-at;
         in-root = g .room;
         plain = same-directory (slot-at l t z) b (head-is st end z (g .room) b named-slot) ∙ named-directory (name-of m) (d x) ∙ g .plain;
         keeps = rename-chain .keeps;

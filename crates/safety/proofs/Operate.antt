@@ -30,7 +30,8 @@ use Rattle.model.proofs.Cards.{Away, after-append, after-away, put-out, put-in,
 use Rattle.model.proofs.Changes.{Keeps, after-keeps, put-clipped}
 use Rattle.model.proofs.Fats.{write-done, entry-clip}
 use Rattle.model.proofs.Records.{ChangeFits}
-use Rattle.model.proofs.Pendings.{Recorded, quiet-zeros, Quiet}
+use Rattle.model.proofs.Recorded.{Recorded}
+use Rattle.model.proofs.Pendings.{quiet-zeros, Quiet}
 use Rattle.model.proofs.Grounds.{then}
 use Rattle.model.proofs.Volumes.{layout-of, SameMarks, first-fat, window, volume-of, area-of}
 use Rattle.safety.proofs.Journal.{Laws, Kept, end-card}

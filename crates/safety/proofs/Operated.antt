@@ -11,6 +11,7 @@ use Rattle.model.specs.Sector.{Card, Store}
 use Rattle.model.specs.Fat.{Fat}
 use Rattle.model.specs.Root.{slot-at, entry-at, free-slot}
 use Rattle.model.specs.Long.{name-slots, long-count}
+use Rattle.model.specs.Calendar.{stamp-of}
 use Rattle.model.specs.Ground.{granted}
 use Rattle.model.specs.Volume.{clean}
 use Rattle.model.specs.Record.{Change}
@@ -23,6 +24,7 @@ use Rattle.operations.specs.Plan.{operate, text-of, no-text}
 use Rattle.operations.specs.Calls.{Call, creates, creates-long, appends, truncates, deletes, renames, replaces, recovers, plan, slot-of, run-end, old-slots}
 use Rattle.operations.specs.Calls.{new-slots, changed-by}
 use Rattle.safety.specs.Saved.{OfBytes}
+use Rattle.model.proofs.Calendar.{stamp-small}
 use Rattle.model.proofs.Tests.{by-pick}
 use Rattle.model.proofs.All.{All}
 use Rattle.model.proofs.Volumes.{window, layout-of, first-fat, volume-of}
@@ -66,16 +68,19 @@ module _ {size : ℕ} {c : Card} (st : Start size c) (is : clean (window size c)
   no-small : Small zeros
   no-small i = omega arith
 
-  made : (k : Call) (n t : Span) (p : Program) → Created st is n t p → new-slots (layout-of c) c t ≡ changed-by v c k → (OfBytes k → Small (text-of t))
+  made : (k : Call) (n t : Span) (sec : ℕ) (p : Program) → Created st is n t sec p → new-slots (layout-of c) c t ≡ changed-by v c k → (OfBytes k → Small
+      (text-of t))
       → Operated c k p
   unfolding named-slots new-slots
-  made k n t p g slots small =
-      Operated.operates [] fat _ (create-supplies st n t (g .ok) (g .fine) (g .room)) (λ b. (tt, small b)) old-small slots (g .same)
+  made k n t sec p g slots small =
+      Operated.operates [] fat _ (create-supplies st n t (stamp-of sec) (g .ok) (g .fine) (g .room) (stamp-small sec (g .timely))) (λ b.
+      (tt, small b)) old-small slots (g .same)
 
   pub operated : (k : Call) (p : Program) → plan k (window size c) ≡ granted p → Operated c k p
   unfolding changed-by old-slots new-slots named-slots name-slots entry-at
-  operated (creates n) p h = made (creates n) n no-text p (create-granted st is n p h) refl (λ b. text-small no-text (λ i less. absurd (omega arith)))
-  operated (creates-long n t) p h = made (creates-long n t) n t p (long-granted st is n t p h) refl (λ b. text-small t b)
+  operated (creates n sec) p h = made (creates n sec) n no-text sec p (create-granted st is n sec p h) refl (λ b. text-small no-text (λ i less. absurd
+      (omega arith)))
+  operated (creates-long n t sec) p h = made (creates-long n t sec) n t sec p (long-granted st is n t sec p h) refl (λ b. text-small t b)
   operated (renames n m) p h =
       let g : Renamed st is n m p = rename-granted st is n m p h in
       let at-end : free-slot (layout-of c) c ≡ run-end (layout-of c) c no-text = omega arith in
@@ -85,19 +90,21 @@ module _ {size : ℕ} {c : Card} (st : Start size c) (is : clean (window size c)
       let g : Deleted st is n p = delete-granted st is n p h in
       Operated.operates [] _ _ (delete-supplies st (at n) (g .it .live) (g .it .keeps)) (λ b. (tt, no-small)) (release-small _ fat old-small)
       refl (g .same)
-  operated (truncates n m) p h =
-      let g : Truncated st is n m p = truncate-granted st is n m p h in
+  operated (truncates n m sec) p h =
+      let g : Truncated st is n m sec p = truncate-granted st is n m sec p h in
       let f : NamedFile st is n = g .it in
-      unless (truncates n m) _ _ p (g .same) (Operated.operates [] _ _ (truncate-supplies st (at n) (f .live) (f .keeps) m (g .less)) (λ b. (tt, no-small))
+      unless (truncates n m sec) _ _ p (g .same) (Operated.operates [] _ _ (truncate-supplies st (at n) (f .live) (f .keeps) m (stamp-of sec) (g .less)
+      (stamp-small sec (g .timely))) (λ b. (tt, no-small))
       (shorten-small _ _ fat old-small) refl)
-  operated (appends n d) p h =
-      let g : Appended st is n d p = append-granted st is n d p h in
+  operated (appends n d sec) p h =
+      let g : Appended st is n d sec p = append-granted st is n d sec p h in
       let f : NamedFile st is n = g .it in
-      unless (appends n d) _ _ p (g .same) (Operated.operates _ _ _ (append-supplies st (at n) (f .live) (f .keeps) (g .extent))
+      unless (appends n d sec) _ _ p (g .same) (Operated.operates _ _ _ (append-supplies st (at n) (f .live) (f .keeps) (g .extent) (stamp-of sec)
+      (stamp-small sec (g .timely)))
       (λ b. (data-small (layout-of c) c _ _ d (st .small) b, no-small)) (extend-small _ _ fat old-small) refl)
-  operated (replaces n d) p h =
-      let g : Replaced st is n d p = replace-granted st is n d p h in
+  operated (replaces n d sec) p h =
+      let g : Replaced st is n d sec p = replace-granted st is n d sec p h in
       let f : NamedFile st is n = g .it in
-      Operated.operates _ _ _ (replace-supplies st (at n) (f .live) (f .keeps) (g .extent))
+      Operated.operates _ _ _ (replace-supplies st (at n) (f .live) (f .keeps) (g .extent) (stamp-of sec) (stamp-small sec (g .timely)))
       (λ b. (data-small (layout-of c) c _ _ d (st .small) b, no-small)) (exchange-small _ _ fat old-small) refl (g .same)
   operated recovers p h = let e : granted (ending []) ≡ granted p = sym (start-rests st) ∙ h in Operated.idles (cc)

@@ -19,7 +19,8 @@ use Rattle.model.proofs.Numbers.{le-below}
 use Rattle.model.proofs.Chains.{Used, chain-used}
 use Rattle.model.proofs.Records.{EntryFits}
 use Rattle.model.specs.Record.{starts}
-use Rattle.model.proofs.Pendings.{Seat, starts-not-zero}
+use Rattle.model.proofs.Recorded.{Seat}
+use Rattle.model.proofs.Pendings.{starts-not-zero}
 use Rattle.model.proofs.Names.{Live, live-low, first-byte}
 use Rattle.model.proofs.Volumes.{layout-of, first-fat, volume-of}
 use Rattle.safety.proofs.Start.{Start, shape-of, entries-few}

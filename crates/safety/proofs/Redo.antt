@@ -22,7 +22,7 @@ use Rattle.model.specs.Promises.{Shape}
 use Rattle.model.specs.declared.Area.{Area}
 use Rattle.model.specs.declared.Layout.{Layout}
 use Rattle.model.specs.declared.Pending.{Pending}
-use Rattle.operations.specs.Program.{segment, ending, stores}
+use Rattle.operations.specs.Program.{segment, ending}
 use Rattle.operations.specs.Finish.{concerns, effect, finish, rising, redo, root-sector, root-stores}
 use Rattle.operations.specs.Plan.{recover-stores}
 use Rattle.safety.specs.Cuts.{Cut, recovery}
@@ -32,7 +32,8 @@ use Rattle.model.proofs.Cards.{Away, put-out, put-in, put-case, clip-clip, afte
 use Rattle.model.proofs.Changes.{Keeps, after-keeps, all-sub}
 use Rattle.model.proofs.Fats.{entry-same, write-none, write-all, agree-of}
 use Rattle.model.proofs.Order.{row-ok, any-ok, order-same, seen-same}
-use Rattle.model.proofs.Pendings.{Stored, Quiet, Recorded, pending-is, group-read, committed-quiet, rest-zero, quiet-calm}
+use Rattle.model.proofs.Recorded.{Recorded}
+use Rattle.model.proofs.Pendings.{Stored, Quiet, pending-is, group-read, committed-quiet, rest-zero, quiet-calm}
 use Rattle.model.proofs.Records.{operation-read}
 use Rattle.model.proofs.Volumes.{layout-of, area-of, Alike, first-fat, window, volume-of, clean-same}
 use Rattle.safety.proofs.Journal.{Leads, Forth, idle}

@@ -12,6 +12,7 @@ use Rattle.model.specs.Sector.{Card, Window}
 use Rattle.model.specs.Fat.{Fat}
 use Rattle.model.specs.Chain.{needed}
 use Rattle.model.specs.Root.{slot-at, file-size, first-cluster, file-at, entry-at}
+use Rattle.model.specs.Calendar.{stamp-of}
 use Rattle.model.specs.Ground.{granted}
 use Rattle.model.specs.Volume.{clean}
 use Rattle.model.specs.Promises.{Shape}
@@ -24,6 +25,7 @@ use Rattle.operations.specs.Calls.{plan, replaces, slot-of}
 use Rattle.operations.specs.Outcome.{left, largest}
 use Rattle.operations.specs.Reading.{file-byte}
 use Rattle.safety.specs.Saved.{Holds}
+use Rattle.model.proofs.Calendar.{stamp-small}
 use Rattle.model.proofs.Tests.{same?}
 use Rattle.model.proofs.All.{All, all-map}
 use Rattle.model.proofs.Lists.{drop-all}
@@ -47,8 +49,8 @@ use Rattle.safety.proofs.Written.{all-high, all-ranged, new-bytes}
 use Rattle.model.specs.declared.Pending.the-variants as Pending
 
 module _ {size : ℕ} {c : Card} (st : Start size c) (s : ℕ) (live : Live (layout-of c) c s) (keeps : KeepsChain c s)
-    {new : List ℕ} {d : Span} (x : Extent c [] new 0 d) {t : Card}
-    (end : Ended size c (ds st x) (exchanged-fat st s live keeps x) (replaces-as st s live keeps x) t) where
+    {new : List ℕ} {d : Span} (x : Extent c [] new 0 d) {stamp : ℕ} {t : Card}
+    (end : Ended size c (ds st x) (exchanged-fat st s live keeps x) (replaces-as st s live keeps x stamp) t) where
   abbrev l : Layout
   l = layout-of c
 
@@ -65,20 +67,20 @@ module _ {size : ℕ} {c : Card} (st : Start size c) (s : ℕ) (live : Live (lay
   from = getD new 0 0
 
   abbrev slot : Bytes
-  slot = resized true from (d .size) b
+  slot = resized true from (d .size) stamp b
 
   sh : Shape l
   sh = shape-of st
 
-  pub replaced-edit : Resizes c (replaces-as st s live keeps x) s slot
+  pub replaced-edit : Resizes c (replaces-as st s live keeps x stamp) s slot
   unfolding edits operation-edits entry-at
-  replaced-edit = resizes c (replaces-as st s live keeps x) s true from (d .size) refl
+  replaced-edit = resizes c (replaces-as st s live keeps x stamp) s true from (d .size) stamp refl
 
   pub replaced-size : file-size slot ≡ d .size
-  replaced-size = resized-size true from (d .size) b (omega (arith, total-fits st x))
+  replaced-size = resized-size true from (d .size) stamp b (omega (arith, total-fits st x))
 
   replaced-first : first-cluster slot ≡ from
-  replaced-first = resized-first true from (d .size) b (plain-fits l (sh .few) fat new (new-plain st x) 0)
+  replaced-first = resized-first true from (d .size) stamp b (plain-fits l (sh .few) fat new (new-plain st x) 0)
 
   new-long : length new ≡ needed l (d .size)
   new-long = simp zero-add at (x .long)
@@ -107,14 +109,16 @@ module _ {size : ℕ} {c : Card} (st : Start size c) (is : clean (window size c)
   abbrev w : Window
   w = window size c
 
-  pub replace-holds : (n d : Span) (p : Program) → plan (replaces n d) w ≡ granted p → Holds (left largest (replaces n d) w) n (d .size) (d .byte)
-  replace-holds n d p h =
-      let g : Replaced st is n d p = replace-granted st is n d p h in
+  pub replace-holds : (n d : Span) (sec : ℕ) (p : Program) → plan (replaces n d sec) w ≡ granted p
+      → Holds (left largest (replaces n d sec) w) n (d .size) (d .byte)
+  replace-holds n d sec p h =
+      let g : Replaced st is n d sec p = replace-granted st is n d sec p h in
       let f : NamedFile st is n = g .it in
       let x : Renewal st is d = g .extent in
       let s : ℕ = slot-of v c n in
-      let end = ended st _ _ (replaces-as st s (f .live) (f .keeps) x) (replace-supplies st s (f .live) (f .keeps) x) in
-      finish-with st is (λ x. Holds x n (d .size) (d .byte)) (replaces n d) p _ h (g .same)
+      let end = ended st _ _ (replaces-as st s (f .live) (f .keeps) x (stamp-of sec)) (replace-supplies st s (f .live) (f .keeps) x (stamp-of sec)
+      (stamp-small sec (g .timely))) in
+      finish-with st is (λ x. Holds x n (d .size) (d .byte)) (replaces n d sec) p _ h (g .same)
       (resized-holds st is end n (replaced-edit st s (f .live) (f .keeps) x end) (f .found) (d .size) (d .byte)
       (replaced-size st s (f .live) (f .keeps) x end) (replaced-chain st s (f .live) (f .keeps) x end .keeps)
       (replaced-bytes st s (f .live) (f .keeps) x end))

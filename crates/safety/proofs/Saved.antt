@@ -51,14 +51,14 @@ all-saves w v real is =
 
 -- A new file and one append.
 pub path-saved : PathSaved
-path-saved w v real is n d p q made added =
-    let x : Window = left largest (creates n) w in
-    let real′ : Genuine x = stays-genuine (creates n) w v real is tt largest in
-    let is′ : clean x ≡ granted v = after-calls (creates n) w v real is .clean-again in
-    let empty : Holds x n 0 (d .byte) = all-saves w v real is .created n p made (d .byte) in
+path-saved w v real is n d s t p q made added =
+    let x : Window = left largest (creates n s) w in
+    let real′ : Genuine x = stays-genuine (creates n s) w v real is tt largest in
+    let is′ : clean x ≡ granted v = after-calls (creates n s) w v real is .clean-again in
+    let empty : Holds x n 0 (d .byte) = all-saves w v real is .created n s p made (d .byte) in
     let both : Bytes = λ i. pick (ltb i 0) (d .byte i) (d .byte (i - 0)) in
-    let whole : Holds (left largest (appends n d) x) n (0 + d .size) both = all-saves x v real′ is′ .appended n d q added 0 (d .byte) empty in
+    let whole : Holds (left largest (appends n d t) x) n (0 + d .size) both = all-saves x v real′ is′ .appended n d t q added 0 (d .byte) empty in
     let sized : 0 + d .size ≡ d .size = omega arith in
     let bytes : both ≡ d .byte =
-    fun-ext (λ i. let e : i - 0 ≡ i = omega arith in ap (λ t. pick t (d .byte i) (d .byte (i - 0))) (le-ltb i 0 (omega arith)) ∙ ap (d .byte) e) in
-    subst (λ (b : Bytes). Holds (left largest (appends n d) x) n (d .size) b) bytes (subst (λ m. Holds (left largest (appends n d) x) n m both) sized whole)
+    fun-ext (λ i. let e : i - 0 ≡ i = omega arith in ap (λ b. pick b (d .byte i) (d .byte (i - 0))) (le-ltb i 0 (omega arith)) ∙ ap (d .byte) e) in
+    subst (λ (b : Bytes). Holds (left largest (appends n d t) x) n (d .size) b) bytes (subst (λ m. Holds (left largest (appends n d t) x) n m both) sized whole)

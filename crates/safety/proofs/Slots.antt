@@ -17,7 +17,8 @@ use Rattle.model.specs.declared.Name.{Name}
 use Rattle.model.specs.declared.Volume.{Volume}
 use Rattle.operations.specs.Calls.{slot-of, name-of}
 use Rattle.model.specs.Long.{name-slots, long-count}
-use Rattle.operations.specs.Finish.{set-name, set-size, set-first, mark-deleted, new-entry, Edit, edit, set-slots, marks, edits, effect}
+use Rattle.model.specs.Calendar.{stamp-time, stamp-date}
+use Rattle.operations.specs.Finish.{set-name, set-stamp, set-size, set-first, mark-deleted, new-entry, Edit, edit, set-slots, marks, edits, effect}
 use Rattle.model.proofs.Tests.{and-both, and-left, and-right, clash}
 use Rattle.model.proofs.Long.{OfName, of-name?, of-name, not-of-name}
 use Rattle.model.specs.LongName.{long-entry}
@@ -33,28 +34,49 @@ use Rattle.model.proofs.Volumes.{layout-of}
 use Rattle.operations.proofs.Edits.{one-in, one-out, marked-in, marked-out}
 use Rattle.safety.proofs.Ended.{SameHead}
 
--- ---- a slot with a new size, and a first cluster if a test holds
+-- ---- a slot with a stamp
 
-module _ (t : Bool) (k size : ℕ) (b : Bytes) where
+-- Fields after the write date, and bytes before the access date, are not touched.
+stamp-above : (n at stamp : ℕ) (b : Bytes) → 26 ≤ at → le n (set-stamp stamp b) at ≡ le n b at
+stamp-above n at stamp b high =
+    le-over-above n 2 22 at (byte-of (stamp-time stamp)) _ (omega arith) ∙ le-over-above n 2 24 at (byte-of (stamp-date stamp)) _ (omega arith)
+    ∙ le-over-above n 2 18 at (byte-of (stamp-date stamp)) b (omega arith)
+
+pub stamp-below : (stamp : ℕ) (b : Bytes) (j : ℕ) → j < 18 → set-stamp stamp b j ≡ b j
+stamp-below stamp b j low =
+    overlay-below (byte-of (stamp-time stamp)) 22 _ 2 j (omega arith) ∙ overlay-below (byte-of (stamp-date stamp)) 24 _ 2 j (omega arith)
+    ∙ overlay-below (byte-of (stamp-date stamp)) 18 b 2 j low
+
+-- ---- a slot with a stamp, a new size, and a first cluster if a test holds
+
+module _ (t : Bool) (k size stamp : ℕ) (b : Bytes) where
+  abbrev sized : Bytes
+  sized = set-size size (pick t (set-first k b) b)
+
   abbrev pub resized : Bytes
-  resized = set-size size (pick t (set-first k b) b)
+  resized = set-stamp stamp sized
 
   pub resized-size : size < 256 ^ 4 → file-size resized ≡ size
-  resized-size less = read-back 4 size 28 (pick t (set-first k b) b) less
+  resized-size less = stamp-above 4 28 stamp sized (omega arith) ∙ read-back 4 size 28 (pick t (set-first k b) b) less
 
   pub resized-first : k < 256 ^ 2 → first-cluster resized ≡ pick t k (first-cluster b)
-  resized-first less = le-over-below 2 4 28 26 (byte-of size) (pick t (set-first k b) b) (omega arith) ∙ go t
+  resized-first less =
+      stamp-above 2 26 stamp sized (omega arith) ∙ le-over-below 2 4 28 26 (byte-of size) (pick t (set-first k b) b) (omega arith) ∙ go t
     where
       go : (t : Bool) → first-cluster (pick t (set-first k b) b) ≡ pick t k (first-cluster b)
       go true = read-back 2 k 26 b less
       go false = refl
 
-  pub resized-head : SameHead resized b
-  resized-head j small = overlay-below (byte-of size) 28 (pick t (set-first k b) b) 4 j (omega arith) ∙ go t
+  -- Every byte before the access date stays.
+  pub resized-below : (j : ℕ) → j < 18 → resized j ≡ b j
+  resized-below j small = stamp-below stamp sized j small ∙ overlay-below (byte-of size) 28 (pick t (set-first k b) b) 4 j (omega arith) ∙ go t
     where
       go : (t : Bool) → pick t (set-first k b) b j ≡ b j
       go true = overlay-below (byte-of k) 26 b 2 j (omega arith)
       go false = refl
+
+  pub resized-head : SameHead resized b
+  resized-head j small = resized-below j (omega arith)
 
 -- An operation that edits slot s alone, to b, and leaves its name and attributes.
 pub record Resizes (c : Card) (o : Change) (s : ℕ) (b : Bytes) : Type 0 where
@@ -62,14 +84,14 @@ pub record Resizes (c : Card) (o : Change) (s : ℕ) (b : Bytes) : Type 0 where
   pub head : SameHead b (slot-at (layout-of c) c s)
   pub others : (k : ℕ) → (k ≡ s → ⊥) → effect o (slot-at (layout-of c) c) k ≡ slot-at (layout-of c) c k
 
-pub resizes : (c : Card) (o : Change) (s : ℕ) (t : Bool) (k size : ℕ) → edits o ≡ edit s (λ b. resized t k size b) ∷ []
-    → Resizes c o s (resized t k size (slot-at (layout-of c) c s))
-resizes c o s t k size e =
+pub resizes : (c : Card) (o : Change) (s : ℕ) (t : Bool) (k size stamp : ℕ) → edits o ≡ edit s (λ b. resized t k size stamp b) ∷ []
+    → Resizes c o s (resized t k size stamp (slot-at (layout-of c) c s))
+resizes c o s t k size stamp e =
     let d : Directory = slot-at (layout-of c) c in
     record {
-      slot = one-in o d s (λ b. resized t k size b) e;
-      head = resized-head t k size (d s);
-      others = one-out o d s (λ b. resized t k size b) e;
+      slot = one-in o d s (λ b. resized t k size stamp b) e;
+      head = resized-head t k size stamp (d s);
+      others = one-out o d s (λ b. resized t k size stamp b) e;
     }
 
 -- ---- a slot with a new name
@@ -110,25 +132,25 @@ module _ (n : Name) (b : Bytes) where
 
 -- ---- a new slot, and a deleted one
 
-pub new-size : (n : Name) → file-size (new-entry n) ≡ 0
+pub new-size : (n : Name) (stamp : ℕ) → file-size (new-entry n stamp) ≡ 0
 unfolding new-entry overlay byte-of le
-new-size n = refl
+new-size n stamp = refl
 
-pub new-first : (n : Name) → first-cluster (new-entry n) ≡ 0
+pub new-first : (n : Name) (stamp : ℕ) → first-cluster (new-entry n stamp) ≡ 0
 unfolding new-entry overlay byte-of le
-new-first n = refl
+new-first n stamp = refl
 
-pub new-directory : (n : Name) → is-directory (new-entry n) ≡ false
+pub new-directory : (n : Name) (stamp : ℕ) → is-directory (new-entry n stamp) ≡ false
 unfolding new-entry overlay byte-of is-directory
-new-directory n = refl
+new-directory n stamp = refl
 
-pub new-locked : (n : Name) → is-locked (new-entry n) ≡ false
+pub new-locked : (n : Name) (stamp : ℕ) → is-locked (new-entry n stamp) ≡ false
 unfolding new-entry overlay byte-of is-locked
-new-locked n = refl
+new-locked n stamp = refl
 
-pub new-bears : (n : Name) → NameFits n → starts (byte-of (n .stem) 0) ≡ true → bears n (new-entry n) ≡ true
+pub new-bears : (n : Name) (stamp : ℕ) → NameFits n → starts (byte-of (n .stem) 0) ≡ true → bears n (new-entry n stamp) ≡ true
 unfolding new-entry overlay byte-of is-label
-new-bears n fits begins = named-bears n _ fits begins refl
+new-bears n stamp fits begins = named-bears n _ fits begins refl
 
 pub deleted-bears : (n : Name) (b : Bytes) → bears n (mark-deleted b) ≡ false
 unfolding bears listed vacant overlay byte-of
@@ -212,9 +234,9 @@ vacant-bears n b h = rw h
 pub named-only : (n m : Name) (b : Bytes) → NameFits m → bears n (set-name m b) ≡ true → m ≡ n
 named-only n m b fits h = sym (same-names (name-in (set-name m b)) m (name-back m b fits)) ∙ bears-name n (set-name m b) h
 
-pub new-named : (n m : Name) → NameFits m → bears n (new-entry m) ≡ true → m ≡ n
+pub new-named : (n m : Name) (stamp : ℕ) → NameFits m → bears n (new-entry m stamp) ≡ true → m ≡ n
 unfolding new-entry
-new-named n m fits h = named-only n m _ fits h
+new-named n m stamp fits h = named-only n m _ fits h
 
 -- ---- the slot that a name means
 

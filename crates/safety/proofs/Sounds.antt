@@ -13,6 +13,7 @@ use Rattle.model.specs.Sector.{Card, Window, Store, after}
 use Rattle.model.specs.Fat.{Fat, entry, release}
 use Rattle.model.specs.Chain.{needed}
 use Rattle.model.specs.Root.{Directory, slot-at, free-slot, is-file, file-size, file-at}
+use Rattle.model.specs.Calendar.{stamp-of}
 use Rattle.model.specs.Ground.{Answer, refused, granted}
 use Rattle.model.specs.Volume.{clean}
 use Rattle.model.specs.Record.{Change}
@@ -26,6 +27,7 @@ use Rattle.operations.specs.Calls.{Call, plan, creates, creates-long, appends, 
 use Rattle.operations.specs.Outcome.{left, made, largest}
 use Rattle.safety.specs.Sound.{Sound, chain-of}
 use Rattle.safety.specs.Saved.{Names, Holds, SameFile, AllKeep}
+use Rattle.model.proofs.Calendar.{stamp-small}
 use Rattle.model.proofs.Tests.{clash, same?}
 use Rattle.model.proofs.All.{All, all-map, all-take, all-drop, all-append}
 use Rattle.model.proofs.Chains.{Used}
@@ -102,14 +104,14 @@ module _ {size : ℕ} {c : Card} (st : Start size c) (is : clean (window size c)
 
   -- ---- create
 
-  module _ (n t : Span) (p : Program) (g : Created st is n t p) {u : Card} (end : Ended size c [] fat (creates-as st n t) u) where
+  module _ (n t : Span) {sec : ℕ} (p : Program) (g : Created st is n t sec p) {u : Card} (end : Ended size c [] fat (creates-as st n t (stamp-of sec)) u) where
     abbrev new : ℕ
     new = run-end l c t
 
     in-root : new < l .entries
     in-root = new-in st is n t p g end
 
-    create-spares : Spares c [] fat (creates-as st n t) (at n)
+    create-spares : Spares c [] fat (creates-as st n t (stamp-of sec)) (at n)
     create-spares = record {
       slot = λ s less file ne. unlisted-file (d s) _ (other-slot st is n t p g end s (λ e. run-not-live l c (slots-for t + 1) (g .room) s
           (file-live l c s less file) (omega arith) (omega arith))) file;
@@ -120,7 +122,8 @@ module _ {size : ℕ} {c : Card} (st : Start size c) (is : clean (window size c)
     create-owned : (s : ℕ) → s < l .entries → is-file (slot-at l u s) ≡ true → (s ≡ new) ⊎ (s ≡ new → ⊥) → Owned st sound create-spares end (λ r. r) new s
     create-owned s less file (inl e) = subst (λ s. Owned st sound create-spares end (λ r. r) new s) (sym e)
         (owned-by st sound create-spares end (λ r. r) new new []
-        (empty-then st end new in-root (new-entry (name-of n)) (new-slot st is n t p g end) (new-first (name-of n)) (new-size (name-of n))) tt)
+        (empty-then st end new in-root (new-entry (name-of n) (stamp-of sec)) (new-slot st is n t p g end) (new-first (name-of n) (stamp-of sec))
+        (new-size (name-of n) (stamp-of sec))) tt)
     create-owned s less file (inr ne) =
         other-owned st sound create-spares end (λ r. r) new s less
         (file-back st sound create-spares end (λ r. r) new s less (other-slot st is n t p g end s ne) file)
@@ -242,79 +245,86 @@ module _ {size : ℕ} {c : Card} (st : Start size c) (is : clean (window size c)
   new-owned : (s : ℕ) (js : List ℕ) → All (Fresh l fat) js → All (Owner c (λ r. r) s s) js
   new-owned s js a = all-map (Fresh l fat) (Owner c (λ r. r) s s) (λ k q. Owner.new (q .none) refl) js a
 
-  cut-keeps : (n : Span) (m : ℕ) (g : NamedFile st is n) (shorter : m < file-size (d (at n))) {t : Card}
-      → Ended size c [] (cut-fat st (at n) (g .live) (g .keeps) m) (truncates-as st (at n) (g .live) (g .keeps) m) t → Keeping v c (truncates n m) t
+  cut-keeps : (n : Span) (m : ℕ) (g : NamedFile st is n) (shorter : m < file-size (d (at n))) {sec : ℕ} {t : Card}
+      → Ended size c [] (cut-fat st (at n) (g .live) (g .keeps) m) (truncates-as st (at n) (g .live) (g .keeps) m (stamp-of sec)) t
+      → Keeping v c (truncates n m sec) t
   unfolding chain-of clusters-of file-at
-  cut-keeps n m g shorter end =
+  cut-keeps n m g shorter {sec} end =
       let s : ℕ = at n in
       let mine : List ℕ = ks st s (g .live) (g .keeps) in
       let i : ℕ = needed l m in
       resized-keeps n g end (cut-edit st s (g .live) (g .keeps) m shorter end)
       (λ k u off. shorten-other (take i mine) (drop i mine) fat k (all-take (λ j. k ≡ j → ⊥) i mine off) (all-drop (λ j. k ≡ j → ⊥) i mine off))
       (no-data st sound) (take i mine) (cut-chain st s (g .live) (g .keeps) m shorter end)
-      (all-take (Owner c (λ r. r) s s) i mine (old-owned s (g .live .in-root) (g .file))) (truncates n m) (λ s e. e)
+      (all-take (Owner c (λ r. r) s s) i mine (old-owned s (g .live .in-root) (g .file))) (truncates n m sec) (λ s e. e)
 
-  append-keeps : (n b : Span) (g : NamedFile st is n) (x : Growth st is n b g) (some : b .size ≡ 0 → ⊥) {t : Card}
-      → Ended size c (ds st x) (longer-fat st (at n) (g .live) (g .keeps) x) (updates-as st (at n) (g .live) (g .keeps) x) t → Keeping v c (appends n b) t
+  append-keeps : (n b : Span) (g : NamedFile st is n) (x : Growth st is n b g) (some : b .size ≡ 0 → ⊥) {sec : ℕ} {t : Card}
+      → Ended size c (ds st x) (longer-fat st (at n) (g .live) (g .keeps) x) (updates-as st (at n) (g .live) (g .keeps) x (stamp-of sec)) t
+      → Keeping v c (appends n b sec) t
   unfolding chain-of clusters-of file-at
-  append-keeps n b g x some end =
+  append-keeps n b g x some {sec} end =
       let s : ℕ = at n in
       let old : List ℕ = ks st s (g .live) (g .keeps) in
       let new : List ℕ = new-clusters v c (file-at l c s) (b .size) in
       resized-keeps n g end (grown-edit st s (g .live) (g .keeps) x some end) (λ k u off. extend-other old new fat k off (new-off st x k u))
       (append-spared st s (g .live) (g .keeps) x (g .file) sound) (old ++ new) (grown-chain st s (g .live) (g .keeps) x some end)
-      (all-append (Owner c (λ r. r) s s) old new (old-owned s (g .live .in-root) (g .file)) (new-owned s new (x .fresh))) (appends n b) (λ s e. e)
+      (all-append (Owner c (λ r. r) s s) old new (old-owned s (g .live .in-root) (g .file)) (new-owned s new (x .fresh))) (appends n b sec) (λ s e. e)
 
-  replace-keeps : (n b : Span) (g : NamedFile st is n) (x : Renewal st is b) {t : Card}
-      → Ended size c (ds st x) (exchanged-fat st (at n) (g .live) (g .keeps) x) (replaces-as st (at n) (g .live) (g .keeps) x) t → Keeping v c (replaces n b) t
+  replace-keeps : (n b : Span) (g : NamedFile st is n) (x : Renewal st is b) {sec : ℕ} {t : Card}
+      → Ended size c (ds st x) (exchanged-fat st (at n) (g .live) (g .keeps) x) (replaces-as st (at n) (g .live) (g .keeps) x (stamp-of sec)) t
+      → Keeping v c (replaces n b sec) t
   unfolding chain-of clusters-of file-at
-  replace-keeps n b g x end =
+  replace-keeps n b g x {sec} end =
       let s : ℕ = at n in
       let new : List ℕ = fresh-clusters v c (b .size) in
       resized-keeps n g end (replaced-edit st s (g .live) (g .keeps) x end)
       (λ k u off. exchange-other (ks st s (g .live) (g .keeps)) new fat k off (new-off st x k u)) (replace-spared st x sound)
-      new (replaced-chain st s (g .live) (g .keeps) x end) (new-owned s new (x .fresh)) (replaces n b) (λ s e. e)
+      new (replaced-chain st s (g .live) (g .keeps) x end) (new-owned s new (x .fresh)) (replaces n b sec) (λ s e. e)
 
   -- ---- every call
 
   granted-keeps : (k : Call) (p : Program) → plan k w ≡ granted p → AllKept k (left largest k w)
-  granted-keeps (creates n) p h =
-      let g : Created st is n no-text p = create-granted st is n p h in
-      finish-with st is (AllKept (creates n)) (creates n) p _ h (g .same) (create-keeps n no-text p g (create-end st is n no-text p g) (creates n))
-  granted-keeps (creates-long n t) p h =
-      let g : Created st is n t p = long-granted st is n t p h in
-      finish-with st is (AllKept (creates-long n t)) (creates-long n t) p _ h (g .same) (create-keeps n t p g (create-end st is n t p g) (creates-long n t))
+  granted-keeps (creates n sec) p h =
+      let g : Created st is n no-text sec p = create-granted st is n sec p h in
+      finish-with st is (AllKept (creates n sec)) (creates n sec) p _ h (g .same) (create-keeps n no-text p g (create-end st is n no-text p g) (creates n sec))
+  granted-keeps (creates-long n t sec) p h =
+      let g : Created st is n t sec p = long-granted st is n t sec p h in
+      finish-with st is (AllKept (creates-long n t sec)) (creates-long n t sec) p _ h (g .same) (create-keeps n t p g (create-end st is n t p g)
+      (creates-long n t sec))
   granted-keeps (renames n m) p h =
       let g : Renamed st is n m p = rename-granted st is n m p h in
       finish-with st is (AllKept (renames n m)) (renames n m) p _ h (g .same) (rename-keeps n m p g (rename-end st is n m p g))
   granted-keeps (deletes n) p h =
       let g : Deleted st is n p = delete-granted st is n p h in
       finish-with st is (AllKept (deletes n)) (deletes n) p _ h (g .same) (delete-keeps n p g (delete-end st is n p g))
-  granted-keeps (truncates n m) p h =
-      let g : Truncated st is n m p = truncate-granted st is n m p h in
+  granted-keeps (truncates n m sec) p h =
+      let g : Truncated st is n m sec p = truncate-granted st is n m sec p h in
       let f : NamedFile st is n = g .it in
       let le : m ≤ file-size (d (at n)) = g .less in
       ⊎-elim
-      (λ a. finish-with st is (AllKept (truncates n m)) (truncates n m) p (ending []) h (sym (a .1)) (none-keeps (truncates n m)))
+      (λ a. finish-with st is (AllKept (truncates n m sec)) (truncates n m sec) p (ending []) h (sym (a .1)) (none-keeps (truncates n m sec)))
       (λ a. let some : file-size (d (at n)) - m ≡ 0 → ⊥ = a .0 in
-      finish-with st is (AllKept (truncates n m)) (truncates n m) p _ h (a .1)
-      (cut-keeps n m f (omega arith) (ended st [] _ (truncates-as st (at n) (f .live) (f .keeps) m) (truncate-supplies st (at n) (f .live) (f .keeps) m le))))
+      finish-with st is (AllKept (truncates n m sec)) (truncates n m sec) p _ h (a .1)
+      (cut-keeps n m f (omega arith) (ended st [] _ (truncates-as st (at n) (f .live) (f .keeps) m (stamp-of sec)) (truncate-supplies st (at n) (f .live)
+      (f .keeps) m (stamp-of sec) le (stamp-small sec (g .timely))))))
       (g .same)
-  granted-keeps (appends n b) p h =
-      let g : Appended st is n b p = append-granted st is n b p h in
+  granted-keeps (appends n b sec) p h =
+      let g : Appended st is n b sec p = append-granted st is n b sec p h in
       let f : NamedFile st is n = g .it in
       let x : Growth st is n b f = g .extent in
       ⊎-elim
-      (λ a. finish-with st is (AllKept (appends n b)) (appends n b) p (ending []) h (sym (a .1)) (none-keeps (appends n b)))
-      (λ a. finish-with st is (AllKept (appends n b)) (appends n b) p _ h (a .1)
-      (append-keeps n b f x (a .0) (ended st _ _ (updates-as st (at n) (f .live) (f .keeps) x) (append-supplies st (at n) (f .live) (f .keeps) x))))
+      (λ a. finish-with st is (AllKept (appends n b sec)) (appends n b sec) p (ending []) h (sym (a .1)) (none-keeps (appends n b sec)))
+      (λ a. finish-with st is (AllKept (appends n b sec)) (appends n b sec) p _ h (a .1)
+      (append-keeps n b f x (a .0) (ended st _ _ (updates-as st (at n) (f .live) (f .keeps) x (stamp-of sec)) (append-supplies st (at n) (f .live)
+      (f .keeps) x (stamp-of sec) (stamp-small sec (g .timely))))))
       (g .same)
-  granted-keeps (replaces n b) p h =
-      let g : Replaced st is n b p = replace-granted st is n b p h in
+  granted-keeps (replaces n b sec) p h =
+      let g : Replaced st is n b sec p = replace-granted st is n b sec p h in
       let f : NamedFile st is n = g .it in
       let x : Renewal st is b = g .extent in
-      finish-with st is (AllKept (replaces n b)) (replaces n b) p _ h (g .same)
-      (replace-keeps n b f x (ended st _ _ (replaces-as st (at n) (f .live) (f .keeps) x) (replace-supplies st (at n) (f .live) (f .keeps) x)))
+      finish-with st is (AllKept (replaces n b sec)) (replaces n b sec) p _ h (g .same)
+      (replace-keeps n b f x (ended st _ _ (replaces-as st (at n) (f .live) (f .keeps) x (stamp-of sec)) (replace-supplies st (at n) (f .live) (f .keeps) x
+      (stamp-of sec) (stamp-small sec (g .timely)))))
   granted-keeps recovers p h =
       let e : granted (ending []) ≡ granted p = sym (start-rests st) ∙ h in
       let same : ending [] ≡ p = cc in

@@ -11,8 +11,9 @@ use Rattle.model.specs.Sector.{Card, Window}
 use Rattle.model.specs.Root.{Directory, slot-at, name-ok, bears, listed}
 use Rattle.model.specs.Long.{checksum, name-slots, long-count}
 use Rattle.model.specs.LongName.{name-entry, text-ok, character, long-byte, long-character, long-length, has-text, find-text}
+use Rattle.model.specs.Calendar.{stamp-of, last-second}
 use Rattle.model.specs.Ground.{refused, granted}
-use Rattle.model.specs.Volume.{clean}
+use Rattle.model.specs.Volume.{clean, clean-at}
 use Rattle.model.specs.declared.Layout.{Layout}
 use Rattle.model.specs.declared.Pending.{Pending}
 use Rattle.model.specs.declared.Volume.{Volume}
@@ -28,7 +29,6 @@ use Rattle.operations.specs.Calls.{creates-long, create-long, create-long-on, r
 use Rattle.operations.specs.Outcome.{left, largest}
 use Rattle.operations.specs.Reading.{long-name, long-name-on, long-reading, filled-outcome, buffer-after}
 use Rattle.safety.specs.Demand3.{Genuine, finished, recoveries, SameTables, settles-as}
-use Rattle.safety.specs.Saved.{OfBytes}
 use Rattle.safety.specs.Spelled.{Spelled, NameReadBack, NameRecovered, EntriesFound, TextTaken}
 use Rattle.model.proofs.Tests.{each-every, _also_, and-both, or-right}
 use Rattle.model.proofs.Scan.{all-of0, first-upto0}
@@ -36,7 +36,7 @@ use Rattle.model.proofs.Names.{found-listed}
 use Rattle.model.proofs.Laying.{overlay-same}
 use Rattle.model.proofs.Grounds.{then, ends, passed, barred, asked, bound}
 use Rattle.model.proofs.ReadBack.{Written, sum-local, written-count, written-length, written-byte, written-character}
-use Rattle.model.proofs.Volumes.{window, layout-of, first-fat, volume-of}
+use Rattle.model.proofs.Volumes.{window, layout-of, first-fat, volume-of, at-granted}
 use Rattle.operations.proofs.Spelled.{text-in, text-some, text-few, same-character, text-allowed, allowed-some, span-length}
 use Rattle.safety.proofs.Start.{Start, shape-of, slots-same}
 use Rattle.safety.proofs.Theorem.{demand3, after-calls}
@@ -58,7 +58,8 @@ record Worded (v : Volume) (x : Card) (n t : Span) (s : ℕ) : Type 0 where
 
 -- ---- what is read of it
 
-module _ (x : Window) (v : Volume) (is : clean x ≡ granted v) (n t : Span) (s : ℕ) (h : Worded v (x .card) n t s) (small : OfBytes (creates-long n t)) where
+module _ (x : Window) (v : Volume) (is : clean x ≡ granted v) (n t : Span) (s : ℕ) (h : Worded v (x .card) n t s)
+    (small : (i : ℕ) → i < t .size → t .byte i < 256) where
   abbrev d : Directory
   d = slot-at (v .layout) (x .card)
 
@@ -115,24 +116,25 @@ module _ (x : Window) (v : Volume) (is : clean x ≡ granted v) (n t : Span) (s 
       and-both (ltb 0 (t .size)) _ (lt-ltb 0 (t .size) (omega arith))
       (lt-ltb (find-text (v .layout) (x .card) t) (v .layout .entries) (omega (arith, h .in-root)))
 
-  taken-again : (m : Span) → name-ok m ≡ true → plan (creates-long m t) x ≡ refused Ground.Exists
+  taken-again : (m : Span) (sec : ℕ) → sec ≤ last-second → name-ok m ≡ true → plan (creates-long m t sec) x ≡ refused Ground.Exists
   unfolding plan create-long create-long-on create-as Calls.new-slot
-  taken-again m ok =
-      then (clean x) _ v is ∙ passed Ground.Name (not (name-ok m)) _ (ap not ok) ∙ passed Ground.Longname (not (text-ok t)) _ (ap not (h .fine))
+  taken-again m sec timely ok =
+      then (clean-at x sec) _ v (at-granted x sec v is timely) ∙ passed Ground.Name (not (name-ok m)) _ (ap not ok) ∙ passed Ground.Longname (not
+      (text-ok t)) _ (ap not (h .fine))
       ∙ ends (Calls.new-slot v (x .card) m t) _ Ground.Exists
       (barred Ground.Exists (taken v (x .card) m || Calls.text-taken v (x .card) t) _ (or-right (taken v (x .card) m) _ taken-text))
 
 -- ---- the card that a create leaves
 
-text-granted : (w : Window) (n t : Span) (p : Program) → plan (creates-long n t) w ≡ granted p → text-ok t ≡ true
+text-granted : (w : Window) (n t : Span) (sec : ℕ) (p : Program) → plan (creates-long n t sec) w ≡ granted p → text-ok t ≡ true
 unfolding plan create-long create-long-on
-text-granted w n t p h =
-    let b = bound (clean w) _ p h in
+text-granted w n t sec p h =
+    let b = bound (clean-at w sec) _ p h in
     let h1 = asked Ground.Name (not (name-ok n)) _ p (b .2) in
     not-false (text-ok t) (asked Ground.Longname (not (text-ok t)) _ p (h1 .1) .0)
 
-module _ {size : ℕ} {c : Card} (st : Start size c) (is : clean (window size c) ≡ granted (volume-of c Pending.Nothing)) (n t : Span) (p : Program)
-    (fine : text-ok t ≡ true) (g : Created st is n t p) where
+module _ {size : ℕ} {c : Card} (st : Start size c) (is : clean (window size c) ≡ granted (volume-of c Pending.Nothing)) (n t : Span)
+    (sec : ℕ) (p : Program) (fine : text-ok t ≡ true) (g : Created st is n t sec p) where
   abbrev l : Layout
   l = layout-of c
 
@@ -142,9 +144,9 @@ module _ {size : ℕ} {c : Card} (st : Start size c) (is : clean (window size c)
   abbrev s : ℕ
   s = run-end l c t
 
-  module _ {u : Card} (end : Ended size c [] (first-fat c) (creates-as st n t) u) where
-    sum-is : checksum (slot-at l u s) ≡ checksum (new-entry (name-of n))
-    sum-is = sum-local 11 (slot-at l u s) (new-entry (name-of n))
+  module _ {u : Card} (end : Ended size c [] (first-fat c) (creates-as st n t (stamp-of sec)) u) where
+    sum-is : checksum (slot-at l u s) ≡ checksum (new-entry (name-of n) (stamp-of sec))
+    sum-is = sum-local 11 (slot-at l u s) (new-entry (name-of n) (stamp-of sec))
         (λ j less. end .slots s (new-in st is n t p g end) j (omega arith) ∙ (λ k. new-slot st is n t p g end k j))
 
     entry-is : (i : ℕ) → 1 ≤ i → i ≤ slots-for t → (j : ℕ) → j < 32
@@ -164,28 +166,29 @@ module _ {size : ℕ} {c : Card} (st : Start size c) (is : clean (window size c)
       written = record { some = text-some t fine; few = text-few t fine; room = omega arith; entries = entry-is };
     }
 
-  left-worded : plan (creates-long n t) (window size c) ≡ granted p → Worded v (left largest (creates-long n t) (window size c) .card) n t s
-  left-worded h = finish-with st is (λ x. Worded v (x .card) n t s) (creates-long n t) p _ h (g .same) (worded (create-end st is n t p g))
+  left-worded : plan (creates-long n t sec) (window size c) ≡ granted p → Worded v (left largest (creates-long n t sec) (window size c) .card) n t s
+  left-worded h = finish-with st is (λ x. Worded v (x .card) n t s) (creates-long n t sec) p _ h (g .same) (worded (create-end st is n t p g))
 
-created : (w : Window) (v : Volume) → Genuine w → clean w ≡ granted v → (n t : Span) (p : Program) → plan (creates-long n t) w ≡ granted p
-    → Worded v (finished (creates-long n t) w) n t (run-end (v .layout) (w .card) t)
-created w v real is n t p h =
+created : (w : Window) (v : Volume) → Genuine w → clean w ≡ granted v → (n t : Span) (sec : ℕ) (p : Program) → plan (creates-long n t sec) w ≡ granted p
+    → Worded v (finished (creates-long n t sec) w) n t (run-end (v .layout) (w .card) t)
+created w v real is n t sec p h =
     let st : Start (w .size) (w .card) = started w v real is in
     let same : v ≡ volume-of (w .card) Pending.Nothing = volume-is w v is in
     let now : clean w ≡ granted (volume-of (w .card) Pending.Nothing) = is ∙ ap granted same in
-    rw same (left-worded st now n t p (text-granted w n t p h) (long-granted st now n t p h) h)
+    rw same (left-worded st now n t sec p (text-granted w n t sec p h) (long-granted st now n t sec p h) h)
 
 pub name-read-back : NameReadBack
-name-read-back w v real is n t small p h =
-    spelled-of (left largest (creates-long n t) w) v (after-calls (creates-long n t) w v real is .clean-again) n t _ (created w v real is n t p h) small
+name-read-back w v real is n t sec small p h =
+    spelled-of (left largest (creates-long n t sec) w) v (after-calls (creates-long n t sec) w v real is .clean-again) n t _
+    (created w v real is n t sec p h) small
 
 -- ---- its slots
 
 pub entries-found : EntriesFound
 unfolding old-slots changed-by new-slots
-entries-found w v real is n t p h =
-    let x : Card = finished (creates-long n t) w in
-    let k = created w v real is n t p h in
+entries-found w v real is n t sec p h =
+    let x : Card = finished (creates-long n t sec) w in
+    let k = created w v real is n t sec p h in
     ap (λ s. name-slots s (long-count (slot-at (v .layout) x) s)) (k .at)
     ∙ ap (name-slots (run-end (v .layout) (w .card) t))
     (written-count (slot-at (v .layout) x) (run-end (v .layout) (w .card) t) (text-of t) (t .size / 2) (k .written))
@@ -211,23 +214,24 @@ kept-worded v y z same n t s h = record {
 }
 
 pub name-recovered : NameRecovered
-name-recovered w v real is n t small p h limit limits once m stored ends =
-    spelled-of (left once recovers (recoveries limits (left limit (creates-long n t) w))) v
-    (restored (creates-long n t) w v real is limit limits once .clean-again m ends) n t _
-    (kept-worded v _ (finished (creates-long n t) w) same n t _ (created w v real is n t p h)) small
+name-recovered w v real is n t sec small p h limit limits once m stored ends =
+    spelled-of (left once recovers (recoveries limits (left limit (creates-long n t sec) w))) v
+    (restored (creates-long n t sec) w v real is limit limits once .clean-again m ends) n t _
+    (kept-worded v _ (finished (creates-long n t sec) w) same n t _ (created w v real is n t sec p h)) small
   where
     y : Card
-    y = left once recovers (recoveries limits (left limit (creates-long n t) w)) .card
+    y = left once recovers (recoveries limits (left limit (creates-long n t sec) w)) .card
 
-    tables : SameTables (v .layout) y (finished (creates-long n t) w)
-    tables = subst (λ b. SameTables (v .layout) y (settles-as b (creates-long n t) w)) stored
-        (demand3 (creates-long n t) w v real is limit limits once .tables m ends)
+    tables : SameTables (v .layout) y (finished (creates-long n t sec) w)
+    tables = subst (λ b. SameTables (v .layout) y (settles-as b (creates-long n t sec) w)) stored
+        (demand3 (creates-long n t sec) w v real is limit limits once .tables m ends)
 
-    same : (k : ℕ) → k < v .layout .entries → slot-at (v .layout) y k ≡ slot-at (v .layout) (finished (creates-long n t) w) k
-    same = slots-same (v .layout) (rw (volume-is w v is) (shape-of (started w v real is))) y (finished (creates-long n t) w) (tables .root)
+    same : (k : ℕ) → k < v .layout .entries → slot-at (v .layout) y k ≡ slot-at (v .layout) (finished (creates-long n t sec) w) k
+    same = slots-same (v .layout) (rw (volume-is w v is) (shape-of (started w v real is))) y (finished (creates-long n t sec) w) (tables .root)
 
 -- ---- its text
 
 pub text-taken : TextTaken
-text-taken w v real is n t small p h =
-    taken-again (left largest (creates-long n t) w) v (after-calls (creates-long n t) w v real is .clean-again) n t _ (created w v real is n t p h) small
+text-taken w v real is n t sec small p h =
+    taken-again (left largest (creates-long n t sec) w) v (after-calls (creates-long n t sec) w v real is .clean-again) n t _
+    (created w v real is n t sec p h) small

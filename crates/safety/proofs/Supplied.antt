@@ -16,9 +16,10 @@ use Rattle.model.specs.Chain.{needed}
 use Rattle.model.specs.Root.{slot-at, name-ok, free-run, free-slot, name-in, entry-at, first-cluster, file-size, first-bytes, end-slot}
 use Rattle.model.specs.Long.{name-slots, most-long, long-count, checksum, order-byte}
 use Rattle.model.specs.LongName.{long-slots, spelled, name-entry}
-use Rattle.model.specs.Pending.{count-ok, fills, named-slots, end-past}
+use Rattle.model.specs.Pending.{count-ok, part-ok, fills, named-slots, end-past}
 use Rattle.model.specs.Promises.{Shape}
 use Rattle.model.specs.declared.Entry.{Entry}
+use Rattle.model.specs.declared.Record.{Record}
 use Rattle.model.specs.declared.Layout.{Layout}
 use Rattle.model.specs.declared.Operation.{Operation}
 use Rattle.model.specs.declared.Operation.the-variants.{Create, Update, Rename, Delete, Truncate, Replace}
@@ -40,13 +41,33 @@ use Rattle.safety.proofs.Start.{Start, shape-of, entries-few, Clear}
 use Rattle.safety.proofs.Effect.{Begun, Lives, marks-live, resized-lives}
 use Rattle.safety.proofs.Operate.{Supplies}
 use Rattle.safety.proofs.Clusters.{Plain, released-marks, plain-fits, shorten-marks, extend-marks, exchange-marks}
-use Rattle.model.proofs.Records.{EntryFits, ChangeFits, Silent, Spells, entry-record}
-use Rattle.model.proofs.Pendings.{Seat, recorded, record-fine, none-counted, create-counted, delete-counted, rename-counted, part-fine, starts-not-zero}
-use Rattle.model.specs.Record.{Change, operation-records, records, record-of, plain, text-length, last-number}
+use Rattle.model.proofs.Records.{EntryFits, RecordFits, ChangeFits, Silent, Spells, listed, entry-record, stamp-fits}
+use Rattle.model.proofs.Recorded.{Seat, Starts, recorded, record-fine, none-counted, create-counted, delete-counted, rename-counted, pair-fine, stamp-fine}
+use Rattle.model.proofs.Recorded.{stamp-starts}
+use Rattle.model.proofs.Pendings.{starts-not-zero}
+use Rattle.model.specs.Record.{Change, operation-records, records, record-of, stamp-record, plain, text-length, last-number}
 use Rattle.safety.proofs.After.{last-slot, past-slot, LowSlots}
 use Rattle.safety.proofs.Operations.{KeepsChain, entry-fits, slot-seat, slot-seated, slot-named, slot-lives, first-fits, size-fits}
 use Rattle.safety.proofs.Operations.{the-chain, old-plain, old-busy}
 use Rattle.safety.proofs.Extents.{Extent, ds, new-plain, total-fits, outside}
+
+-- What the records of a group that follow the first must be, by its number: none, or a stamp that fits.
+pub record Follows (number : ℕ) (rest : List Record) : Type 0 where
+  pub few : length rest ≤ 1
+  pub fields : All RecordFits rest
+  pub live : All Starts rest
+  pub parts : (n z : ℕ) (r : Record) → r .number ≡ number → (k : ℕ) → 1 ≤ k → k < length (r ∷ rest) → part-ok n z (listed (r ∷ rest)) k ≡ true
+
+none-follows : (number : ℕ) → Follows number []
+none-follows number = record { few = omega arith; fields = tt; live = tt; parts = λ n z r same k low high. absurd (omega arith) }
+
+stamp-follows : (number stamp : ℕ) → eqb number 5 ≡ false → stamp < 256 ^ 4 → Follows number (stamp-record stamp ∷ [])
+stamp-follows number stamp other small = record {
+  few = omega arith;
+  fields = (stamp-fits stamp small, tt);
+  live = (stamp-starts stamp, tt);
+  parts = λ n z r same. stamp-fine n z r stamp (ap (λ m. eqb m 5) same ∙ other);
+}
 
 module _ {size : ℕ} {c : Card} (st : Start size c) where
   abbrev l : Layout
@@ -60,7 +81,7 @@ module _ {size : ℕ} {c : Card} (st : Start size c) where
 
   -- ---- create
 
-  module _ (n t : Span) where
+  module _ (n t : Span) (stamp : ℕ) where
     abbrev run : ℕ
     run = free-run l c (slots-for t + 1)
 
@@ -68,9 +89,12 @@ module _ {size : ℕ} {c : Card} (st : Start size c) where
     made = record { slot = run-end l c t; name = name-in (n .byte); attributes = 0x20 }
 
     abbrev pub creates-as : Change
-    creates-as = record { operation = Create made (slots-for t); text = text-of t }
+    creates-as = record { operation = Create made (slots-for t) stamp; text = text-of t }
 
-    module _ (ok : name-ok n ≡ true) (fine : TextFine t) (room : run < l .entries + 1 - (slots-for t + 1)) where
+    module _ (ok : name-ok n ≡ true) (fine : TextFine t) (room : run < l .entries + 1 - (slots-for t + 1)) (small : stamp < 256 ^ 4) where
+      stamped : Follows 1 (stamp-record stamp ∷ [])
+      stamped = stamp-follows 1 stamp refl small
+
       few-slots : slots-for t ≤ 16
       few-slots = ⊎-elim (λ e. omega arith) (λ h. omega (arith, text-few t h)) fine
 
@@ -81,6 +105,7 @@ module _ {size : ℕ} {c : Card} (st : Start size c) where
           (λ h. let many : text-length (text-of t) ≡ t .size / 2 = span-length t fine in inr (record {
             entry = made;
             count = slots-for t;
+            stamp = stamp;
             is = refl;
             some = omega (arith, text-some t h);
             begins = starts-not-zero _ (name-starts n ok);
@@ -96,7 +121,7 @@ module _ {size : ℕ} {c : Card} (st : Start size c) where
           entry-record made 1 (slots-for t) 0 0 0 (omega arith) (omega (arith, few-slots))
               (record { slot = omega (arith, entries-few st, room); name = name-fits n ok; attributes = omega arith })
               (omega arith) (omega arith) (omega arith),
-          tt,
+          stamped .fields,
         );
         text = create-text;
       }
@@ -119,16 +144,24 @@ module _ {size : ℕ} {c : Card} (st : Start size c) where
           (λ k less. ne-eqb (first-bytes l c k) 0 (run-lowest l c (slots-for t + 1) room (st .clean .root) k less))
 
       -- Its slots begin otherwise than 0: with an order number, or as its name does.
-      numbered : (i : ℕ) → 1 ≤ i → i ≤ 16 → name-entry (checksum (new-entry (made .name))) (text-of t) (text-length (text-of t)) i 0 ≡ 0 → ⊥
+      numbered : (i : ℕ) → 1 ≤ i → i ≤ 16 → name-entry (checksum (new-entry (made .name) stamp)) (text-of t) (text-length (text-of t)) i 0 ≡ 0 → ⊥
       unfolding name-entry
       numbered i low high e = ⊎-elim
-          (λ r. omega (arith, entry-order (checksum (new-entry (made .name))) (order-byte (long-slots (text-length (text-of t))) i)
-          (λ k. spelled (text-of t) (text-length (text-of t)) (13 * (i - 1) + k)), r))
-          (λ r. omega (arith, entry-order (checksum (new-entry (made .name))) (order-byte (long-slots (text-length (text-of t))) i)
-          (λ k. spelled (text-of t) (text-length (text-of t)) (13 * (i - 1) + k)), r))
+          (λ r. omega (
+            arith,
+            entry-order (checksum (new-entry (made .name) stamp)) (order-byte (long-slots (text-length (text-of t))) i)
+                (λ k. spelled (text-of t) (text-length (text-of t)) (13 * (i - 1) + k)),
+            r,
+          ))
+          (λ r. omega (
+            arith,
+            entry-order (checksum (new-entry (made .name) stamp)) (order-byte (long-slots (text-length (text-of t))) i)
+                (λ k. spelled (text-of t) (text-length (text-of t)) (13 * (i - 1) + k)),
+            r,
+          ))
           (order-range (long-slots (text-length (text-of t))) i)
 
-      slot-begins : (k : ℕ) → OfName (run-end l c t) (slots-for t) k → name-slot made (text-of t) k 0 ≡ 0 → ⊥
+      slot-begins : (k : ℕ) → OfName (run-end l c t) (slots-for t) k → name-slot made stamp (text-of t) k 0 ≡ 0 → ⊥
       unfolding name-slot new-entry overlay byte-of
       slot-begins k w = by-pick (λ (b : Bytes). b 0 ≡ 0 → ⊥) (eqb k (run-end l c t)) _ _
           (λ _. starts-not-zero _ (name-starts n ok))
@@ -143,9 +176,9 @@ module _ {size : ℕ} {c : Card} (st : Start size c) where
         recorded = recorded (l .entries) (past-slot c creates-as) creates-as create-fits
             (record-fine (l .entries) (past-slot c creates-as) made 1 (slots-for t) 0 0 0 (omega arith) (omega arith)
             (create-counted made (slots-for t) 0 0 0 few-slots (omega arith)) (omega arith) run-seated)
-            (λ k low high. absurd (omega arith)) (name-starts n ok, tt) (span-ok t fine creates-as refl refl);
-        lives = all-image (Begun (slot-at l c)) (λ k. edit k (λ b. name-slot made (text-of t) k)) (name-slots (run-end l c t) (slots-for t))
-            (all-slots (λ k. name-slot made (text-of t) k 0 ≡ 0 → ⊥) (run-end l c t) (slots-for t) slot-begins);
+            (stamped .parts (l .entries) (past-slot c creates-as) _ refl) (name-starts n ok, stamped .live) (span-ok t fine creates-as refl refl);
+        lives = all-image (Begun (slot-at l c)) (λ k. edit k (λ b. name-slot made stamp (text-of t) k)) (name-slots (run-end l c t) (slots-for t))
+            (all-slots (λ k. name-slot made stamp (text-of t) k 0 ≡ 0 → ⊥) (run-end l c t) (slots-for t) slot-begins);
         lined = ⊎-elim (λ some. inl some) (λ none. inr (single none)) (less? 0 (slots-for t));
       }
         where
@@ -206,7 +239,7 @@ module _ {size : ℕ} {c : Card} (st : Start size c) where
           recorded = recorded (l .entries) z (renames-as n) fits
               (record-fine (l .entries) z e 5 count k 0 m (omega arith) (omega arith)
               (rename-counted e count k 0 m few-long (count-low (slot-at l c) s)) (omega arith) (slot-seated st s live z up))
-              (part-fine (l .entries) z e f 5 count k 0 m refl (room, omega (arith, free-low l c)) (not-of-name s count (free-slot l c) (free-apart room)))
+              (pair-fine (l .entries) z e f count k 0 m refl (room, omega (arith, free-low l c)) (not-of-name s count (free-slot l c) (free-apart room)))
               (slot-named st s live, (name-starts n ok, tt)) (silent-ok (renames-as n) refl refl);
           lives = all-append (Begun (slot-at l c)) (marks (name-slots s count)) _ (marks-live (slot-at l c) (name-slots s count))
               (starts-not-zero _ (name-starts n ok), tt);
@@ -215,16 +248,17 @@ module _ {size : ℕ} {c : Card} (st : Start size c) where
               (λ q. omega (arith, free-low l c)) (either-among (name-slots s count) (free-slot l c) i on));
         }
 
-    -- An operation that one record tells of, about the entry in this slot.
-    entry-supplies : (o : Operation) (number n k from m : ℕ) → records (plain o) ≡ record-of e number n k from m ∷ [] → 1 ≤ number → number ≤ last-number
+    -- An operation about the entry in this slot.
+    entry-supplies : (o : Operation) (number n k from m : ℕ) (rest : List Record) → Follows number rest
+        → records (plain o) ≡ record-of e number n k from m ∷ rest → 1 ≤ number → number ≤ last-number
         → n < 256 → count-ok (record-of e number n k from m) ≡ true → k < 256 ^ 2 → from < 65536 → m < 256 ^ 4
         → {ds : List Store} {f : Fat} → All (λ s. Clear c (s .sector)) ds → SameMarks l f fat → Lives (slot-at l c) (plain o)
         → named-slots o ≡ name-slots s n → fills o ≡ 0 → Supplies c ds f (plain o)
     unfolding entry-at record-of
-    entry-supplies o number n k from m told low high short counted first small sized outside marks lives named none =
+    entry-supplies o number n k from m rest after told low high short counted first small sized outside marks lives named none =
         let fits : ChangeFits (plain o) = record {
-          few = rw told (omega arith);
-          fields = rw told (entry-record e number n k from m (omega arith) short (entry-fits st s live) first (omega arith) sized, tt);
+          few = rw told (let one = after .few in omega arith);
+          fields = rw told (entry-record e number n k from m (omega arith) short (entry-fits st s live) first (omega arith) sized, after .fields);
           text = inl (refl, none);
         } in
         let z : ℕ = past-slot c (plain o) in
@@ -235,7 +269,8 @@ module _ {size : ℕ} {c : Card} (st : Start size c) where
           fits = fits;
           recorded = recorded (l .entries) z (plain o) fits
               (rw told (record-fine (l .entries) z e number n k from m low high counted small (slot-seated st s live z up)))
-              (λ i one less. absurd (let none : i < 1 = rw told at less in omega arith)) (rw told (slot-named st s live, tt))
+              (λ i one less. rw told (after .parts (l .entries) z (record-of e number n k from m) refl i one (rw told at less)))
+              (rw told (slot-named st s live, after .live))
               (silent-ok (plain o) refl none);
           lives = lives;
           lined = inr (λ i less on. omega (arith, low-named s n i (ap (λ ks. among ks i) (sym named) ∙ on), slot-seat st s live));
@@ -250,7 +285,7 @@ module _ {size : ℕ} {c : Card} (st : Start size c) where
 
       pub delete-supplies : Supplies c [] (release ks fat) deletes-as
       unfolding entry-at records operation-records edits operation-edits named-slots
-      delete-supplies = entry-supplies (Delete e count (first-cluster b) (file-size b)) 3 count (first-cluster b) 0 (file-size b) refl
+      delete-supplies = entry-supplies (Delete e count (first-cluster b) (file-size b)) 3 count (first-cluster b) 0 (file-size b) [] (none-follows 3) refl
           (omega arith) (omega arith) (omega (arith, few-long)) (delete-counted e count (first-cluster b) 0 (file-size b) few-long (count-low (slot-at l c) s))
           (first-fits st s live) (omega arith) (size-fits st s live) tt (λ k low high. released-marks l (sh .few) fat ks (old-plain st s live whole) k)
           (marks-live (slot-at l c) (name-slots s count)) refl refl
@@ -258,57 +293,60 @@ module _ {size : ℕ} {c : Card} (st : Start size c) where
       abbrev pub cut-fat : ℕ → Fat
       cut-fat n = shorten (take (needed l n) ks) (drop (needed l n) ks) fat
 
-      abbrev pub truncates-as : ℕ → Change
-      truncates-as n = plain (Truncate e (first-cluster b) (getD (drop (needed l n) ks) 0 0) n)
+      abbrev pub truncates-as : ℕ → ℕ → Change
+      truncates-as n stamp = plain (Truncate e (first-cluster b) (getD (drop (needed l n) ks) 0 0) n stamp)
 
-      pub truncate-supplies : (n : ℕ) → n ≤ file-size b → Supplies c [] (cut-fat n) (truncates-as n)
+      pub truncate-supplies : (n stamp : ℕ) → n ≤ file-size b → stamp < 256 ^ 4 → Supplies c [] (cut-fat n) (truncates-as n stamp)
       unfolding entry-at records operation-records edits operation-edits named-slots
-      truncate-supplies n less =
+      truncate-supplies n stamp less short =
           let m : ℕ = needed l n in
           let plain : All (Plain l fat) (take m ks) = all-take (Plain l fat) m ks (old-plain st s live whole) in
           let busy : All (λ k. entry fat k ≡ 0 → ⊥) (take m ks) = all-take (λ k. entry fat k ≡ 0 → ⊥) m ks (old-busy st s live whole) in
           let freed : All (Plain l fat) (drop m ks) = all-drop (Plain l fat) m ks (old-plain st s live whole) in
           let from : ℕ = getD (drop m ks) 0 0 in
-          entry-supplies (Truncate e (first-cluster b) from n) 4 0 (first-cluster b) from n refl (omega arith) (omega arith) (omega arith)
+          entry-supplies (Truncate e (first-cluster b) from n stamp) 4 0 (first-cluster b) from n _ (stamp-follows 4 stamp refl short) refl
+          (omega arith) (omega arith) (omega arith)
           (none-counted e 4 (first-cluster b) from n) (first-fits st s live) (plain-fits l (sh .few) fat (drop m ks) freed 0)
           (omega (arith, size-fits st s live)) tt
-          (λ k low high. shorten-marks l (sh .few) fat (take m ks) plain busy (drop m ks) freed k) (resized-lives (eqb n 0) 0 n b (slot-lives st s live), tt)
-          refl refl
+          (λ k low high. shorten-marks l (sh .few) fat (take m ks) plain busy (drop m ks) freed k)
+          (resized-lives (eqb n 0) 0 n stamp b (slot-lives st s live), tt) refl refl
 
       module _ {new : List ℕ} {d : Span} (x : Extent c ks new (file-size b) d) where
         abbrev pub longer-fat : Fat
         longer-fat = extend ks new fat
 
-        abbrev pub updates-as : Change
-        updates-as = plain (Update e (last-cluster ks) (getD new 0 0) (file-size b + d .size))
+        abbrev pub updates-as : ℕ → Change
+        updates-as stamp = plain (Update e (last-cluster ks) (getD new 0 0) (file-size b + d .size) stamp)
 
-        pub append-supplies : Supplies c (ds st x) longer-fat updates-as
+        pub append-supplies : (stamp : ℕ) → stamp < 256 ^ 4 → Supplies c (ds st x) longer-fat (updates-as stamp)
         unfolding entry-at records operation-records edits operation-edits named-slots
-        append-supplies =
+        append-supplies stamp short =
             let few : l .clusters ≤ 65524 = sh .few in
             let last : ℕ = last-cluster ks in
             let from : ℕ = getD new 0 0 in
             let n : ℕ = file-size b + d .size in
             let old : All (Plain l fat) ks = old-plain st s live whole in
-            entry-supplies (Update e last from n) 2 0 last from n refl (omega arith) (omega arith) (omega arith) (none-counted e 2 last from n)
+            entry-supplies (Update e last from n stamp) 2 0 last from n _ (stamp-follows 2 stamp refl short) refl (omega arith) (omega arith) (omega arith)
+            (none-counted e 2 last from n)
             (plain-fits l few fat ks old (length ks - 1))
             (plain-fits l few fat new (new-plain st x) 0) (total-fits st x) (outside st x)
             (λ k low high. extend-marks l few fat ks old (old-busy st s live whole) new (new-plain st x) k)
-            (resized-lives (eqb last 0) from n b (slot-lives st s live), tt) refl refl
+            (resized-lives (eqb last 0) from n stamp b (slot-lives st s live), tt) refl refl
 
       module _ {new : List ℕ} {d : Span} (x : Extent c [] new 0 d) where
         abbrev pub exchanged-fat : Fat
         exchanged-fat = exchange ks new fat
 
-        abbrev pub replaces-as : Change
-        replaces-as = plain (Replace e (first-cluster b) (getD new 0 0) (d .size))
+        abbrev pub replaces-as : ℕ → Change
+        replaces-as stamp = plain (Replace e (first-cluster b) (getD new 0 0) (d .size) stamp)
 
-        pub replace-supplies : Supplies c (ds st x) exchanged-fat replaces-as
+        pub replace-supplies : (stamp : ℕ) → stamp < 256 ^ 4 → Supplies c (ds st x) exchanged-fat (replaces-as stamp)
         unfolding entry-at records operation-records edits operation-edits named-slots
-        replace-supplies =
+        replace-supplies stamp short =
             let from : ℕ = getD new 0 0 in
-            entry-supplies (Replace e (first-cluster b) from (d .size)) 6 0 (first-cluster b) from (d .size) refl (omega arith) (omega arith) (omega arith)
+            entry-supplies (Replace e (first-cluster b) from (d .size) stamp) 6 0 (first-cluster b) from (d .size) _
+            (stamp-follows 6 stamp refl short) refl (omega arith) (omega arith) (omega arith)
             (none-counted e 6 (first-cluster b) from (d .size)) (first-fits st s live) (plain-fits l (sh .few) fat new (new-plain st x) 0)
             (omega (arith, total-fits st x)) (outside st x)
             (λ k low high. exchange-marks l (sh .few) fat ks new (old-plain st s live whole) (new-plain st x) k)
-            (resized-lives true from (d .size) b (slot-lives st s live), tt) refl refl
+            (resized-lives true from (d .size) stamp b (slot-lives st s live), tt) refl refl

@@ -7,6 +7,7 @@ use Rattle.model.specs.Scan.{count-from}
 use Rattle.model.specs.Sector.{Card, Window}
 use Rattle.model.specs.Fat.{is-free, entry, fat1-of}
 use Rattle.model.specs.Chain.{needed}
+use Rattle.model.specs.Calendar.{last-second}
 use Rattle.model.specs.Ground.{refused, granted}
 use Rattle.model.specs.Volume.{clean}
 use Rattle.model.specs.declared.File.{File}
@@ -35,17 +36,18 @@ pub record Tells (w : Window) (v : Volume) (bytes : ℕ) (k : Call) : Type 0 whe
   -- After a yes the call is refused on no ground.
   pub goes-on : (cluster : ℕ) → fits w bytes ≡ granted (yes cluster) → (p : Program) × (plan k w ≡ granted p)
 
--- The name n means an empty file, which may be written.
+-- The name n means an empty file, which may be written. CLOCK, which is asked before, passes the seconds given.
 abbrev pub Empty : Volume → Card → Span → Type 0
 Empty v c n = (f : File) × (file-of Access.Write v c n ≡ granted f) × (f .size ≡ 0)
 
 abbrev pub FitsAppend : Type 0
-FitsAppend = (w : Window) (v : Volume) → clean w ≡ granted v → (n d : Span) → Empty v (w .card) n → Tells w v (d .size) (appends n d)
+FitsAppend = (w : Window) (v : Volume) → clean w ≡ granted v → (n d : Span) (seconds : ℕ) → seconds ≤ last-second → Empty v (w .card) n
+    → Tells w v (d .size) (appends n d seconds)
 
 -- A replace needs the same room, whatever the file has.
 abbrev pub FitsReplace : Type 0
-FitsReplace = (w : Window) (v : Volume) → clean w ≡ granted v → (n d : Span) (f : File) → file-of Access.Write v (w .card) n ≡ granted f
-    → Tells w v (d .size) (replaces n d)
+FitsReplace = (w : Window) (v : Volume) → clean w ≡ granted v → (n d : Span) (seconds : ℕ) → seconds ≤ last-second
+    → (f : File) → file-of Access.Write v (w .card) n ≡ granted f → Tells w v (d .size) (replaces n d seconds)
 
 -- "the lowest cluster up to which FAT1 has enough free, 0 for no bytes". How many of the clusters up to k are free in FAT1:
 unfoldable pub free-up-to : Layout → Card → ℕ → ℕ
@@ -63,5 +65,5 @@ FitsLowest = (w : Window) (v : Volume) → clean w ≡ granted v → (bytes clus
 -- So a path that fits, and whose new name is not refused, is saved: it is read again as it was given.
 abbrev pub FittingSaved : Type 0
 FittingSaved = (w : Window) (v : Volume) → Genuine w → clean w ≡ granted v
-    → (n d : Span) (cluster : ℕ) → fits w (d .size) ≡ granted (yes cluster) → (p : Program) → plan (creates n) w ≡ granted p
-    → Holds (left largest (appends n d) (left largest (creates n) w)) n (d .size) (d .byte)
+    → (n d : Span) (cluster : ℕ) → fits w (d .size) ≡ granted (yes cluster) → (s t : ℕ) → t ≤ last-second → (p : Program) → plan (creates n s) w ≡ granted p
+    → Holds (left largest (appends n d t) (left largest (creates n s) w)) n (d .size) (d .byte)

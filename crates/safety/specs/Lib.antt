@@ -7,3 +7,4 @@ pub mod Changed
 pub mod Restored
 pub mod Fitting
 pub mod Spelled
+pub mod Dates

@@ -43,18 +43,19 @@ Alone v c n = (s : ℕ) → s < v .layout .entries → bears (name-of n) (slot-a
 -- that are not refused and finish.
 pub record Saves (w : Window) (v : Volume) : Type 0 where
   -- A new file is empty, with a long name or without.
-  pub created : (n : Span) (p : Program) → plan (creates n) w ≡ granted p
-      → (content : Bytes) → Holds (left largest (creates n) w) n 0 content
-  pub created-long : (n t : Span) (p : Program) → plan (creates-long n t) w ≡ granted p
-      → (content : Bytes) → Holds (left largest (creates-long n t) w) n 0 content
+  pub created : (n : Span) (seconds : ℕ) (p : Program) → plan (creates n seconds) w ≡ granted p
+      → (content : Bytes) → Holds (left largest (creates n seconds) w) n 0 content
+  pub created-long : (n t : Span) (seconds : ℕ) (p : Program) → plan (creates-long n t seconds) w ≡ granted p
+      → (content : Bytes) → Holds (left largest (creates-long n t seconds) w) n 0 content
   -- An append leaves the old bytes, then the new.
-  pub appended : (n d : Span) (p : Program) → plan (appends n d) w ≡ granted p → (size : ℕ) (content : Bytes) → Holds w n size content
-      → Holds (left largest (appends n d) w) n (size + d .size) (λ i. pick (ltb i size) (content i) (d .byte (i - size)))
+  pub appended : (n d : Span) (seconds : ℕ) (p : Program) → plan (appends n d seconds) w ≡ granted p → (size : ℕ) (content : Bytes)
+      → Holds w n size content → Holds (left largest (appends n d seconds) w) n (size + d .size) (λ i. pick (ltb i size) (content i) (d .byte (i - size)))
   -- A replace leaves the new bytes alone.
-  pub replaced : (n d : Span) (p : Program) → plan (replaces n d) w ≡ granted p → Holds (left largest (replaces n d) w) n (d .size) (d .byte)
+  pub replaced : (n d : Span) (seconds : ℕ) (p : Program) → plan (replaces n d seconds) w ≡ granted p
+      → Holds (left largest (replaces n d seconds) w) n (d .size) (d .byte)
   -- A truncate leaves the first bytes.
-  pub truncated : (n : Span) (m : ℕ) (p : Program) → plan (truncates n m) w ≡ granted p → (size : ℕ) (content : Bytes)
-      → Holds w n size content → Holds (left largest (truncates n m) w) n m content
+  pub truncated : (n : Span) (m seconds : ℕ) (p : Program) → plan (truncates n m seconds) w ≡ granted p → (size : ℕ) (content : Bytes)
+      → Holds w n size content → Holds (left largest (truncates n m seconds) w) n m content
   -- A rename gives the bytes to the new name. The old name is not that slot's any more, and where no other bore it, it is gone.
   pub renamed : (n m : Span) (p : Program) → plan (renames n m) w ≡ granted p → (size : ℕ) (content : Bytes)
       → Holds w n size content → Holds (left largest (renames n m) w) m size content
@@ -74,21 +75,21 @@ AllSaves = (w : Window) (v : Volume) → Genuine w → clean w ≡ granted v →
 -- So a path saved as a new file is read again as it was given.
 abbrev pub PathSaved : Type 0
 PathSaved = (w : Window) (v : Volume) → Genuine w → clean w ≡ granted v
-    → (n d : Span) (p q : Program) → plan (creates n) w ≡ granted p → plan (appends n d) (left largest (creates n) w) ≡ granted q
-    → Holds (left largest (appends n d) (left largest (creates n) w)) n (d .size) (d .byte)
+    → (n d : Span) (s t : ℕ) (p q : Program) → plan (creates n s) w ≡ granted p → plan (appends n d t) (left largest (creates n s) w) ≡ granted q
+    → Holds (left largest (appends n d t) (left largest (creates n s) w)) n (d .size) (d .byte)
 
 -- Slot s is the one that the name given to a call means. (A create is given a name that no slot has.)
 abbrev pub Names : Volume → Card → Call → ℕ → Type 0
-Names v c (creates n) s = ⊥
-Names v c (creates-long n t) s = ⊥
-Names v c (appends n d) s = s ≡ slot-of v c n
-Names v c (truncates n m) s = s ≡ slot-of v c n
+Names v c (creates n seconds) s = ⊥
+Names v c (creates-long n t seconds) s = ⊥
+Names v c (appends n d seconds) s = s ≡ slot-of v c n
+Names v c (truncates n m seconds) s = s ≡ slot-of v c n
 Names v c (deletes n) s = s ≡ slot-of v c n
 Names v c (renames n m) s = s ≡ slot-of v c n
-Names v c (replaces n d) s = s ≡ slot-of v c n
+Names v c (replaces n d seconds) s = s ≡ slot-of v c n
 Names v c recovers s = ⊥
 
--- Slot s of the card y is as in c, and so is each byte of its file.
+-- Slot s of the card y is as in c, its dates among the rest, and so is each byte of its file.
 pub record SameFile (l : Layout) (c y : Card) (s : ℕ) : Type 0 where
   pub slot : (j : ℕ) → j < 32 → slot-at l y s j ≡ slot-at l c s j
   pub bytes : (i : ℕ) → i < file-size (slot-at l c s) → file-byte l y (file-at l y s) i ≡ file-byte l c (file-at l c s) i
@@ -114,13 +115,13 @@ LockedStays = (k : Call) (w : Window) (v : Volume) → Genuine w → clean w ≡
 -- A window of bytes stays one, under any limit, if what is written is bytes. The card being clean and sound again as well, all this
 -- holds of call after call.
 abbrev pub OfBytes : Call → Type 0
-OfBytes (creates n) = Unit {0}
-OfBytes (creates-long n t) = (i : ℕ) → i < t .size → t .byte i < 256
-OfBytes (appends n d) = (i : ℕ) → i < d .size → d .byte i < 256
-OfBytes (truncates n m) = Unit {0}
+OfBytes (creates n seconds) = Unit {0}
+OfBytes (creates-long n t seconds) = (i : ℕ) → i < t .size → t .byte i < 256
+OfBytes (appends n d seconds) = (i : ℕ) → i < d .size → d .byte i < 256
+OfBytes (truncates n m seconds) = Unit {0}
 OfBytes (deletes n) = Unit {0}
 OfBytes (renames n m) = Unit {0}
-OfBytes (replaces n d) = (i : ℕ) → i < d .size → d .byte i < 256
+OfBytes (replaces n d seconds) = (i : ℕ) → i < d .size → d .byte i < 256
 OfBytes recovers = Unit {0}
 
 abbrev pub StaysGenuine : Type 0

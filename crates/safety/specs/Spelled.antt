@@ -1,11 +1,12 @@
 -- What is read of a long name after the create that was given it, and which slots are its.
-use Prim.Native.Nat.{ℕ, _*_, _/_, min}
+use Prim.Native.Nat.{ℕ, _*_, _/_, _≤_, min}
 use mathlib.Core.Path.{_≡_}
 use mathlib.Core.List.{List}
 use mathlib.Core.Bool.{true}
 use Rattle.model.specs.Bytes.{Bytes, Span, overlay}
 use Rattle.model.specs.Sector.{Window}
 use Rattle.model.specs.Root.{name-ok}
+use Rattle.model.specs.Calendar.{last-second}
 use Rattle.model.specs.Ground.{refused, granted}
 use Rattle.model.specs.Volume.{clean}
 use Rattle.model.specs.declared.Volume.{Volume}
@@ -26,23 +27,25 @@ pub record Spelled (w : Window) (n t : Span) : Type 0 where
 
 -- So it is after a create with a long name that finished,
 abbrev pub NameReadBack : Type 0
-NameReadBack = (w : Window) (v : Volume) → Genuine w → clean w ≡ granted v → (n t : Span) → OfBytes (creates-long n t)
-    → (p : Program) → plan (creates-long n t) w ≡ granted p → Spelled (left largest (creates-long n t) w) n t
+NameReadBack = (w : Window) (v : Volume) → Genuine w → clean w ≡ granted v → (n t : Span) (seconds : ℕ) → OfBytes (creates-long n t seconds)
+    → (p : Program) → plan (creates-long n t seconds) w ≡ granted p → Spelled (left largest (creates-long n t seconds) w) n t
 
 -- and after one that was cut once the group's store was on the card, and any recoveries, as soon as one has ended.
 abbrev pub NameRecovered : Type 0
-NameRecovered = (w : Window) (v : Volume) → Genuine w → clean w ≡ granted v → (n t : Span) → OfBytes (creates-long n t)
-    → (p : Program) → plan (creates-long n t) w ≡ granted p → (limit : ℕ) (limits : List ℕ) (once m : ℕ) → group-stored limit (creates-long n t) w ≡ true
-    → outcome once (plan recovers (recoveries limits (left limit (creates-long n t) w))) ≡ Done m
-    → Spelled (left once recovers (recoveries limits (left limit (creates-long n t) w))) n t
+NameRecovered = (w : Window) (v : Volume) → Genuine w → clean w ≡ granted v → (n t : Span) (seconds : ℕ) → OfBytes (creates-long n t seconds)
+    → (p : Program) → plan (creates-long n t seconds) w ≡ granted p → (limit : ℕ) (limits : List ℕ) (once m : ℕ)
+    → group-stored limit (creates-long n t seconds) w ≡ true
+    → outcome once (plan recovers (recoveries limits (left limit (creates-long n t seconds) w))) ≡ Done m
+    → Spelled (left once recovers (recoveries limits (left limit (creates-long n t seconds) w))) n t
 
 -- The slots of the name are those that the create filled: delete and rename mark them all.
 abbrev pub EntriesFound : Type 0
-EntriesFound = (w : Window) (v : Volume) → Genuine w → clean w ≡ granted v → (n t : Span) (p : Program) → plan (creates-long n t) w ≡ granted p
-    → old-slots v (finished (creates-long n t) w) n ≡ changed-by v (w .card) (creates-long n t)
+EntriesFound = (w : Window) (v : Volume) → Genuine w → clean w ≡ granted v → (n t : Span) (seconds : ℕ) (p : Program)
+    → plan (creates-long n t seconds) w ≡ granted p → old-slots v (finished (creates-long n t seconds) w) n ≡ changed-by v (w .card) (creates-long n t seconds)
 
 -- "EXISTS also covers a live slot without bit 0x08 whose long name, as read back, has the same characters": a text is given once.
 abbrev pub TextTaken : Type 0
-TextTaken = (w : Window) (v : Volume) → Genuine w → clean w ≡ granted v → (n t : Span) → OfBytes (creates-long n t)
-    → (p : Program) → plan (creates-long n t) w ≡ granted p
-    → (m : Span) → name-ok m ≡ true → plan (creates-long m t) (left largest (creates-long n t) w) ≡ refused Ground.Exists
+TextTaken = (w : Window) (v : Volume) → Genuine w → clean w ≡ granted v → (n t : Span) (seconds : ℕ) → OfBytes (creates-long n t seconds)
+    → (p : Program) → plan (creates-long n t seconds) w ≡ granted p
+    → (m : Span) (again : ℕ) → again ≤ last-second → name-ok m ≡ true
+    → plan (creates-long m t again) (left largest (creates-long n t seconds) w) ≡ refused Ground.Exists
