@@ -1,6 +1,7 @@
 -- The rows of fits on card K, by computation. The free clusters of each card are computed once.
 use Prim.Native.Nat.{ℕ}
-use mathlib.Core.Path.{_≡_, refl, sym, ap, _∙_}
+use native.Mathlib.Omega.{arith}
+use mathlib.Core.Path.{_≡_, refl, ap, _∙_}
 use mathlib.Core.List.{List, [], _∷_, map}
 use Rattle.model.specs.Bytes.{Bytes}
 use Rattle.model.specs.Scan.{range}
@@ -15,12 +16,12 @@ use Rattle.model.specs.declared.Ground.the-variants as Ground
 use Rattle.operations.specs.Outcome.{left, outcome-number}
 use Rattle.operations.specs.Fitting.{fit, fits-on, fit-outcome}
 use Rattle.operations.proofs.Fits.{fits-clean}
-use Rattle.worked.specs.CardK.{k, window-k}
+use Rattle.worked.specs.CardK.{k, window-k, morning, afternoon}
 use Rattle.worked.specs.Worked.{volume-k, k3, k4, m4}
 use Rattle.worked.specs.Fitting.{full-fat, full, asked, Fitting}
 use Rattle.worked.proofs.Compute.{compute}
-use Rattle.worked.proofs.Flat.{flattened, flattened-same}
-use Rattle.worked.proofs.Rows.{first-row}
+use Rattle.worked.proofs.Instance.{first-row}
+use Rattle.worked.proofs.Grown.{cut-window, new-at, new-is, growing, is-growing, grown-at, grown-is, grown-clean}
 
 -- On a clean card, by its free clusters.
 unfoldable computed : List ℕ → List ℕ → List Outcome
@@ -46,12 +47,12 @@ unfolding compute full full-fat
 free-full = refl
 
 -- After M4.
-abbrev desk : Bytes → Window
-desk d = flattened 80 (k4 d)
-
-desk-row : (d : Bytes) → (clean (desk d) ≡ granted volume-k) × (free-in (desk d) ≡ range 13 4074)
+grown-row : (d : Bytes) → free-in (grown-at morning afternoon d) ≡ range 13 4074
 unfolding compute
-desk-row d = (refl, refl)
+grown-row d = refl
+
+free-4 : (d : Bytes) → free-in (k4 d) ≡ range 13 4074
+free-4 d = ap free-in (grown-is morning afternoon (omega arith) (omega arith) d) ∙ grown-row d
 
 computed-k : computed (0 ∷ 1 ∷ 512 ∷ 513 ∷ 2087424 ∷ 2087425 ∷ 18446744073709551615 ∷ []) (range 10 4077)
     ≡ Done 0 ∷ Done 10 ∷ Done 10 ∷ Done 11 ∷ Done 4086 ∷ No ∷ No ∷ []
@@ -74,14 +75,23 @@ boot-row : asked (0 ∷ []) (window-k 4149) ≡ Refused Ground.Boot ∷ []
 unfolding compute asked
 boot-row = refl
 
-unclean-row : (d : Bytes) → asked (0 ∷ []) (left 4 (m4 d) k3) ≡ Refused Ground.Unclean ∷ []
+abbrev cut-from : Bytes → Window → Window
+cut-from d w = cut-window 4 (growing afternoon d w) w
+
+unclean-computed : (d : Bytes) → asked (0 ∷ []) (cut-from d (new-at morning)) ≡ Refused Ground.Unclean ∷ []
 unfolding compute asked
-unclean-row d = refl
+unclean-computed d = refl
+
+unclean-row : (d : Bytes) → asked (0 ∷ []) (left 4 (m4 d) k3) ≡ Refused Ground.Unclean ∷ []
+unfolding left
+unclean-row d =
+    ap (λ p. asked (0 ∷ []) (cut-window 4 p k3)) (is-growing morning afternoon (omega arith) d)
+    ∙ ap (λ w. asked (0 ∷ []) (cut-from d w)) (new-is morning (omega arith)) ∙ unclean-computed d
 
 pub fitting : (d : Bytes) → Fitting d
 fitting d = record {
   on-k = by-free k first-row free-k _ ∙ computed-k;
-  after-m4 = ap (asked _) (sym (flattened-same 80 (k4 d))) ∙ by-free (desk d) (desk-row d .0) (desk-row d .1) _ ∙ computed-4;
+  after-m4 = by-free (k4 d) (grown-clean morning afternoon d) (free-4 d) _ ∙ computed-4;
   on-full = by-free full full-clean free-full _ ∙ computed-full;
   numbers = ap (λ os. map (λ n. outcome-number n) os) (by-free k first-row free-k _) ∙ computed-numbers;
   boot = boot-row;

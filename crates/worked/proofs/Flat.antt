@@ -10,9 +10,9 @@ use lib.ListN.{getD}
 use borrow.Author.Tests.{ltb-true}
 use Rattle.model.specs.Bytes.{Bytes, pick, zeros}
 use Rattle.model.specs.Scan.{range, indices-from, walk}
-use Rattle.model.specs.Sector.{Card, Window}
+use Rattle.model.specs.Sector.{Card, Window, Store}
 use Rattle.operations.specs.Calls.{Call}
-use Rattle.worked.specs.CardK.{trace, trace-on}
+use Rattle.worked.specs.CardK.{trace-on}
 
 abbrev look : List Bytes → ℕ → Card → Card
 look t n c s = pick (ltb s n) (getD t s zeros) (c s)
@@ -33,9 +33,9 @@ look-same c n s false e = rw e
 flat-same : (n : ℕ) → flat n ≡ (λ c. c)
 flat-same n = fun-ext λ c. fun-ext λ s. look-same c n s (ltb s n) refl
 
-pub trace-flat : (n : ℕ) (xs : List Call) (w : Window) → trace xs w ≡ trace-on (flat n) xs w
-unfolding trace
-trace-flat n xs w = ap (λ on. trace-on on xs w) (sym (flat-same n))
+pub trace-flat : {R : Type 0} (see : List Store → Card → R) (n : ℕ) (xs : List Call) (w : Window)
+    → trace-on see (λ c. c) xs w ≡ trace-on see (flat n) xs w
+trace-flat see n xs w = ap (λ on. trace-on see on xs w) (sym (flat-same n))
 
 -- So with a window's card.
 abbrev pub flattened : ℕ → Window → Window

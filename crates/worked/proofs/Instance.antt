@@ -1,10 +1,13 @@
 -- The premises of demand 3 hold of card K: its window, that of the rows, is genuine and clean.
 use Prim.Native.Nat.{ℕ, _%_, _<_}
 use native.Mathlib.Omega.{arith}
+use mathlib.Core.Path.{_≡_, refl}
 use mathlib.Core.List.{List}
 use mathlib.Core.Bool.{_&&_, _||_}
 use lib.Dec.{leb, ltb, eqb}
 use Rattle.model.specs.Bytes.{Bytes, pick, zeros}
+use Rattle.model.specs.Ground.{granted}
+use Rattle.model.specs.Volume.{clean}
 use Rattle.operations.specs.Calls.{Call}
 use Rattle.operations.specs.Outcome.{left}
 use Rattle.safety.specs.Demand3.{Genuine, Settles, group-stored, recoveries}
@@ -14,7 +17,12 @@ use Rattle.model.proofs.Numbers.{patched}
 use Rattle.safety.proofs.Theorem.{demand3}
 use Rattle.worked.specs.CardK.{boot-sector, log-fat, card-k, window-k, k}
 use Rattle.worked.specs.Worked.{volume-k}
-use Rattle.worked.proofs.Rows.{first-row}
+use Rattle.worked.proofs.Compute.{compute}
+
+-- M1.
+pub first-row : clean k ≡ granted volume-k
+unfolding compute
+first-row = refl
 
 boot-small : (j : ℕ) → boot-sector 16 4150 0 j < 256
 unfolding boot-sector

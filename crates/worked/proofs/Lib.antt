@@ -1,10 +1,13 @@
 pub mod Compute
 pub mod Flat
-pub mod Rows
+pub mod Asked
 pub mod Instance
+pub mod Grown
+pub mod Rows
 pub mod SavedK
 pub mod ReplacingRows
 pub mod LockedRows
 pub mod FittingRows
 pub mod LongNameRows
 pub mod SpellingRows
+pub mod DatesRows

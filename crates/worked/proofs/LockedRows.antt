@@ -1,69 +1,46 @@
 -- The rows of a locked file on card K, by computation. That the card is clean is computed once; the rest asks what follows.
-use Prim.Native.Nat.{ℕ}
+use Prim.Native.Nat.{ℕ, _≤_}
+use native.Mathlib.Omega.{arith}
 use mathlib.Core.Path.{_≡_, refl, sym, ap, _∙_}
 use mathlib.Core.List.{List, [], _∷_, map}
 use lib.ListN.{replicate}
 use Rattle.model.specs.Bytes.{Bytes, Span}
 use Rattle.model.specs.Sector.{Window}
 use Rattle.model.specs.Ground.{Answer, granted}
+use Rattle.model.specs.Calendar.{stamp-of, last-second}
 use Rattle.model.specs.Volume.{clean}
 use Rattle.model.specs.declared.Outcome.{Outcome}
 use Rattle.model.specs.declared.Outcome.the-variants.{Refused, Done}
-use Rattle.model.specs.declared.Volume.{Volume}
 use Rattle.model.specs.declared.Ground.the-variants as Ground
-use Rattle.model.proofs.Grounds.{then}
 use Rattle.operations.specs.Program.{Program}
 use Rattle.operations.specs.Calls.{plan}
 use Rattle.operations.specs.Calls.{create, append, truncate, delete, rename, replace, create-on, append-on, truncate-on, delete-on, rename-on, replace-on}
-use Rattle.operations.specs.Outcome.{outcome, made, largest}
+use Rattle.operations.specs.Outcome.{outcome, made, left, largest}
 use Rattle.operations.specs.Reading.{Filled, read, read-on, list, directory-listing, shown, filled-outcome, buffer-after}
-use Rattle.worked.specs.CardK.{span, route, letter}
-use Rattle.worked.specs.Worked.{volume-k}
+use Rattle.worked.specs.CardK.{route, letter, morning, afternoon, span}
+use Rattle.worked.specs.Worked.{volume-k, k4}
 use Rattle.worked.specs.Locked.{marked, office, answers, Locked}
 use Rattle.worked.proofs.Compute.{compute}
 use Rattle.worked.proofs.Flat.{flattened, flattened-same}
+use Rattle.worked.proofs.Asked.{create-is, append-is, truncate-is, delete-is, rename-is, replace-is, read-is, list-is}
+use Rattle.worked.proofs.Grown.{cut-window, grown-at, grown-is, grown-clean}
+
+abbrev office-from : Window → Window
+office-from w = marked (cut-window largest (create-on volume-k (w .card) (letter 66) (stamp-of afternoon)) w)
 
 abbrev desk : Bytes → Window
-desk d = flattened 80 (office d)
+desk d = flattened 80 (office-from (grown-at morning afternoon d))
+
+desk-is : (d : Bytes) → office d ≡ desk d
+unfolding left plan
+desk-is d =
+    let h : afternoon ≤ last-second = omega arith in
+    ap (λ p. marked (cut-window largest p (k4 d))) (create-is (k4 d) volume-k (grown-clean morning afternoon d) afternoon h (letter 66))
+    ∙ ap office-from (grown-is morning afternoon (omega arith) h d) ∙ sym (flattened-same 80 (office-from (grown-at morning afternoon d)))
 
 desk-clean : (d : Bytes) → clean (desk d) ≡ granted volume-k
 unfolding compute marked
 desk-clean d = refl
-
--- ---- the calls on a clean window
-
-module _ (w : Window) (v : Volume) (is : clean w ≡ granted v) where
-  create-is : (n : Span) → create w n ≡ create-on v (w .card) n
-  unfolding create
-  create-is n = then (clean w) _ v is
-
-  append-is : (n d : Span) → append w n d ≡ append-on v (w .card) n d
-  unfolding append
-  append-is n d = then (clean w) _ v is
-
-  truncate-is : (n : Span) (size : ℕ) → truncate w n size ≡ truncate-on v (w .card) n size
-  unfolding truncate
-  truncate-is n size = then (clean w) _ v is
-
-  delete-is : (n : Span) → delete w n ≡ delete-on v (w .card) n
-  unfolding delete
-  delete-is n = then (clean w) _ v is
-
-  rename-is : (n m : Span) → rename w n m ≡ rename-on v (w .card) n m
-  unfolding rename
-  rename-is n m = then (clean w) _ v is
-
-  replace-is : (n d : Span) → replace w n d ≡ replace-on v (w .card) n d
-  unfolding replace
-  replace-is n d = then (clean w) _ v is
-
-  read-is : (offset room : ℕ) → read w route offset room ≡ read-on v (w .card) route offset room
-  unfolding read
-  read-is offset room = then (clean w) _ v is
-
-  list-is : (room : ℕ) → list w room ≡ granted (directory-listing (v .layout) (w .card) (shown (v .layout) (w .card)) room)
-  unfolding list
-  list-is room = then (clean w) _ v is
 
 -- ---- rows: all at once, so that the window is computed once
 
@@ -98,18 +75,24 @@ seen e creating appending truncating deleting renaming replacing reading listing
 }
 
 abbrev asked : Bytes → Window → FromDesk
-asked e w = seen e (create w) (append w) (truncate w) (delete w) (rename w) (replace w) (read w route) (list w 64)
+asked e w =
+    seen e (λ n. create w n afternoon) (λ n d. append w n d afternoon) (λ n size. truncate w n size afternoon) (delete w) (rename w)
+    (λ n d. replace w n d afternoon) (read w route) (list w 64)
 
 abbrev computed : Bytes → Window → FromDesk
 computed e w =
     let c = w .card in
-    seen e (create-on volume-k c) (append-on volume-k c) (truncate-on volume-k c) (delete-on volume-k c) (rename-on volume-k c) (replace-on volume-k c)
-    (read-on volume-k c route) (granted (directory-listing (volume-k .layout) c (shown (volume-k .layout) c) 64))
+    let st = stamp-of afternoon in
+    seen e (λ n. create-on volume-k c n st) (λ n d. append-on volume-k c n d st) (λ n size. truncate-on volume-k c n size st) (delete-on volume-k c)
+    (rename-on volume-k c) (λ n d. replace-on volume-k c n d st) (read-on volume-k c route)
+    (granted (directory-listing (volume-k .layout) c (shown (volume-k .layout) c) 64))
 
 same-rows : (e : Bytes) (w : Window) → clean w ≡ granted volume-k → asked e w ≡ computed e w
-same-rows e w is = λ t. seen e (λ n. create-is w volume-k is n t) (λ n d. append-is w volume-k is n d t) (λ n size. truncate-is w volume-k is n size t)
-    (λ n. delete-is w volume-k is n t) (λ n m. rename-is w volume-k is n m t) (λ n d. replace-is w volume-k is n d t)
-    (λ offset room. read-is w volume-k is offset room t) (list-is w volume-k is 64 t)
+same-rows e w is =
+    let h : afternoon ≤ last-second = omega arith in
+    λ t. seen e (λ n. create-is w volume-k is afternoon h n t) (λ n d. append-is w volume-k is afternoon h n d t)
+    (λ n size. truncate-is w volume-k is afternoon h n size t) (λ n. delete-is w volume-k is n t) (λ n m. rename-is w volume-k is n m t)
+    (λ n d. replace-is w volume-k is afternoon h n d t) (λ offset room. read-is w volume-k is route offset room t) (list-is w volume-k is 64 t)
 
 abbrev rows : Bytes → FromDesk
 rows d = record {
@@ -129,7 +112,7 @@ computed-rows d e = refl
 pub locked : (d e : Bytes) → Locked d e
 unfolding answers plan
 locked d e =
-    let all : asked e (office d) ≡ rows d = ap (asked e) (sym (flattened-same 80 (office d))) ∙ same-rows e (desk d) (desk-clean d) ∙ computed-rows d e in
+    let all : asked e (office d) ≡ rows d = ap (asked e) (desk-is d) ∙ same-rows e (desk d) (desk-clean d) ∙ computed-rows d e in
     record {
       locked = ap (λ (t : FromDesk). t .locked) all;
       reads = ap (λ (t : FromDesk). t .reads) all;

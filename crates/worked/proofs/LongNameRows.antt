@@ -1,5 +1,6 @@
 -- The rows of a long name on card K, by computation. That the card is clean is computed once; the rest asks what follows.
 use Prim.Native.Nat.{ℕ}
+use native.Mathlib.Omega.{arith}
 use mathlib.Core.Path.{_≡_, refl, sym, ap, _∙_}
 use mathlib.Core.List.{List, [], _∷_}
 use Rattle.model.specs.Bytes.{Bytes}
@@ -7,17 +8,22 @@ use Rattle.model.specs.Sector.{Window}
 use Rattle.model.specs.Ground.{Answer, granted}
 use Rattle.model.specs.Volume.{clean}
 use Rattle.model.specs.Text.{ascii}
-use Rattle.model.proofs.Grounds.{then}
 use Rattle.operations.specs.Program.{Program}
-use Rattle.operations.specs.Calls.{plan, deletes, renames, delete, rename, delete-on, rename-on}
-use Rattle.worked.specs.CardK.{route, letter}
+use Rattle.operations.specs.Calls.{plan, deletes, renames, delete-on, rename-on}
+use Rattle.worked.specs.CardK.{route, letter, morning, afternoon}
 use Rattle.worked.specs.Worked.{volume-k}
 use Rattle.worked.specs.LongNames.{long-entry, renamed-in-office, named, Marks, marks-of, recovered-marks, listed-group, LongNames}
 use Rattle.worked.proofs.Compute.{compute}
 use Rattle.worked.proofs.Flat.{flattened, flattened-same}
+use Rattle.worked.proofs.Asked.{delete-is, rename-is}
+use Rattle.worked.proofs.Grown.{grown-at, grown-is}
 
 abbrev desk : Bytes → Window
-desk d = flattened 80 (named d)
+desk d = flattened 80 (renamed-in-office (grown-at morning afternoon d))
+
+desk-is : (d : Bytes) → named d ≡ desk d
+desk-is d =
+    ap renamed-in-office (grown-is morning afternoon (omega arith) (omega arith) d) ∙ sym (flattened-same 80 (renamed-in-office (grown-at morning afternoon d)))
 
 desk-clean : (d : Bytes) → clean (desk d) ≡ granted volume-k
 unfolding compute long-entry renamed-in-office
@@ -51,9 +57,8 @@ abbrev computed : Window → FromDesk
 computed w = seen w (delete-on volume-k (w .card) route) (rename-on volume-k (w .card) route (letter 66))
 
 same-rows : (w : Window) → clean w ≡ granted volume-k → asked w ≡ computed w
-unfolding plan delete rename
-same-rows w is = λ t. seen w (then (clean w) (λ v. delete-on v (w .card) route) volume-k is t)
-    (then (clean w) (λ v. rename-on v (w .card) route (letter 66)) volume-k is t)
+unfolding plan
+same-rows w is = λ t. seen w (delete-is w volume-k is route t) (rename-is w volume-k is route (letter 66) t)
 
 abbrev rows : FromDesk
 rows = record {
@@ -72,7 +77,7 @@ computed-rows d = refl
 
 pub long-names : (d : Bytes) → LongNames d
 long-names d =
-    let all : asked (named d) ≡ rows = ap asked (sym (flattened-same 80 (named d))) ∙ same-rows (desk d) (desk-clean d) ∙ computed-rows d in
+    let all : asked (named d) ≡ rows = ap asked (desk-is d) ∙ same-rows (desk d) (desk-clean d) ∙ computed-rows d in
     record {
       deleted = ap (λ (t : FromDesk). t .deleted) all;
       renamed = ap (λ (t : FromDesk). t .renamed) all;

@@ -1,27 +1,26 @@
 -- The premises of what is promised of saved paths, and of what fits tells, hold of card K: it is sound, and a path can be saved on it.
 use Prim.Native.Nat.{ℕ, _+_, _/_}
 use native.Mathlib.Omega.{arith}
-use mathlib.Core.Path.{_≡_, refl}
+use mathlib.Core.Path.{_≡_, refl, ap, _∙_}
 use mathlib.Core.Bool.{Bool, true, false}
 use borrow.Author.Tests.{ne-eqb}
 use Rattle.model.specs.Bytes.{Bytes}
 use Rattle.model.specs.Root.{slot-at, is-file, listed, vacant}
 use Rattle.model.specs.Ground.{Answer, refused, granted}
 use Rattle.operations.specs.Program.{Program}
-use Rattle.operations.specs.Calls.{Call, creates, appends, plan}
+use Rattle.operations.specs.Calls.{Call, creates, plan}
 use Rattle.operations.specs.Outcome.{left, largest}
 use Rattle.safety.specs.Cuts.{program-of}
 use Rattle.safety.specs.Sound.{Sound}
 use Rattle.safety.specs.Saved.{Holds, KeepsOthers}
 use Rattle.safety.specs.Restored.{InOrder}
 use Rattle.safety.specs.Fitting.{Tells}
-use Rattle.worked.specs.CardK.{card-k, window-k, k, route, span}
+use Rattle.worked.specs.CardK.{card-k, window-k, k, route, morning, afternoon, span}
 use Rattle.worked.specs.Worked.{volume-k, k3, m4}
 use Rattle.model.proofs.Tests.{clash}
 use Rattle.worked.proofs.Compute.{compute}
-use Rattle.worked.proofs.Rows.{first-row}
-use Rattle.worked.proofs.Instance.{k-genuine}
-use Rattle.safety.proofs.Theorem.{after-calls}
+use Rattle.worked.proofs.Instance.{first-row, k-genuine}
+use Rattle.worked.proofs.Grown.{created, is-created, new-at, new-is, new-clean, growing, is-growing}
 use Rattle.safety.proofs.Saved.{path-saved}
 use Rattle.safety.proofs.Sounds.{all-keep}
 use Rattle.safety.proofs.Fitting.{created-empty, fits-append}
@@ -49,21 +48,29 @@ granted-of : (a : Answer Program) → passes a ≡ true → a ≡ granted (progr
 granted-of (refused g) h = clash h refl
 granted-of (granted p) h = refl
 
-creates-passes : passes (plan (creates route) k) ≡ true
+created-row : passes (created morning) ≡ true
 unfolding compute
-creates-passes = refl
+created-row = refl
 
-appends-passes : (d : Bytes) → passes (plan (appends route (span 1300 d)) (left largest (creates route) k)) ≡ true
+creates-passes : passes (plan (creates route morning) k) ≡ true
+creates-passes = ap passes (is-created morning (omega arith)) ∙ created-row
+
+growing-row : (d : Bytes) → passes (growing afternoon d (new-at morning)) ≡ true
 unfolding compute
-appends-passes d = refl
+growing-row d = refl
+
+appends-passes : (d : Bytes) → passes (plan (m4 d) k3) ≡ true
+appends-passes d =
+    ap passes (is-growing morning afternoon (omega arith) d) ∙ ap (λ w. passes (growing afternoon d w)) (new-is morning (omega arith)) ∙ growing-row d
 
 -- So the path of M4, saved on it, is read again.
-pub saved-at-k : (d : Bytes) → Holds (left largest (appends route (span 1300 d)) (left largest (creates route) k)) route 1300 d
-saved-at-k d = path-saved k volume-k k-genuine first-row route (span 1300 d) (program-of (plan (creates route) k))
-    (program-of (plan (appends route (span 1300 d)) (left largest (creates route) k))) (granted-of _ creates-passes) (granted-of _ (appends-passes d))
+pub saved-at-k : (d : Bytes) → Holds (left largest (m4 d) k3) route 1300 d
+saved-at-k d =
+    path-saved k volume-k k-genuine first-row route (span 1300 d) morning afternoon (program-of (plan (creates route morning) k))
+    (program-of (plan (m4 d) k3)) (granted-of _ creates-passes) (granted-of _ (appends-passes d))
 
 -- After M3 ROUTE.CUT is an empty file, so what fits says there is what M4 does.
 pub tells-at-k : (d : Bytes) → Tells k3 volume-k 1300 (m4 d)
 tells-at-k d =
-    fits-append k3 volume-k (after-calls (creates route) k volume-k k-genuine first-row .clean-again) route (span 1300 d)
-    (created-empty k volume-k k-genuine first-row route (program-of (plan (creates route) k)) (granted-of _ creates-passes))
+    fits-append k3 volume-k (new-clean morning) route (span 1300 d) afternoon (omega arith)
+    (created-empty k volume-k k-genuine first-row route morning (program-of (plan (creates route morning) k)) (granted-of _ creates-passes))

@@ -1,36 +1,37 @@
 -- The rows of a long name that is written on card K, by computation. That the card is clean, before and after, is known already; the rest asks
 -- what follows.
 use Prim.Native.Nat.{ℕ}
+use native.Mathlib.Omega.{arith}
 use mathlib.Core.Path.{_≡_, refl, ap, _∙_}
-use mathlib.Core.List.{List, [], _∷_}
+use mathlib.Core.List.{List, [], _∷_, _++_}
 use mathlib.Core.Bool.{true}
 use lib.ListN.{replicate}
 use Rattle.model.specs.Sector.{Card, after}
+use Rattle.model.specs.Calendar.{stamp-of}
 use Rattle.model.specs.Ground.{Answer, granted}
 use Rattle.model.specs.Volume.{clean}
 use Rattle.model.specs.Text.{ascii}
 use Rattle.model.specs.declared.Outcome.the-variants.{Done}
-use Rattle.model.proofs.Grounds.{then}
 use Rattle.operations.specs.Program.{Program}
-use Rattle.operations.specs.Calls.{plan, creates-long, create-long, create-long-on}
+use Rattle.operations.specs.Calls.{plan, creates-long, create-long-on}
 use Rattle.operations.specs.Outcome.{made, left, largest}
-use Rattle.operations.specs.Reading.{long-name, long-name-on}
+use Rattle.operations.specs.Reading.{long-name-on}
 use Rattle.safety.proofs.Theorem.{after-calls}
-use Rattle.worked.specs.CardK.{k, route}
+use Rattle.worked.specs.CardK.{k, route, morning}
 use Rattle.worked.specs.Worked.{volume-k}
 use Rattle.worked.specs.LongNames.{listed-group}
-use Rattle.worked.specs.Spelling.{letters, spelling, Spelled, spelled-of, recovered-spelled, Told, told-of, read-again, Spelling}
+use Rattle.worked.specs.Spelling.{letters, spelling, Spelled, spelled-of, recovered-spelled, Told, told-of, read-again, marked-records, Spelling}
 use Rattle.worked.proofs.Compute.{compute}
-use Rattle.worked.proofs.Rows.{first-row}
-use Rattle.worked.proofs.Instance.{k-genuine}
+use Rattle.worked.proofs.Instance.{first-row, k-genuine}
+use Rattle.worked.proofs.Asked.{create-long-is, long-name-is}
 
 -- The call on a clean card, and the card after it.
 abbrev computed : ℕ → Answer Program
-computed n = create-long-on volume-k (k .card) route (letters n)
+computed n = create-long-on volume-k (k .card) route (letters n) (stamp-of morning)
 
 is-computed : (n : ℕ) → spelling n ≡ computed n
-unfolding plan create-long
-is-computed n = then (clean k) (λ v. create-long-on v (k .card) route (letters n)) volume-k first-row
+unfolding plan
+is-computed n = create-long-is k volume-k first-row morning (omega arith) route (letters n)
 
 abbrev then-card : Answer Program → Card
 then-card p = after (made largest p) (k .card)
@@ -39,11 +40,11 @@ abbrev told : ℕ → Answer Program → Told
 told n p = told-of (long-name-on volume-k (then-card p) route 416) (letters n)
 
 is-told : (n : ℕ) → read-again n 416 ≡ told n (computed n)
-unfolding long-name left
+unfolding left
 is-told n =
-    let w = left largest (creates-long route (letters n)) k in
-    let again : clean w ≡ granted volume-k = after-calls (creates-long route (letters n)) k volume-k k-genuine first-row .clean-again in
-    ap (λ a. told-of a (letters n)) (then (clean w) (λ v. long-name-on v (w .card) route 416) volume-k again) ∙ ap (told n) (is-computed n)
+    let call = creates-long route (letters n) morning in
+    let again : clean (left largest call k) ≡ granted volume-k = after-calls call k volume-k k-genuine first-row .clean-again in
+    ap (λ a. told-of a (letters n)) (long-name-is (left largest call k) volume-k again route 416) ∙ ap (told n) (is-computed n)
 
 -- ---- rows: of each program all at once, so that it is computed once
 
@@ -103,13 +104,15 @@ row-14 = refl
 
 record Seen-208 : Type 0 where
   all : Seen
+  marked : List ℕ
   cut-2 : Spelled
 
 abbrev seen-208 : Answer Program → Seen-208
-seen-208 p = record { all = seen 208 p; cut-2 = recovered-spelled 2 p }
+seen-208 p = record { all = seen 208 p; marked = marked-records 3 p; cut-2 = recovered-spelled 2 p }
 
 row-208 : seen-208 (computed 208) ≡ record {
   all = record { spelled = record { stored = 65 ∷ 33 ∷ 34 ∷ 65 ∷ []; begins = sixteen }; read = record { answer = Done 208; same = true } };
+  marked = replicate 15 0xE5 ++ (0 ∷ []);
   cut-2 = record { stored = 33 ∷ 34 ∷ 65 ∷ []; begins = sixteen };
 }
 unfolding compute spelled-of told-of recovered-spelled
@@ -134,5 +137,6 @@ spelled-out =
       listed-then = ap (λ (t : Seen-14). t .listed-then) (call-14 ∙ row-14);
       cut-0 = ap (λ (t : Seen-14). t .cut-0) (call-14 ∙ row-14);
       cut-1 = ap (λ (t : Seen-14). t .cut-1) (call-14 ∙ row-14);
+      longest-marked = ap (λ (t : Seen-208). t .marked) (call-208 ∙ row-208);
       cut-2 = ap (λ (t : Seen-208). t .cut-2) (call-208 ∙ row-208);
     }

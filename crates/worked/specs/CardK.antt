@@ -44,6 +44,14 @@ route = view (82 ∷ 79 ∷ 85 ∷ 84 ∷ 69 ∷ 32 ∷ 32 ∷ 32 ∷ 67 ∷ 85 
 unfoldable pub letter : ℕ → Span
 letter b = view (b ∷ 32 ∷ 32 ∷ 32 ∷ 32 ∷ 32 ∷ 32 ∷ 32 ∷ 32 ∷ 32 ∷ 32 ∷ [])
 
+-- The moments of the calls, in seconds since 1980 began: 10:15:30 and 16:40:07 on 17 November 2026, 17,122 days after. The date is
+-- 46 * 512 + 11 * 32 + 17, 0x5D71; the times are 10 * 2048 + 15 * 32 + 15, 0x51EF, and 16 * 2048 + 40 * 32 + 3, 0x8503.
+abbrev pub morning : ℕ
+morning = 1479377730
+
+abbrev pub afternoon : ℕ
+afternoon = 1479400807
+
 abbrev pub span : ℕ → Bytes → Span
 span n b = record { size = n; byte = b }
 
@@ -81,15 +89,17 @@ last-from (s ∷ (t ∷ ss)) = last-from (t ∷ ss)
 unfoldable pub row-of : List Store → Card → Row
 row-of ss c = row (map (λ s. s .sector) ss) (last-from ss) (seen c)
 
--- A row for each of the calls, made one after the other on cards that `on` gives again, each with the largest limit.
-unfoldable pub step : List Store → ℕ → Card → (Window → List Row) → List Row
-step ss n c rest = row-of ss c ∷ rest (record { size = n; card = c })
+-- What `see` makes of the stores of each of the calls and of the card after it. They are made one after the other on cards that `on` gives again,
+-- each with the largest limit.
+unfoldable pub step : {R : Type 0} → (List Store → Card → R) → List Store → ℕ → Card → (Window → List R) → List R
+step see ss n c rest = see ss c ∷ rest (record { size = n; card = c })
 
-unfoldable pub trace-on : (Card → Card) → List Call → Window → List Row
-trace-on on [] w = []
-trace-on on (x ∷ xs) w =
+unfoldable pub trace-on : {R : Type 0} → (List Store → Card → R) → (Card → Card) → List Call → Window → List R
+trace-on see on [] w = []
+trace-on see on (x ∷ xs) w =
     let ss = made largest (plan x w) in
-    step ss (w .size) (on (after ss (w .card))) (λ w′. trace-on on xs w′)
+    step see ss (w .size) (on (after ss (w .card))) (λ w′. trace-on see on xs w′)
 
+-- A row for each of the calls.
 unfoldable pub trace : List Call → Window → List Row
-trace xs w = trace-on (λ c. c) xs w
+trace xs w = trace-on row-of (λ c. c) xs w

@@ -5,3 +5,4 @@ pub mod Locked
 pub mod Fitting
 pub mod LongNames
 pub mod Spelling
+pub mod Dates

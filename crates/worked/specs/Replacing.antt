@@ -12,13 +12,14 @@ use Rattle.model.specs.Listing.{log-text}
 use Rattle.model.specs.declared.Outcome.the-variants.{Done, Stopped}
 use Rattle.operations.specs.Calls.{Call, creates, replaces, plan}
 use Rattle.operations.specs.Outcome.{made, left, largest}
-use Rattle.worked.specs.CardK.{k, span, route, trace, Row, row, file}
+use Rattle.worked.specs.CardK.{k, route, morning, afternoon, span, trace, Row, row, file}
 use Rattle.worked.specs.Worked.{m4, k4, volume-k, cut-at}
 
 -- M3 and M4; then replace by 600 bytes, by none, an empty file by none, and by 100.
 abbrev pub replacements : Bytes → Bytes → List Call
 replacements d e =
-    creates route ∷ m4 d ∷ replaces route (span 600 e) ∷ replaces route (span 0 e) ∷ replaces route (span 0 e) ∷ replaces route (span 100 d) ∷ []
+    creates route morning ∷ m4 d ∷ replaces route (span 600 e) afternoon ∷ replaces route (span 0 e) afternoon ∷ replaces route (span 0 e) afternoon
+    ∷ replaces route (span 100 d) afternoon ∷ []
 
 -- 600 bytes take clusters 13 and 14, since 10 to 12 do not count as free: data sectors 76 and 77, FAT2, group, FAT1, root, commit. By no
 -- bytes no data is stored and DIR_Cluster is 0; an empty file by none still takes a group: three stores. At last cluster 10 is free again.
@@ -33,7 +34,7 @@ replacement-rows =
     ∷ []
 
 abbrev pub by-600 : Bytes → Call
-by-600 e = replaces route (span 600 e)
+by-600 e = replaces route (span 600 e) afternoon
 
 -- The bytes of the group's store, the fourth.
 abbrev pub group-bytes : List Store → Bytes
@@ -49,5 +50,6 @@ pub record Replacing (d e : Bytes) : Type 0 where
   pub cut-3 : cut-at 3 (by-600 e) (k4 d)
       ≡ record { cut = Stopped 3; stored = 17 ∷ []; recovered = Done 1; file-then = file 1300 (10 ∷ 11 ∷ 12 ∷ []) }
   -- The record: the old first cluster in first/last, the new one in DIR_Cluster, the new size. "The listing prints `replace`."
+  -- Then its stamp, as a part.
   pub listing : log-text (span 512 (group-bytes (made largest (plan (by-600 e) (k4 d)))))
-      ≡ ascii "log 1 sectors\n0 0 replace pending ROUTE.CUT slot 0 first 10 from 13 size 600\n"
+      ≡ ascii "log 1 sectors\n0 0 replace pending ROUTE.CUT slot 0 first 10 from 13 size 600\n0 1 part pending T???????.??? slot 0 first 0 from 0 size 0\n"

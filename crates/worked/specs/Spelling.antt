@@ -2,13 +2,13 @@
 -- last; the log is empty, so the group goes into sector 65. No FAT sector changes.
 use Prim.Native.Nat.{ℕ, _+_, _*_, _/_, _%_}
 use mathlib.Core.Path.{_≡_}
-use mathlib.Core.List.{List, [], _∷_, map}
+use mathlib.Core.List.{List, [], _∷_, _++_, map}
 use mathlib.Core.Bool.{Bool, true}
 use lib.Dec.{ltb, eqb}
-use lib.ListN.{replicate}
-use Rattle.model.specs.Bytes.{Span, pick}
+use lib.ListN.{getD, replicate}
+use Rattle.model.specs.Bytes.{Span, pick, zeros}
 use Rattle.model.specs.Scan.{all, range}
-use Rattle.model.specs.Sector.{Card, after}
+use Rattle.model.specs.Sector.{Card, store, after}
 use Rattle.model.specs.Root.{slot-at}
 use Rattle.model.specs.Ground.{Answer}
 use Rattle.model.specs.Text.{ascii}
@@ -18,7 +18,7 @@ use Rattle.operations.specs.Program.{Program}
 use Rattle.operations.specs.Calls.{creates-long, recovers, plan}
 use Rattle.operations.specs.Outcome.{made, left, largest}
 use Rattle.operations.specs.Reading.{Filled, long-name, filled-outcome, buffer-after}
-use Rattle.worked.specs.CardK.{k, route}
+use Rattle.worked.specs.CardK.{k, route, morning}
 use Rattle.worked.specs.Worked.{volume-k}
 use Rattle.worked.specs.LongNames.{listed-group}
 
@@ -27,7 +27,7 @@ abbrev pub letters : ℕ → Span
 letters n = record { size = 2 * n; byte = λ i. pick (eqb (i % 2) 0) (97 + i / 2 % 26) 0 }
 
 abbrev pub spelling : ℕ → Answer Program
-spelling n = plan (creates-long route (letters n)) k
+spelling n = plan (creates-long route (letters n) morning) k
 
 -- The sectors that a program stores, and what slots 0 to 17 begin with after it.
 pub record Spelled : Type 0 where
@@ -58,7 +58,11 @@ told-of a t = record {
 }
 
 abbrev pub read-again : ℕ → ℕ → Told
-read-again n room = told-of (long-name (left largest (creates-long route (letters n)) k) route room) (letters n)
+read-again n room = told-of (long-name (left largest (creates-long route (letters n) morning) k) route room) (letters n)
+
+-- What the records of a log sector that a program stores begin with: its i-th store.
+abbrev pub marked-records : ℕ → Answer Program → List ℕ
+marked-records i p = map (λ r. getD (made largest p) i (store 0 zeros) .bytes (32 * r)) (range 0 16)
 
 pub record Spelling : Type 0 where
   -- 1 and 13 characters take one long slot, 14 and 26 two. Group, root sector, commit.
@@ -71,13 +75,15 @@ pub record Spelling : Type 0 where
     stored = 65 ∷ 33 ∷ 34 ∷ 65 ∷ [];
     begins = 0x50 ∷ 15 ∷ 14 ∷ 13 ∷ 12 ∷ 11 ∷ 10 ∷ 9 ∷ 8 ∷ 7 ∷ 6 ∷ 5 ∷ 4 ∷ 3 ∷ 2 ∷ 1 ∷ 82 ∷ 0 ∷ [];
   }
+  -- The main record, the stamp and thirteen records of 16 characters each, all of them marked by the commit; record 15 was never used.
+  pub longest-marked : marked-records 3 (spelling 208) ≡ replicate 15 0xE5 ++ (0 ∷ [])
   -- "Read back, the name has exactly the characters given."
   pub read-1 : read-again 1 416 ≡ record { answer = Done 1; same = true }
   pub read-13 : read-again 13 416 ≡ record { answer = Done 13; same = true }
   pub read-14 : read-again 14 416 ≡ record { answer = Done 14; same = true }
   pub read-26 : read-again 26 416 ≡ record { answer = Done 26; same = true }
   pub read-208 : read-again 208 416 ≡ record { answer = Done 208; same = true }
-  -- Sector 65 after the group's store, and after the commit: one line, though the characters have a record of their own.
+  -- Sector 65 after the group's store, and after the commit: one line, though the stamp and the characters have records of their own.
   pub listed : listed-group 0 (spelling 14) ≡ ascii "log 1 sectors\n0 0 create pending ROUTE.CUT slot 2 first 0 from 0 size 0\n"
   pub listed-then : listed-group 2 (spelling 14) ≡ ascii "log 1 sectors\n0 0 create committed ?OUTE.CUT slot 2 first 0 from 0 size 0\n"
   -- Limit 0 and limit 1, the group's store, recovered; and limit 2, between two root sectors.

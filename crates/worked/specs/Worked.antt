@@ -20,7 +20,7 @@ use Rattle.model.specs.declared.Ground.the-variants as Ground
 use Rattle.operations.specs.Program.{Program}
 use Rattle.operations.specs.Calls.{Call, creates, appends, truncates, deletes, renames, recovers, plan}
 use Rattle.operations.specs.Outcome.{outcome, made, left, largest}
-use Rattle.worked.specs.CardK.{k, window-k, boot-sector, span, route, letter, trace, Row, row, Seen, file, absent, seen}
+use Rattle.worked.specs.CardK.{k, window-k, boot-sector, route, letter, morning, afternoon, span, trace, Row, row, Seen, file, absent, seen}
 
 -- M1: card K is clean, with its regions and its log where they should be.
 abbrev pub volume-k : Volume
@@ -43,8 +43,8 @@ volume-k = record {
 -- The calls of M3, M4, M7, M8 and M9, then four creates: the last is the ninth group, M10.
 abbrev pub calls : Bytes → Bytes → List Call
 calls d e =
-    creates route ∷ appends route (span 1300 d) ∷ appends route (span 100 e) ∷ truncates route 512 ∷ deletes route
-    ∷ creates (letter 65) ∷ creates (letter 66) ∷ creates (letter 67) ∷ creates (letter 68) ∷ []
+    creates route morning ∷ appends route (span 1300 d) afternoon ∷ appends route (span 100 e) afternoon ∷ truncates route 512 afternoon ∷ deletes route
+    ∷ creates (letter 65) afternoon ∷ creates (letter 66) afternoon ∷ creates (letter 67) afternoon ∷ creates (letter 68) afternoon ∷ []
 
 -- For each the sectors stored, in order; DIR_Cluster; and the size and chain of ROUTE.CUT after it.
 abbrev pub rows : List Row
@@ -62,10 +62,10 @@ rows =
 
 -- The window after M3, and M4's call on it.
 abbrev pub k3 : Window
-k3 = left largest (creates route) k
+k3 = left largest (creates route morning) k
 
 abbrev pub m4 : Bytes → Call
-m4 d = appends route (span 1300 d)
+m4 d = appends route (span 1300 d) afternoon
 
 -- The bytes of store i of a list, from an offset to the end of the sector.
 abbrev pub tail-of : List Store → ℕ → ℕ → List ℕ
@@ -92,14 +92,16 @@ cut-row limit p before =
 abbrev pub cut-at : ℕ → Call → Window → CutRow
 cut-at limit call before = cut-row limit (plan call before) before
 
--- The window after M4, and the size in root slot 1 once a rename of ROUTE.CUT on it is cut after its root store and recovered.
+-- The window after M4, and root slot 1 once a rename of ROUTE.CUT on it is cut after its root store and recovered: its size, and its dates.
 abbrev pub k4 : Bytes → Window
 k4 d = left largest (m4 d) k3
 
-abbrev pub renamed-size : Bytes → ℕ
-renamed-size d =
-    let w = left largest recovers (left 2 (renames route (letter 66)) (k4 d)) in
-    file-size (slot-at (volume-k .layout) (w .card) 1)
+abbrev pub renamed-slot : Bytes → Bytes
+renamed-slot d = slot-at (volume-k .layout) (left largest recovers (left 2 (renames route (letter 66)) (k4 d)) .card) 1
+
+-- "creation tenths 13, creation time 14, creation date 16, access date 18, cluster high word 20, write time 22, write date 24" of an entry.
+abbrev pub dates-in : Bytes → List ℕ
+dates-in b = map b (range 13 13)
 
 -- A window in which the size in root slot 0 is that of four clusters.
 unfoldable pub stretched : Window → Window
@@ -123,16 +125,19 @@ pub record Worked (d e : Bytes) : Type 0 where
   pub m5 : cut-at 4 (m4 d) k3 ≡ record { cut = Stopped 4; stored = 17 ∷ []; recovered = Done 1; file-then = file 0 [] }
   pub m6 : cut-at 5 (m4 d) k3 ≡ record { cut = Stopped 5; stored = 1 ∷ 33 ∷ 66 ∷ []; recovered = Done 3; file-then = file 1300 (10 ∷ 11 ∷ 12 ∷ []) }
   -- M7 cut after its group's store, where the FATs agree: recovery stores the root, and the first cluster stays
-  pub m7-cut : cut-at 2 (appends route (span 100 e)) (k4 d)
+  pub m7-cut : cut-at 2 (appends route (span 100 e) afternoon) (k4 d)
       ≡ record { cut = Stopped 2; stored = 33 ∷ 67 ∷ []; recovered = Done 2; file-then = file 1400 (10 ∷ 11 ∷ 12 ∷ []) }
-  -- A rename may be redone after its root store: the new slot has the old one's size
-  pub rename-cut : renamed-size d ≡ 1300
+  -- A rename may be redone after its root store: the new slot has the old one's size, and its dates, which M3 and M4 gave
+  pub rename-cut : file-size (renamed-slot d) ≡ 1300
+  pub rename-dates : dates-in (renamed-slot d) ≡ 0 ∷ 0xEF ∷ 0x51 ∷ 0x71 ∷ 0x5D ∷ 0x71 ∷ 0x5D ∷ 0 ∷ 0 ∷ 0x03 ∷ 0x85 ∷ 0x71 ∷ 0x5D ∷ []
   -- "Judging a chain by its end mark alone hands the loader old points": the chain of M4 ends after three clusters
   pub short-chain : plan (deletes route) (stretched (k4 d)) ≡ refused Ground.Chain
   -- "65,524 clusters accepted, 65,525 BOOT; truncate to size + 1, LENGTH."
   pub largest-card : (mount (large 65524) ≡ granted (layout (large 65524 .card 0))) × (layout (large 65524 .card 0) .clusters ≡ 65524)
   pub too-large : (mount (large 65525) ≡ refused Ground.Boot) × (layout (large 65525 .card 0) .clusters ≡ 65525)
-  pub longer : plan (truncates route 1301) (left largest (m4 d) k3) ≡ refused Ground.Length
-  -- "M3's sector 65 after its first store gives, whole:"
-  pub listing : log-text (span 512 (getD (made largest (plan (creates route) k)) 0 (store 0 zeros) .bytes))
-      ≡ ascii "log 1 sectors\n0 0 create pending ROUTE.CUT slot 0 first 0 from 0 size 0\n"
+  pub longer : plan (truncates route 1301 afternoon) (left largest (m4 d) k3) ≡ refused Ground.Length
+  -- "M3's sector 65 after its first store gives, whole:", with the line that it gained; and after its third store, committed.
+  pub listing : log-text (span 512 (getD (made largest (plan (creates route morning) k)) 0 (store 0 zeros) .bytes))
+      ≡ ascii "log 1 sectors\n0 0 create pending ROUTE.CUT slot 0 first 0 from 0 size 0\n0 1 part pending T???????.??? slot 0 first 0 from 0 size 0\n"
+  pub listing-then : log-text (span 512 (getD (made largest (plan (creates route morning) k)) 2 (store 0 zeros) .bytes))
+      ≡ ascii "log 1 sectors\n0 0 create committed ?OUTE.CUT slot 0 first 0 from 0 size 0\n0 1 part committed ????????.??? slot 0 first 0 from 0 size 0\n"
