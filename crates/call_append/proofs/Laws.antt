@@ -10,7 +10,8 @@ use Rattle.model.specs.Bytes.{Span}
 use Rattle.model.specs.Sector.{Card, card-of, Window, Store}
 use Rattle.model.specs.Fat.{Fat, entry, fat1-of, fat2-of, free-clusters, write-fat}
 use Rattle.model.specs.Ground.{refused, granted, _when_, _>>=_, _>>_}
-use Rattle.model.specs.Volume.{clean}
+use Rattle.model.specs.Calendar.{stamp-of}
+use Rattle.model.specs.Volume.{clean-at}
 use Rattle.model.specs.Promises.{Shape, Ran}
 use Rattle.model.specs.declared.Area.{Area}
 use Rattle.model.specs.declared.Layout.{Layout}
@@ -42,28 +43,28 @@ use Rattle.call_append.specs.Append.{chain-stores}
 
 -- ---- grounds
 
-module _ (w : Window) (n d : Span) where
-  pub append-refused : (g : Ground) → clean w ≡ refused g → append w n d ≡ refused g
+module _ (w : Window) (n d : Span) (s : ℕ) where
+  pub append-refused : (g : Ground) → clean-at w s ≡ refused g → append w n d s ≡ refused g
   unfolding append _>>=_
   append-refused g e = rw e
 
-  pub append-clean : (v : Volume) → clean w ≡ granted v → append w n d ≡ append-on v (w .card) n d
+  pub append-clean : (v : Volume) → clean-at w s ≡ granted v → append w n d s ≡ append-on v (w .card) n d (stamp-of s)
   unfolding append _>>=_
   append-clean v e = rw e
 
-module _ (c : Card) (v : Volume) (f : File) (d : Span) where
+module _ (c : Card) (v : Volume) (f : File) (d : Span) (st : ℕ) where
   abbrev free-count : ℕ
   free-count = length (free-clusters (v .layout) (fat1-of (v .layout) c))
 
-  pub append-full : free-count < added (v .layout) f (d .size) → append-to v c f d ≡ refused Ground.Nospace
+  pub append-full : free-count < added (v .layout) f (d .size) → append-to v c f d st ≡ refused Ground.Nospace
   unfolding append-to _when_ _>>_
   append-full h = rw (lt-ltb free-count (added (v .layout) f (d .size)) h)
 
-  pub append-none : added (v .layout) f (d .size) ≤ free-count → d .size ≡ 0 → append-to v c f d ≡ granted (ending [])
+  pub append-none : added (v .layout) f (d .size) ≤ free-count → d .size ≡ 0 → append-to v c f d st ≡ granted (ending [])
   unfolding append-to _when_ _>>_ unless-none
   append-none h e = rw (le-ltb free-count (added (v .layout) f (d .size)) h, e)
 
-  pub append-some : added (v .layout) f (d .size) ≤ free-count → (d .size ≡ 0 → ⊥) → append-to v c f d ≡ granted (append-stores v c f d)
+  pub append-some : added (v .layout) f (d .size) ≤ free-count → (d .size ≡ 0 → ⊥) → append-to v c f d st ≡ granted (append-stores v c f d st)
   unfolding append-to _when_ _>>_ unless-none
   append-some h e = rw (le-ltb free-count (added (v .layout) f (d .size)) h, ne-eqb (d .size) 0 e)
 
@@ -95,7 +96,7 @@ module _ (l : Layout) (f : File) (d : Span) (last n limit : ℕ) (e x : List ℕ
 
 -- ---- the steps through the log
 
-module _ (v : Volume) (xs : List ℕ) (f : File) (d : Span) (ready : Ready v xs) (room : Room (v .layout) (card-of xs) f (d .size)) where
+module _ (v : Volume) (xs : List ℕ) (f : File) (d : Span) (st : ℕ) (ready : Ready v xs) (room : Room (v .layout) (card-of xs) f (d .size)) where
   abbrev c : Card
   c = card-of xs
 
@@ -112,7 +113,7 @@ module _ (v : Volume) (xs : List ℕ) (f : File) (d : Span) (ready : Ready v xs)
   new-fat = grown (v .layout) (fat1-of (v .layout) c) (last-cluster old) n
 
   abbrev update : Change
-  update = plain (Update (f .entry) (last-cluster old) (first-of (v .layout) c n) (f .size + d .size))
+  update = plain (Update (f .entry) (last-cluster old) (first-of (v .layout) c n) (f .size + d .size) st)
 
   sh : Shape (v .layout)
   sh = ready .held .fits .shape
@@ -121,19 +122,19 @@ module _ (v : Volume) (xs : List ℕ) (f : File) (d : Span) (ready : Ready v xs)
   off-log s = subst (λ (a : Area). s < a .sectors → Away ds (a .sector + s)) (sym (ready-log v xs ready))
       (append-off-log (v .layout) c f d sh (room .chain) (room .enough) (ready-run v xs ready) s)
 
-  append-is : append-stores v c f d ≡ operate v c ds new-fat update
+  append-is : append-stores v c f d st ≡ operate v c ds new-fat update
   unfolding append-stores append-along new-clusters
   append-is = ap (λ (t : Fat). operate v c ds t update)
       (extend-grown old (old-used (v .layout) c f sh (room .chain)) (fat1-of (v .layout) c) (v .layout) n (room .enough))
 
   module _ (limit : ℕ) (x : List ℕ) (m last count : ℕ) (end : last ≡ last-cluster old) (many : count ≡ n) where
-    pub append-cut : Ran limit (chain-stores (v .layout) c f d last count) xs x m false → Ran limit (stores (append-stores v c f d)) xs x m false
+    pub append-cut : Ran limit (chain-stores (v .layout) c f d last count) xs x m false → Ran limit (stores (append-stores v c f d st)) xs x m false
     append-cut so = rw append-is (operate-cut v ds new-fat update sh (ready .lies .above) off-log limit xs x m (rw (end, many) at so))
 
     pub append-ran : Ran limit (chain-stores (v .layout) c f d last count) xs x m true → (from size : ℕ) → from ≡ first-of (v .layout) c count
         → size ≡ f .size + d .size
-        → (y : List ℕ) (k : ℕ) (w : Bool) → Ran (limit - m) (log-steps v (plain (Update (f .entry) last from size)) (card-of x)) x y k w
-        → Ran limit (stores (append-stores v c f d)) xs y (m + k) w
+        → (y : List ℕ) (k : ℕ) (w : Bool) → Ran (limit - m) (log-steps v (plain (Update (f .entry) last from size st)) (card-of x)) x y k w
+        → Ran limit (stores (append-stores v c f d st)) xs y (m + k) w
     append-ran so from size first total y k w next =
         rw append-is (operate-ran v ds new-fat update sh (ready .lies .above) off-log limit xs x m (rw (end, many) at so) y k w
         (rw (end, first, many, total) at next))

@@ -56,12 +56,14 @@ fn store_append(
     last: u32,
     n: u32,
     bytes: &[u8],
+    stamp: u32,
     limit: u32,
 ) -> Progress
     requires { ⌜ Ready v (now w) × Room (v .layout) (card-of (now w)) f (length (now bytes)) × (f .entry .slot < v .layout .entries) ⌝ }
     requires { ⌜ (last ≡ last-cluster (clusters-of (v .layout) (fat1-of (v .layout) (card-of (now w))) f)) × (n ≡ added (v .layout) f (length (now bytes))) ⌝ }
     ensures { λ r. ⌜
-        Ran limit (stores (append-stores v (card-of (now (w .entry))) f (view (now (bytes .entry))))) (now (w .entry)) (now (w .exit)) (r .made) (r .whole) ⌝ }
+        Ran limit (stores (append-stores v (card-of (now (w .entry))) f (view (now (bytes .entry))) stamp)) (now (w .entry)) (now (w .exit)) (r .made)
+        (r .whole) ⌝ }
 {
     let l = v.layout;
     let from = file_append::first_new(w, l, n);
@@ -76,15 +78,16 @@ fn store_append(
         last,
         from,
         size,
+        stamp,
     };
     let q = log_steps::plain_steps(w, v, o, limit - p.made);
     sector::joined(p, q)
 }
 
 // NOSPACE; then the stores, none where there are no bytes to append.
-fn append_to(w: &mut [u8], v: Volume, f: File, bytes: &[u8], limit: u32) -> Outcome
+fn append_to(w: &mut [u8], v: Volume, f: File, bytes: &[u8], stamp: u32, limit: u32) -> Outcome
     requires { ⌜ Ready v (now w) × Chained v (card-of (now w)) f ⌝ }
-    ensures { λ r. ⌜ Did limit (append-to v (card-of (now (w .entry))) f (view (now (bytes .entry)))) (now (w .entry)) (now (w .exit)) r ⌝ }
+    ensures { λ r. ⌜ Did limit (append-to v (card-of (now (w .entry))) f (view (now (bytes .entry))) stamp) (now (w .entry)) (now (w .exit)) r ⌝ }
 {
     let l = v.layout;
     let n = file_append::added_clusters(l, f, bytes.len());
@@ -95,29 +98,29 @@ fn append_to(w: &mut [u8], v: Volume, f: File, bytes: &[u8], limit: u32) -> Outc
         return Outcome::Done(0);
     }
     let last = file_read::last_cluster(w, l, f);
-    let p = store_append(w, v, f, last, n as u32, bytes, limit);
+    let p = store_append(w, v, f, last, n as u32, bytes, stamp, limit);
     log_steps::ended(p)
 }
 
-fn append_on(w: &mut [u8], v: Volume, name: &[u8], bytes: &[u8], limit: u32) -> Outcome
+fn append_on(w: &mut [u8], v: Volume, name: &[u8], bytes: &[u8], stamp: u32, limit: u32) -> Outcome
     requires { ⌜ Ready v (now w) ⌝ }
     ensures { λ r. ⌜
-        Did limit (append-on v (card-of (now (w .entry))) (view (now (name .entry))) (view (now (bytes .entry)))) (now (w .entry)) (now (w .exit)) r ⌝ }
+        Did limit (append-on v (card-of (now (w .entry))) (view (now (name .entry))) (view (now (bytes .entry))) stamp) (now (w .entry)) (now (w .exit)) r ⌝ }
 {
     let o = root_lookup::file_of(w, v, Access::Write, name);
     match o {
         Found::Missing(g) => Outcome::Refused(g),
-        Found::At(f) => append_to(w, v, f, bytes, limit),
+        Found::At(f) => append_to(w, v, f, bytes, stamp, limit),
     }
 }
 
-pub fn append(w: &mut [u8], name: &[u8], bytes: &[u8], limit: u32) -> Outcome
+pub fn append(w: &mut [u8], name: &[u8], bytes: &[u8], seconds: u32, limit: u32) -> Outcome
     ensures { λ r. ⌜
-        Did limit (append (window-of (now (w .entry))) (view (now (name .entry))) (view (now (bytes .entry)))) (now (w .entry)) (now (w .exit)) r ⌝ }
+        Did limit (append (window-of (now (w .entry))) (view (now (name .entry))) (view (now (bytes .entry))) seconds) (now (w .entry)) (now (w .exit)) r ⌝ }
 {
-    let e = volume::clean(w);
+    let e = volume::clean_at(w, seconds);
     match e {
         Examined::Refused(g) => Outcome::Refused(g),
-        Examined::Granted(v) => append_on(w, v, name, bytes, limit),
+        Examined::Granted(v) => { append_on(w, v, name, bytes, clock::stamp(seconds), limit) }
     }
 }

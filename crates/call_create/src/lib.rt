@@ -40,12 +40,20 @@ fn record_change(w: &mut [u8], v: Volume, o: Operation, text: &[u8], limit: u32)
 }
 
 // The stores of a create, once its slot is known.
-fn create_at(w: &mut [u8], v: Volume, name: &[u8], text: &[u8], slot: u32, limit: u32) -> Outcome
+fn create_at(
+    w: &mut [u8],
+    v: Volume,
+    name: &[u8],
+    text: &[u8],
+    stamp: u32,
+    slot: u32,
+    limit: u32,
+) -> Outcome
     requires { ⌜ Ready v (now w) ⌝ }
     requires { ⌜
         (slot < v .layout .entries) × (name-ok (view (now name)) ≡ true) × (length (now text) % 2 ≡ 0) × (length (now text) ≤ 2 * most-characters) ⌝ }
     ensures { λ r. ⌜
-        Did limit (granted (create-stores v (card-of (now (w .entry))) slot (name-of (view (now (name .entry)))) (view (now (text .entry)))))
+        Did limit (granted (create-stores v (card-of (now (w .entry))) slot (name-of (view (now (name .entry)))) (view (now (text .entry))) stamp))
         (now (w .entry)) (now (w .exit)) r ⌝ }
 {
     let entry = Entry {
@@ -56,51 +64,60 @@ fn create_at(w: &mut [u8], v: Volume, name: &[u8], text: &[u8], slot: u32, limit
     let o = Operation::Create {
         entry,
         count: root_names::long_slots((text.len() / 2) as u32),
+        stamp,
     };
     record_change(w, v, o, text, limit)
 }
 
 // Create with a text, once NAME and LONGNAME are asked.
-fn create_as(w: &mut [u8], v: Volume, name: &[u8], text: &[u8], limit: u32) -> Outcome
+fn create_as(w: &mut [u8], v: Volume, name: &[u8], text: &[u8], stamp: u32, limit: u32) -> Outcome
     requires { ⌜ Ready v (now w) ⌝ }
     requires { ⌜ (name-ok (view (now name)) ≡ true) × (length (now text) % 2 ≡ 0) × (length (now text) ≤ 2 * most-characters) ⌝ }
     ensures { λ r. ⌜
-        Did limit (create-as v (card-of (now (w .entry))) (view (now (name .entry))) (view (now (text .entry)))) (now (w .entry)) (now (w .exit)) r ⌝ }
+        Did limit (create-as v (card-of (now (w .entry))) (view (now (name .entry))) (view (now (text .entry))) stamp) (now (w .entry)) (now (w .exit)) r ⌝ }
 {
     let p = root_lookup::new_slot(w, v, name, text);
     match p {
         Vacancy::Denied(g) => Outcome::Refused(g),
-        Vacancy::Slot(s) => create_at(w, v, name, text, s, limit),
+        Vacancy::Slot(s) => create_at(w, v, name, text, stamp, s, limit),
     }
 }
 
 // Create, on a clean card.
-fn create_on(w: &mut [u8], v: Volume, name: &[u8], limit: u32) -> Outcome
+fn create_on(w: &mut [u8], v: Volume, name: &[u8], stamp: u32, limit: u32) -> Outcome
     requires { ⌜ Ready v (now w) ⌝ }
-    ensures { λ r. ⌜ Did limit (create-on v (card-of (now (w .entry))) (view (now (name .entry)))) (now (w .entry)) (now (w .exit)) r ⌝ }
+    ensures { λ r. ⌜ Did limit (create-on v (card-of (now (w .entry))) (view (now (name .entry))) stamp) (now (w .entry)) (now (w .exit)) r ⌝ }
 {
     if !root_names::is_name(name) {
         return Outcome::Refused(Ground::Name);
     }
     let none = [0u8; 0];
-    create_as(w, v, name, &none, limit)
+    create_as(w, v, name, &none, stamp, limit)
 }
 
-pub fn create(w: &mut [u8], name: &[u8], limit: u32) -> Outcome
-    ensures { λ r. ⌜ Did limit (create (window-of (now (w .entry))) (view (now (name .entry)))) (now (w .entry)) (now (w .exit)) r ⌝ }
+pub fn create(w: &mut [u8], name: &[u8], seconds: u32, limit: u32) -> Outcome
+    ensures { λ r. ⌜ Did limit (create (window-of (now (w .entry))) (view (now (name .entry))) seconds) (now (w .entry)) (now (w .exit)) r ⌝ }
 {
-    let e = volume::clean(w);
+    let e = volume::clean_at(w, seconds);
     match e {
         Examined::Refused(g) => Outcome::Refused(g),
-        Examined::Granted(v) => create_on(w, v, name, limit),
+        Examined::Granted(v) => create_on(w, v, name, clock::stamp(seconds), limit),
     }
 }
 
 // Create with a long name, on a clean card.
-fn create_long_on(w: &mut [u8], v: Volume, name: &[u8], text: &[u8], limit: u32) -> Outcome
+fn create_long_on(
+    w: &mut [u8],
+    v: Volume,
+    name: &[u8],
+    text: &[u8],
+    stamp: u32,
+    limit: u32,
+) -> Outcome
     requires { ⌜ Ready v (now w) ⌝ }
     ensures { λ r. ⌜
-        Did limit (create-long-on v (card-of (now (w .entry))) (view (now (name .entry))) (view (now (text .entry)))) (now (w .entry)) (now (w .exit)) r ⌝ }
+        Did limit (create-long-on v (card-of (now (w .entry))) (view (now (name .entry))) (view (now (text .entry))) stamp) (now (w .entry))
+        (now (w .exit)) r ⌝ }
 {
     if !root_names::is_name(name) {
         return Outcome::Refused(Ground::Name);
@@ -108,17 +125,18 @@ fn create_long_on(w: &mut [u8], v: Volume, name: &[u8], text: &[u8], limit: u32)
     if !root_names::is_text(text) {
         return Outcome::Refused(Ground::Longname);
     }
-    create_as(w, v, name, text, limit)
+    create_as(w, v, name, text, stamp, limit)
 }
 
-pub fn create_long(w: &mut [u8], name: &[u8], text: &[u8], limit: u32) -> Outcome
+pub fn create_long(w: &mut [u8], name: &[u8], text: &[u8], seconds: u32, limit: u32) -> Outcome
     ensures { λ r. ⌜
-        Did limit (create-long (window-of (now (w .entry))) (view (now (name .entry))) (view (now (text .entry)))) (now (w .entry)) (now (w .exit)) r ⌝ }
+        Did limit (create-long (window-of (now (w .entry))) (view (now (name .entry))) (view (now (text .entry))) seconds) (now (w .entry))
+        (now (w .exit)) r ⌝ }
 {
-    let e = volume::clean(w);
+    let e = volume::clean_at(w, seconds);
     match e {
         Examined::Refused(g) => Outcome::Refused(g),
-        Examined::Granted(v) => create_long_on(w, v, name, text, limit),
+        Examined::Granted(v) => { create_long_on(w, v, name, text, clock::stamp(seconds), limit) }
     }
 }
 

@@ -10,7 +10,8 @@ use Rattle.model.specs.Sector.{Card, card-of, Window, Store}
 use Rattle.model.specs.Fat.{Fat, entry, fat1-of, fat2-of, free-clusters, write-fat}
 use Rattle.model.specs.Chain.{needed, chain, keeps-chain}
 use Rattle.model.specs.Ground.{refused, granted, _when_, _>>=_, _>>_}
-use Rattle.model.specs.Volume.{clean}
+use Rattle.model.specs.Calendar.{stamp-of}
+use Rattle.model.specs.Volume.{clean-at}
 use Rattle.model.specs.Promises.{Shape, Ran}
 use Rattle.model.specs.declared.Area.{Area}
 use Rattle.model.specs.declared.Layout.{Layout}
@@ -63,24 +64,24 @@ emptied-proper l c f = refl
 
 -- ---- grounds
 
-module _ (w : Window) (n d : Span) where
-  pub replace-refused : (g : Ground) → clean w ≡ refused g → replace w n d ≡ refused g
+module _ (w : Window) (n d : Span) (s : ℕ) where
+  pub replace-refused : (g : Ground) → clean-at w s ≡ refused g → replace w n d s ≡ refused g
   unfolding replace _>>=_
   replace-refused g e = rw e
 
-  pub replace-clean : (v : Volume) → clean w ≡ granted v → replace w n d ≡ replace-on v (w .card) n d
+  pub replace-clean : (v : Volume) → clean-at w s ≡ granted v → replace w n d s ≡ replace-on v (w .card) n d (stamp-of s)
   unfolding replace _>>=_
   replace-clean v e = rw e
 
-module _ (c : Card) (v : Volume) (f : File) (d : Span) where
+module _ (c : Card) (v : Volume) (f : File) (d : Span) (st : ℕ) where
   abbrev free-count : ℕ
   free-count = length (free-clusters (v .layout) (fat1-of (v .layout) c))
 
-  pub replace-full : free-count < needed (v .layout) (d .size) → replace-file v c f d ≡ refused Ground.Nospace
+  pub replace-full : free-count < needed (v .layout) (d .size) → replace-file v c f d st ≡ refused Ground.Nospace
   unfolding replace-file _when_ _>>_
   replace-full h = rw (lt-ltb free-count (needed (v .layout) (d .size)) h)
 
-  pub replace-granted : needed (v .layout) (d .size) ≤ free-count → replace-file v c f d ≡ granted (replace-stores v c f d)
+  pub replace-granted : needed (v .layout) (d .size) ≤ free-count → replace-file v c f d st ≡ granted (replace-stores v c f d st)
   unfolding replace-file _when_ _>>_
   replace-granted h = rw (le-ltb free-count (needed (v .layout) (d .size)) h)
 
@@ -108,7 +109,7 @@ module _ (l : Layout) (g : File) (d : Span) (n old m limit : ℕ) (e x : List �
 
 -- ---- the steps through the log
 
-module _ (v : Volume) (xs : List ℕ) (f : File) (d : Span) (ready : Ready v xs) (room : Room (v .layout) (card-of xs) (emptied f) (d .size)) where
+module _ (v : Volume) (xs : List ℕ) (f : File) (d : Span) (st : ℕ) (ready : Ready v xs) (room : Room (v .layout) (card-of xs) (emptied f) (d .size)) where
   abbrev c : Card
   c = card-of xs
 
@@ -122,7 +123,7 @@ module _ (v : Volume) (xs : List ℕ) (f : File) (d : Span) (ready : Ready v xs)
   new-fat = exchanged (v .layout) (fat1-of (v .layout) c) n (f .first) (needed (v .layout) (f .size))
 
   abbrev change : Change
-  change = plain (Replace (f .entry) (f .first) (first-of (v .layout) c n) (d .size))
+  change = plain (Replace (f .entry) (f .first) (first-of (v .layout) c n) (d .size) st)
 
   sh : Shape (v .layout)
   sh = ready .held .fits .shape
@@ -132,11 +133,11 @@ module _ (v : Volume) (xs : List ℕ) (f : File) (d : Span) (ready : Ready v xs)
       (append-off-log (v .layout) c (emptied f) d sh (room .chain) (room .enough) (ready-run v xs ready) s)
 
   -- Its data goes along the new clusters alone, as many as its bytes need.
-  replace-is : replace-stores v c f d ≡ operate v c ds new-fat change
+  replace-is : replace-stores v c f d st ≡ operate v c ds new-fat change
   unfolding replace-stores replace-along fresh-clusters
   replace-is =
       rw (emptied-clusters (v .layout) (sh .factor-low) f (fat1-of (v .layout) c), emptied-added (v .layout) (sh .factor-low) f (d .size))
-      (ap (λ (ks : List ℕ). replace-along v c f d ks (fresh-clusters v c (d .size))) whole-chain)
+      (ap (λ (ks : List ℕ). replace-along v c f d st ks (fresh-clusters v c (d .size))) whole-chain)
     where
       whole-chain : clusters-of (v .layout) (fat1-of (v .layout) c) f ≡ chain (entry (fat1-of (v .layout) c)) (needed (v .layout) (f .size)) (f .first)
       whole-chain = clusters-chain (v .layout) (fat1-of (v .layout) c) f
@@ -145,12 +146,12 @@ module _ (v : Volume) (xs : List ℕ) (f : File) (d : Span) (ready : Ready v xs)
     abbrev front : List Store
     front = exchange-stores (v .layout) c (emptied f) d count (f .first) (needed (v .layout) (f .size))
 
-    pub replace-cut : Ran limit front xs x made false → Ran limit (stores (replace-stores v c f d)) xs x made false
+    pub replace-cut : Ran limit front xs x made false → Ran limit (stores (replace-stores v c f d st)) xs x made false
     replace-cut so = rw replace-is (operate-cut v ds new-fat change sh (ready .lies .above) off-log limit xs x made (rw many at so))
 
     pub replace-ran : Ran limit front xs x made true → (from size : ℕ) → from ≡ first-of (v .layout) c count → size ≡ d .size
-        → (y : List ℕ) (k : ℕ) (w : Bool) → Ran (limit - made) (log-steps v (plain (Replace (f .entry) (f .first) from size)) (card-of x)) x y k w
-        → Ran limit (stores (replace-stores v c f d)) xs y (made + k) w
+        → (y : List ℕ) (k : ℕ) (w : Bool) → Ran (limit - made) (log-steps v (plain (Replace (f .entry) (f .first) from size st)) (card-of x)) x y k w
+        → Ran limit (stores (replace-stores v c f d st)) xs y (made + k) w
     replace-ran so from size first total y k w next =
         rw replace-is (operate-ran v ds new-fat change sh (ready .lies .above) off-log limit xs x made (rw many at so) y k w
         (rw (first, many, total) at next))

@@ -79,11 +79,20 @@ fn store_fresh(w: &mut [u8], l: Layout, f: File, n: u32, bytes: &[u8], limit: u3
 }
 
 // The stores of a replace by bytes that there is room for.
-fn store_replace(w: &mut [u8], v: Volume, f: File, n: u32, bytes: &[u8], limit: u32) -> Progress
+fn store_replace(
+    w: &mut [u8],
+    v: Volume,
+    f: File,
+    n: u32,
+    bytes: &[u8],
+    stamp: u32,
+    limit: u32,
+) -> Progress
     requires { ⌜ Ready v (now w) × Chained v (card-of (now w)) f × Room (v .layout) (card-of (now w)) (emptied f) (length (now bytes)) ⌝ }
     requires { ⌜ n ≡ added (v .layout) (emptied f) (length (now bytes)) ⌝ }
     ensures { λ r. ⌜
-        Ran limit (stores (replace-stores v (card-of (now (w .entry))) f (view (now (bytes .entry))))) (now (w .entry)) (now (w .exit)) (r .made) (r .whole) ⌝ }
+        Ran limit (stores (replace-stores v (card-of (now (w .entry))) f (view (now (bytes .entry))) stamp)) (now (w .entry)) (now (w .exit)) (r .made)
+        (r .whole) ⌝ }
 {
     let l = v.layout;
     let from = file_append::first_new(w, l, n);
@@ -98,44 +107,45 @@ fn store_replace(w: &mut [u8], v: Volume, f: File, n: u32, bytes: &[u8], limit: 
         first: f.first,
         from,
         size,
+        stamp,
     };
     let q = log_steps::plain_steps(w, v, o, limit - p.made);
     sector::joined(p, q)
 }
 
 // NOSPACE; then the stores.
-fn replace_file(w: &mut [u8], v: Volume, f: File, bytes: &[u8], limit: u32) -> Outcome
+fn replace_file(w: &mut [u8], v: Volume, f: File, bytes: &[u8], stamp: u32, limit: u32) -> Outcome
     requires { ⌜ Ready v (now w) × Chained v (card-of (now w)) f ⌝ }
-    ensures { λ r. ⌜ Did limit (replace-file v (card-of (now (w .entry))) f (view (now (bytes .entry)))) (now (w .entry)) (now (w .exit)) r ⌝ }
+    ensures { λ r. ⌜ Did limit (replace-file v (card-of (now (w .entry))) f (view (now (bytes .entry))) stamp) (now (w .entry)) (now (w .exit)) r ⌝ }
 {
     let l = v.layout;
     let n = fat_chain::clusters_needed(l, bytes.len() as u64);
     if sector::wider(fat_chain::count_free(w, l)) < n {
         return Outcome::Refused(Ground::Nospace);
     }
-    let p = store_replace(w, v, f, n as u32, bytes, limit);
+    let p = store_replace(w, v, f, n as u32, bytes, stamp, limit);
     log_steps::ended(p)
 }
 
-fn replace_on(w: &mut [u8], v: Volume, name: &[u8], bytes: &[u8], limit: u32) -> Outcome
+fn replace_on(w: &mut [u8], v: Volume, name: &[u8], bytes: &[u8], stamp: u32, limit: u32) -> Outcome
     requires { ⌜ Ready v (now w) ⌝ }
     ensures { λ r. ⌜
-        Did limit (replace-on v (card-of (now (w .entry))) (view (now (name .entry))) (view (now (bytes .entry)))) (now (w .entry)) (now (w .exit)) r ⌝ }
+        Did limit (replace-on v (card-of (now (w .entry))) (view (now (name .entry))) (view (now (bytes .entry))) stamp) (now (w .entry)) (now (w .exit)) r ⌝ }
 {
     let o = root_lookup::file_of(w, v, Access::Write, name);
     match o {
         Found::Missing(g) => Outcome::Refused(g),
-        Found::At(f) => replace_file(w, v, f, bytes, limit),
+        Found::At(f) => replace_file(w, v, f, bytes, stamp, limit),
     }
 }
 
-pub fn replace(w: &mut [u8], name: &[u8], bytes: &[u8], limit: u32) -> Outcome
+pub fn replace(w: &mut [u8], name: &[u8], bytes: &[u8], seconds: u32, limit: u32) -> Outcome
     ensures { λ r. ⌜
-        Did limit (replace (window-of (now (w .entry))) (view (now (name .entry))) (view (now (bytes .entry)))) (now (w .entry)) (now (w .exit)) r ⌝ }
+        Did limit (replace (window-of (now (w .entry))) (view (now (name .entry))) (view (now (bytes .entry))) seconds) (now (w .entry)) (now (w .exit)) r ⌝ }
 {
-    let e = volume::clean(w);
+    let e = volume::clean_at(w, seconds);
     match e {
         Examined::Refused(g) => Outcome::Refused(g),
-        Examined::Granted(v) => replace_on(w, v, name, bytes, limit),
+        Examined::Granted(v) => { replace_on(w, v, name, bytes, clock::stamp(seconds), limit) }
     }
 }

@@ -111,7 +111,8 @@ pub delete-is : (v : Volume) (c : Card) (f : File)
 unfolding delete-stores clusters-of
 delete-is v c f = rw (release-cut (old-fat v c) (f .first) (needed (v .layout) (f .size)))
 
-pub truncate-is : (v : Volume) (c : Card) (f : File) (size : ℕ) (r : Tail) → Parts (v .layout) (old-fat v c) f size r
-    → truncate-stores v c f size ≡ operate v c [] (cut (old-fat v c) (r .kept) (r .from) (r .freed)) (plain (Truncate (f .entry) (f .first) (r .from) size))
+pub truncate-is : (v : Volume) (c : Card) (f : File) (size st : ℕ) (r : Tail) → Parts (v .layout) (old-fat v c) f size r
+    → truncate-stores v c f size st
+    ≡ operate v c [] (cut (old-fat v c) (r .kept) (r .from) (r .freed)) (plain (Truncate (f .entry) (f .first) (r .from) size st))
 unfolding truncate-stores truncate-along
-truncate-is v c f size r h = rw (h .fat, ← h .from)
+truncate-is v c f size st r h = rw (h .fat, ← h .from)

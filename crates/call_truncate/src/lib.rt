@@ -127,10 +127,10 @@ fn cut_at(w: &[u8], l: Layout, f: File, size: u32) -> Tail
 }
 
 // Truncate of a file that keeps the chain rule, to a smaller size.
-fn truncate_file(w: &mut [u8], v: Volume, f: File, size: u32, limit: u32) -> Progress
+fn truncate_file(w: &mut [u8], v: Volume, f: File, size: u32, stamp: u32, limit: u32) -> Progress
     requires { ⌜ Ready v (now w) ⌝ }
     requires { ⌜ Chained v (card-of (now w)) f × (size < f .size) ⌝ }
-    ensures { λ r. ⌜ Ran limit (stores (truncate-stores v (card-of (now (w .entry))) f size)) (now (w .entry)) (now (w .exit)) (r .made) (r .whole) ⌝ }
+    ensures { λ r. ⌜ Ran limit (stores (truncate-stores v (card-of (now (w .entry))) f size stamp)) (now (w .entry)) (now (w .exit)) (r .made) (r .whole) ⌝ }
 {
     let l = v.layout;
     let c = cut_at(w, l, f, size);
@@ -140,15 +140,16 @@ fn truncate_file(w: &mut [u8], v: Volume, f: File, size: u32, limit: u32) -> Pro
         first: f.first,
         from: c.from,
         size,
+        stamp,
     };
     shorten(w, v, c, o, limit)
 }
 
 // LENGTH, and a size that is the present one. Any other fits 32 bits.
-fn truncate_as(w: &mut [u8], v: Volume, f: File, size: u64, limit: u32) -> Outcome
+fn truncate_as(w: &mut [u8], v: Volume, f: File, size: u64, stamp: u32, limit: u32) -> Outcome
     requires { ⌜ Ready v (now w) ⌝ }
     requires { ⌜ Chained v (card-of (now w)) f ⌝ }
-    ensures { λ r. ⌜ Did limit (truncate-as v (card-of (now (w .entry))) f size) (now (w .entry)) (now (w .exit)) r ⌝ }
+    ensures { λ r. ⌜ Did limit (truncate-as v (card-of (now (w .entry))) f size stamp) (now (w .entry)) (now (w .exit)) r ⌝ }
 {
     let present = sector::wider(f.size);
     if present < size {
@@ -157,27 +158,27 @@ fn truncate_as(w: &mut [u8], v: Volume, f: File, size: u64, limit: u32) -> Outco
     if present == size {
         return Outcome::Done(0);
     }
-    log_steps::ended(truncate_file(w, v, f, size as u32, limit))
+    log_steps::ended(truncate_file(w, v, f, size as u32, stamp, limit))
 }
 
 // Truncate, on a clean card.
-fn truncate_on(w: &mut [u8], v: Volume, name: &[u8], size: u64, limit: u32) -> Outcome
+fn truncate_on(w: &mut [u8], v: Volume, name: &[u8], size: u64, stamp: u32, limit: u32) -> Outcome
     requires { ⌜ Ready v (now w) ⌝ }
-    ensures { λ r. ⌜ Did limit (truncate-on v (card-of (now (w .entry))) (view (now (name .entry))) size) (now (w .entry)) (now (w .exit)) r ⌝ }
+    ensures { λ r. ⌜ Did limit (truncate-on v (card-of (now (w .entry))) (view (now (name .entry))) size stamp) (now (w .entry)) (now (w .exit)) r ⌝ }
 {
     let o = root_lookup::file_of(w, v, Access::Write, name);
     match o {
         Found::Missing(g) => Outcome::Refused(g),
-        Found::At(f) => truncate_as(w, v, f, size, limit),
+        Found::At(f) => truncate_as(w, v, f, size, stamp, limit),
     }
 }
 
-pub fn truncate(w: &mut [u8], name: &[u8], size: u64, limit: u32) -> Outcome
-    ensures { λ r. ⌜ Did limit (truncate (window-of (now (w .entry))) (view (now (name .entry))) size) (now (w .entry)) (now (w .exit)) r ⌝ }
+pub fn truncate(w: &mut [u8], name: &[u8], size: u64, seconds: u32, limit: u32) -> Outcome
+    ensures { λ r. ⌜ Did limit (truncate (window-of (now (w .entry))) (view (now (name .entry))) size seconds) (now (w .entry)) (now (w .exit)) r ⌝ }
 {
-    let e = volume::clean(w);
+    let e = volume::clean_at(w, seconds);
     match e {
         Examined::Refused(g) => Outcome::Refused(g),
-        Examined::Granted(v) => truncate_on(w, v, name, size, limit),
+        Examined::Granted(v) => { truncate_on(w, v, name, size, clock::stamp(seconds), limit) }
     }
 }

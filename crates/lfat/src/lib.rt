@@ -33,6 +33,7 @@ fn ground_number(g: Ground) -> u32
         Ground::Nospace => 15,
         Ground::Locked => 16,
         Ground::Longname => 17,
+        Ground::Clock => 18,
     }
 }
 
@@ -50,48 +51,73 @@ fn number_of(r: Outcome) -> u64
 
 // A new file of no bytes.
 #[no_mangle]
-pub extern "C" fn lfat_create(card: &mut [u8], name: &[u8], limit: u32) -> u64
-    ensures { λ r. ⌜ Called limit (create (window-of (now (card .entry))) (view (now (name .entry)))) (now (card .entry)) (now (card .exit)) r ⌝ }
+pub extern "C" fn lfat_create(card: &mut [u8], name: &[u8], seconds: u32, limit: u32) -> u64
+    ensures { λ r. ⌜ Called limit (create (window-of (now (card .entry))) (view (now (name .entry))) seconds) (now (card .entry)) (now (card .exit)) r ⌝ }
 {
-    number_of(call_create::create(card, name, limit))
+    number_of(call_create::create(card, name, seconds, limit))
 }
 
 // A new file of no bytes with a long name, its characters as two bytes each.
 #[no_mangle]
-pub extern "C" fn lfat_create_long(card: &mut [u8], name: &[u8], chars: &[u8], limit: u32) -> u64
+pub extern "C" fn lfat_create_long(
+    card: &mut [u8],
+    name: &[u8],
+    chars: &[u8],
+    seconds: u32,
+    limit: u32,
+) -> u64
     ensures { λ r. ⌜
-        Called limit (create-long (window-of (now (card .entry))) (view (now (name .entry))) (view (now (chars .entry)))) (now (card .entry))
+        Called limit (create-long (window-of (now (card .entry))) (view (now (name .entry))) (view (now (chars .entry))) seconds) (now (card .entry))
         (now (card .exit)) r ⌝ }
 {
-    number_of(call_create::create_long(card, name, chars, limit))
+    number_of(call_create::create_long(card, name, chars, seconds, limit))
 }
 
 // Bytes at a file's end.
 #[no_mangle]
-pub extern "C" fn lfat_append(card: &mut [u8], name: &[u8], bytes: &[u8], limit: u32) -> u64
+pub extern "C" fn lfat_append(
+    card: &mut [u8],
+    name: &[u8],
+    bytes: &[u8],
+    seconds: u32,
+    limit: u32,
+) -> u64
     ensures { λ r. ⌜
-        Called limit (append (window-of (now (card .entry))) (view (now (name .entry))) (view (now (bytes .entry)))) (now (card .entry))
+        Called limit (append (window-of (now (card .entry))) (view (now (name .entry))) (view (now (bytes .entry))) seconds) (now (card .entry))
         (now (card .exit)) r ⌝ }
 {
-    number_of(call_append::append(card, name, bytes, limit))
+    number_of(call_append::append(card, name, bytes, seconds, limit))
 }
 
 // Other bytes in the place of a file's.
 #[no_mangle]
-pub extern "C" fn lfat_replace(card: &mut [u8], name: &[u8], bytes: &[u8], limit: u32) -> u64
+pub extern "C" fn lfat_replace(
+    card: &mut [u8],
+    name: &[u8],
+    bytes: &[u8],
+    seconds: u32,
+    limit: u32,
+) -> u64
     ensures { λ r. ⌜
-        Called limit (replace (window-of (now (card .entry))) (view (now (name .entry))) (view (now (bytes .entry)))) (now (card .entry))
+        Called limit (replace (window-of (now (card .entry))) (view (now (name .entry))) (view (now (bytes .entry))) seconds) (now (card .entry))
         (now (card .exit)) r ⌝ }
 {
-    number_of(call_replace::replace(card, name, bytes, limit))
+    number_of(call_replace::replace(card, name, bytes, seconds, limit))
 }
 
 // The file's first `size` bytes are kept.
 #[no_mangle]
-pub extern "C" fn lfat_truncate(card: &mut [u8], name: &[u8], size: u64, limit: u32) -> u64
-    ensures { λ r. ⌜ Called limit (truncate (window-of (now (card .entry))) (view (now (name .entry))) size) (now (card .entry)) (now (card .exit)) r ⌝ }
+pub extern "C" fn lfat_truncate(
+    card: &mut [u8],
+    name: &[u8],
+    size: u64,
+    seconds: u32,
+    limit: u32,
+) -> u64
+    ensures { λ r. ⌜
+        Called limit (truncate (window-of (now (card .entry))) (view (now (name .entry))) size seconds) (now (card .entry)) (now (card .exit)) r ⌝ }
 {
-    number_of(call_truncate::truncate(card, name, size, limit))
+    number_of(call_truncate::truncate(card, name, size, seconds, limit))
 }
 
 // The file goes, and its clusters are free.

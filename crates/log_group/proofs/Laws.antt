@@ -22,18 +22,17 @@ use Rattle.model.proofs.Sectors.{byte-in}
 use Rattle.model.proofs.Records.{zeros-length}
 use Rattle.model.proofs.Texts.{told-records}
 use Rattle.model.specs.declared.Record.{Record}
-use Rattle.model.specs.declared.Operation.{Operation}
 use Rattle.model.specs.declared.Operation.the-variants.{Create, Update, Delete, Truncate, Rename, Replace}
 
 module _ (rs : ℕ → Record) where
   tests : (k : ℕ) → rs 0 .number ≡ k → (j : ℕ) → eqb (rs 0 .number) j ≡ eqb k j
   tests k e j = λ i. eqb (e i) j
 
-  pub told-create : rs 0 .number ≡ 1 → operation-of rs ≡ Create (entry-in (rs 0)) (rs 0 .count)
+  pub told-create : rs 0 .number ≡ 1 → operation-of rs ≡ Create (entry-in (rs 0)) (rs 0 .count) (rs 1 .directory)
   unfolding operation-of
   told-create n = rw (tests 1 n 1)
 
-  pub told-update : rs 0 .number ≡ 2 → operation-of rs ≡ Update (entry-in (rs 0)) (rs 0 .cluster) (rs 0 .from) (rs 0 .size)
+  pub told-update : rs 0 .number ≡ 2 → operation-of rs ≡ Update (entry-in (rs 0)) (rs 0 .cluster) (rs 0 .from) (rs 0 .size) (rs 1 .directory)
   unfolding operation-of
   told-update n = rw (tests 2 n 1, tests 2 n 2)
 
@@ -41,7 +40,7 @@ module _ (rs : ℕ → Record) where
   unfolding operation-of
   told-delete n = rw (tests 3 n 1, tests 3 n 2, tests 3 n 3)
 
-  pub told-truncate : rs 0 .number ≡ 4 → operation-of rs ≡ Truncate (entry-in (rs 0)) (rs 0 .cluster) (rs 0 .from) (rs 0 .size)
+  pub told-truncate : rs 0 .number ≡ 4 → operation-of rs ≡ Truncate (entry-in (rs 0)) (rs 0 .cluster) (rs 0 .from) (rs 0 .size) (rs 1 .directory)
   unfolding operation-of
   told-truncate n = rw (tests 4 n 1, tests 4 n 2, tests 4 n 3, tests 4 n 4)
 
@@ -50,7 +49,7 @@ module _ (rs : ℕ → Record) where
   told-rename n = rw (tests 5 n 1, tests 5 n 2, tests 5 n 3, tests 5 n 4, tests 5 n 5)
 
   pub told-replace : (rs 0 .number ≡ 1 → ⊥) → (rs 0 .number ≡ 2 → ⊥) → (rs 0 .number ≡ 3 → ⊥) → (rs 0 .number ≡ 4 → ⊥) → (rs 0 .number ≡ 5 → ⊥)
-      → operation-of rs ≡ Replace (entry-in (rs 0)) (rs 0 .cluster) (rs 0 .from) (rs 0 .size)
+      → operation-of rs ≡ Replace (entry-in (rs 0)) (rs 0 .cluster) (rs 0 .from) (rs 0 .size) (rs 1 .directory)
   unfolding operation-of
   told-replace n1 n2 n3 n4 n5 =
       let n = rs 0 .number in rw (ne-eqb n 1 n1, ne-eqb n 2 n2, ne-eqb n 3 n3, ne-eqb n 4 n4, ne-eqb n 5 n5)
@@ -64,11 +63,11 @@ unfolding operation-of
 fills-none rs h = rw (ne-eqb (rs 0 .number) 1 h) (go (eqb (rs 0 .number) 2) (eqb (rs 0 .number) 3) (eqb (rs 0 .number) 4) (eqb (rs 0 .number) 5))
   where
     go : (two three four five : Bool)
-        → 0 ≡ fills (pick two (Update (entry-in (rs 0)) (rs 0 .cluster) (rs 0 .from) (rs 0 .size))
+        → 0 ≡ fills (pick two (Update (entry-in (rs 0)) (rs 0 .cluster) (rs 0 .from) (rs 0 .size) (rs 1 .directory))
         (pick three (Delete (entry-in (rs 0)) (rs 0 .count) (rs 0 .cluster) (rs 0 .size))
-        (pick four (Truncate (entry-in (rs 0)) (rs 0 .cluster) (rs 0 .from) (rs 0 .size))
+        (pick four (Truncate (entry-in (rs 0)) (rs 0 .cluster) (rs 0 .from) (rs 0 .size) (rs 1 .directory))
         (pick five (Rename (entry-in (rs 0)) (rs 0 .count) (rs 0 .cluster) (rs 0 .size) (rs 1 .slot) (rs 1 .name))
-        (Replace (entry-in (rs 0)) (rs 0 .cluster) (rs 0 .from) (rs 0 .size))))))
+        (Replace (entry-in (rs 0)) (rs 0 .cluster) (rs 0 .from) (rs 0 .size) (rs 1 .directory))))))
     go true three four five = refl
     go false true four five = refl
     go false false true five = refl
@@ -85,8 +84,8 @@ text-none b h = fun-ext (λ i. rw h)
 pub none-there : (b : Bytes) → leads b ≡ false → text-length (text-in b) ≡ 0
 none-there b h = ap text-length (text-none b h) ∙ zeros-length
 
--- One record tells the operation of a sector that is led; no more than a sector has tell any.
-led-size : (b : Bytes) → leads b ≡ true → group-size (record-at b) ≡ 1
+-- The characters of a sector that is led stand after the records that tell its operation; no more than a sector has tell any.
+led-size : (b : Bytes) → leads b ≡ true → 32 * group-size (record-at b) ≡ text-start
 unfolding leads group-size operation-of operation-records
 led-size b h = rw (every-at _ h 1)
 

@@ -12,18 +12,28 @@ ghost use Rattle.model.specs.Bytes.{bytes-of};
 ghost use Rattle.model.specs.Record.{record-at, operation-records, operation-of, text-length, text-in, change-of, group-size, planned, group-in, starts};
 ghost use Rattle.model.specs.Pending.{fills, characters-ok, empty-from, group-ok};
 
+// The records of an operation with its stamp, and those of a rename.
+const STAMPED: u32 = 2;
+
+const PAIR: u32 = 2;
+
 // How many records tell an operation.
 pub fn records_of(o: Operation) -> u32
     ensures { λ r. ⌜ (r ≡ length (operation-records o)) × (1 ≤ r) × (r ≤ 16) ⌝ }
 {
     match o {
-        Operation::Create { entry: _, count: _ } => 1,
+        Operation::Create {
+            entry: _,
+            count: _,
+            stamp: _,
+        } => STAMPED,
         Operation::Update {
             entry: _,
             last: _,
             from: _,
             size: _,
-        } => 1,
+            stamp: _,
+        } => STAMPED,
         Operation::Delete {
             entry: _,
             count: _,
@@ -35,7 +45,8 @@ pub fn records_of(o: Operation) -> u32
             first: _,
             from: _,
             size: _,
-        } => 1,
+            stamp: _,
+        } => STAMPED,
         Operation::Rename {
             entry: _,
             count: _,
@@ -43,13 +54,14 @@ pub fn records_of(o: Operation) -> u32
             size: _,
             to: _,
             renamed: _,
-        } => 2,
+        } => PAIR,
         Operation::Replace {
             entry: _,
             first: _,
             from: _,
             size: _,
-        } => 1,
+            stamp: _,
+        } => STAMPED,
     }
 }
 
@@ -73,17 +85,21 @@ pub fn operation_at(log: &[u8], s: u32) -> Operation
         name,
         attributes: r.attributes,
     };
+    let d = log_record::load(log, s, 1);
+    let stamp = d.directory;
     let number = r.number;
     match number {
         1 => Operation::Create {
             entry,
             count: r.count,
+            stamp,
         },
         2 => Operation::Update {
             entry,
             last: r.cluster,
             from: r.from,
             size: r.size,
+            stamp,
         },
         3 => Operation::Delete {
             entry,
@@ -96,9 +112,9 @@ pub fn operation_at(log: &[u8], s: u32) -> Operation
             first: r.cluster,
             from: r.from,
             size: r.size,
+            stamp,
         },
         5 => {
-            let d = log_record::load(log, s, 1);
             let renamed = d.name;
             Operation::Rename {
                 entry,
@@ -114,6 +130,7 @@ pub fn operation_at(log: &[u8], s: u32) -> Operation
             first: r.cluster,
             from: r.from,
             size: r.size,
+            stamp,
         },
     }
 }

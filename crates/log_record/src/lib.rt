@@ -6,11 +6,12 @@ ghost use lib.ListN.{length};
 ghost use Rattle.model.specs.Sector.{card-of};
 ghost use Rattle.model.specs.Scan.{all};
 ghost use Rattle.model.specs.Record.{record-at, group-size, starts, leads, tells, pends};
-ghost use Rattle.model.specs.Pending.{slot-ok, most-counted, count-ok, record-ok, alike, apart, part-ok, records-ok};
+ghost use Rattle.model.specs.Pending.{slot-ok, most-counted, count-ok, record-ok, alike, apart, is-stamp, pair-ok, part-ok, records-ok};
 
 // Where the characters of a long name begin in a sector that is led, and for how many bytes of them it has room.
-pub const TEXT_START: usize = 32;
-pub const TEXT_ROOM: usize = 480;
+pub const TEXT_START: usize = 64;
+
+pub const TEXT_ROOM: usize = 448;
 
 // Whether record 0 of sector s leads it: a create with a long name, whose characters stand in the records after it.
 pub fn leads(log: &[u8], s: u32) -> bool
@@ -194,10 +195,45 @@ fn is_apart(log: &[u8], s: u32, n: u32, k: u32) -> bool
     true
 }
 
-// Record k of sector s, which is part of the record before.
-fn part_ok(log: &[u8], s: u32, k: u32, entries: u32, z: u32) -> bool
+// Whether a record is a stamp: 0x54, a time and a date, which may be any, and no byte else.
+fn is_stamp(r: Record) -> bool
+    ensures { λ t. ⌜ t ≡ is-stamp r ⌝ }
+{
+    let name = r.name;
+    if name.stem != 0x54 {
+        return false;
+    }
+    if name.extension != 0 {
+        return false;
+    }
+    if r.attributes != 0 {
+        return false;
+    }
+    if r.count != 0 {
+        return false;
+    }
+    if r.number != 0 {
+        return false;
+    }
+    if r.slot != 0 {
+        return false;
+    }
+    if r.high != 0 {
+        return false;
+    }
+    if r.from != 0 {
+        return false;
+    }
+    if r.cluster != 0 {
+        return false;
+    }
+    r.size == 0
+}
+
+// Record k of sector s, in the group of a rename: the record before with another name and slot.
+fn pair_ok(log: &[u8], s: u32, k: u32, entries: u32, z: u32) -> bool
     requires { ⌜ (512 * s + 512 ≤ length (now log)) × (1 ≤ k) × (k < 16) ⌝ }
-    ensures { λ t. ⌜ t ≡ part-ok entries z (record-at (card-of (now (log .entry)) s)) k ⌝ }
+    ensures { λ t. ⌜ t ≡ pair-ok entries z (record-at (card-of (now (log .entry)) s)) k ⌝ }
 {
     let r = load(log, s, k - 1);
     let d = load(log, s, k);
@@ -210,6 +246,17 @@ fn part_ok(log: &[u8], s: u32, k: u32, entries: u32, z: u32) -> bool
     is_apart(log, s, k, d.slot)
 }
 
+// Record k of sector s, which is part of the record before: of a rename, or a stamp.
+fn part_ok(log: &[u8], s: u32, k: u32, operation: u32, entries: u32, z: u32) -> bool
+    requires { ⌜ (512 * s + 512 ≤ length (now log)) × (1 ≤ k) × (k < 16) × (operation ≡ record-at (card-of (now log) s) 0 .number) ⌝ }
+    ensures { λ t. ⌜ t ≡ part-ok entries z (record-at (card-of (now (log .entry)) s)) k ⌝ }
+{
+    if operation == 5 {
+        return pair_ok(log, s, k, entries, z);
+    }
+    is_stamp(load(log, s, k))
+}
+
 // The m records of the group in sector s.
 pub fn records_ok(log: &[u8], s: u32, m: u32, entries: u32, z: u32) -> bool
     requires { ⌜ (512 * s + 512 ≤ length (now log)) × (m ≤ 16) ⌝ }
@@ -220,9 +267,10 @@ pub fn records_ok(log: &[u8], s: u32, m: u32, entries: u32, z: u32) -> bool
     if !record_ok(r, entries, z) {
         return false;
     }
+    let number = r.number;
     let mut k = 1;
     while k < m {
-        if !part_ok(log, s, k, entries, z) {
+        if !part_ok(log, s, k, number, entries, z) {
             return false;
         }
         k += 1;

@@ -1,6 +1,7 @@
 // Step 3: the log cleared if it is full, and the group of a change stored.
 use model::Area;
 use model::Entry;
+use model::Name;
 use model::Operation;
 use model::Plan;
 use model::Progress;
@@ -12,7 +13,7 @@ ghost use lib.ListN.{length, getD};
 ghost use Rattle.model.specs.Bytes.{bytes-of, zeros};
 ghost use Rattle.model.specs.Sector.{card-of};
 ghost use Rattle.model.specs.Log.{log-of, unused};
-ghost use Rattle.model.specs.Record.{record-bytes, record-in, record-of, operation-records, lay, with-text, encode, planned};
+ghost use Rattle.model.specs.Record.{record-bytes, record-in, record-of, stamp-record, operation-records, lay, with-text, encode, planned};
 ghost use Rattle.model.specs.Promises.{Room, Ran};
 ghost use Rattle.operations.specs.Plan.{clear-all, clearing, group-sector, group-store};
 ghost use Rattle.log_write.specs.Place.{Within};
@@ -121,19 +122,49 @@ fn record_about(e: Entry, number: u32, count: u32, cluster: u32, from: u32, size
     }
 }
 
+// Record k of two: the first, and its stamp.
+fn stamped(first: Record, stamp: u32, k: u32) -> Record
+    requires { ⌜ k < 2 ⌝ }
+    ensures { λ r. ⌜ r ≡ getD (first ∷ stamp-record stamp ∷ []) k (record-in zeros) ⌝ }
+{
+    if k == 0 {
+        return first;
+    }
+    Record {
+        name: Name {
+            stem: 0x54,
+            extension: 0,
+        },
+        attributes: 0,
+        count: 0,
+        number: 0,
+        directory: stamp,
+        slot: 0,
+        high: 0,
+        from: 0,
+        cluster: 0,
+        size: 0,
+    }
+}
+
 // Record k of those that tell an operation.
 fn record_of(o: Operation, k: u32) -> Record
     requires { ⌜ k < length (operation-records o) ⌝ }
     ensures { λ r. ⌜ r ≡ getD (operation-records o) k (record-in zeros) ⌝ }
 {
     match o {
-        Operation::Create { entry, count } => record_about(entry, 1, count, 0, 0, 0),
+        Operation::Create {
+            entry,
+            count,
+            stamp,
+        } => stamped(record_about(entry, 1, count, 0, 0, 0), stamp, k),
         Operation::Update {
             entry,
             last,
             from,
             size,
-        } => record_about(entry, 2, 0, last, from, size),
+            stamp,
+        } => stamped(record_about(entry, 2, 0, last, from, size), stamp, k),
         Operation::Delete {
             entry,
             count,
@@ -145,7 +176,8 @@ fn record_of(o: Operation, k: u32) -> Record
             first,
             from,
             size,
-        } => record_about(entry, 4, 0, first, from, size),
+            stamp,
+        } => stamped(record_about(entry, 4, 0, first, from, size), stamp, k),
         Operation::Rename {
             entry,
             count,
@@ -169,7 +201,8 @@ fn record_of(o: Operation, k: u32) -> Record
             first,
             from,
             size,
-        } => record_about(entry, 6, 0, first, from, size),
+            stamp,
+        } => stamped(record_about(entry, 6, 0, first, from, size), stamp, k),
     }
 }
 

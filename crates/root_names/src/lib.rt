@@ -132,12 +132,17 @@ pub fn slots_of(o: Operation) -> NamedSlots
     ensures { λ r. ⌜ ((q : ℕ → Bool) → any (map q (named-slots o)) ≡ (any (map q (name-slots (r .slot) (r .count))) || q (r .to))) ⌝ }
 {
     match o {
-        Operation::Create { entry, count } => one_name(entry.slot, count),
+        Operation::Create {
+            entry,
+            count,
+            stamp: _,
+        } => one_name(entry.slot, count),
         Operation::Update {
             entry,
             last: _,
             from: _,
             size: _,
+            stamp: _,
         } => one_name(entry.slot, 0),
         Operation::Delete {
             entry,
@@ -150,6 +155,7 @@ pub fn slots_of(o: Operation) -> NamedSlots
             first: _,
             from: _,
             size: _,
+            stamp: _,
         } => one_name(entry.slot, 0),
         Operation::Rename {
             entry,
@@ -168,6 +174,7 @@ pub fn slots_of(o: Operation) -> NamedSlots
             first: _,
             from: _,
             size: _,
+            stamp: _,
         } => one_name(entry.slot, 0),
     }
 }

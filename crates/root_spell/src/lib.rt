@@ -62,11 +62,11 @@ fn name_entry(sum: u32, t: &[u8], n: u32, i: u32) -> [u8; 32]
 }
 
 // Slot k of a new name: its own, or one of those before it.
-pub fn name_slot(e: Entry, t: &[u8], k: u32) -> [u8; 32]
+pub fn name_slot(e: Entry, stamp: u32, t: &[u8], k: u32) -> [u8; 32]
     requires { ⌜ (length (now t) % 2 ≡ 0) × (length (now t) ≤ text-room) × (k ≤ e .slot) × (e .slot < 65536) ⌝ }
-    ensures { λ r. ⌜ bytes-of r ≡ name-slot e (bytes-of (now (t .entry))) k ⌝ }
+    ensures { λ r. ⌜ bytes-of r ≡ name-slot e stamp (bytes-of (now (t .entry))) k ⌝ }
 {
-    let b = sector_build::new_entry(e.name);
+    let b = sector_build::new_entry(e.name, stamp);
     if k == e.slot {
         return b;
     }

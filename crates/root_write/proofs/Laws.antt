@@ -28,7 +28,7 @@ use Rattle.model.proofs.Overlays.{overlay-in, overlay-below}
 use Rattle.model.proofs.Runs.{ran-card}
 use Rattle.model.proofs.Turns.{map-indices, upto-all}
 use Rattle.operations.specs.Finish.{Edit, edit, edit-from, set-slots, each, marks, name-slot, operation-edits, edits, Slots, effect, set-name, mark-deleted}
-use Rattle.operations.specs.Finish.{root-sector, concerns, root-stores}
+use Rattle.operations.specs.Finish.{set-stamp, root-sector, concerns, root-stores}
 use Rattle.operations.proofs.Edits as Edits
 use Rattle.operations.proofs.Edits.{laid-resized, laid-mark, laid-name, laid-local, edit-made, own-made, each-in, each-out, only-in, sector-mix}
 use Rattle.operations.proofs.Seats.{unnamed}
@@ -66,10 +66,10 @@ own-slot s k h = ⊎-elim (λ e. e) (λ ne. clash h (rw (ne-eqb k s ne))) (same?
 
 -- One that it names, of which the change makes r; b was loaded.
 module _ (t : Bytes) (d : Directory) (k : ℕ) (b r : Bytes) (same : (j : ℕ) → j < 32 → b j ≡ d k j) where
-  pub in-create : (e : Entry) (count : ℕ) → among (named-slots (Create e count)) k ≡ true → r ≡ name-slot e t k
-      → (j : ℕ) → j < 32 → r j ≡ effect (with-text (Create e count) t) d k j
+  pub in-create : (e : Entry) (count stamp : ℕ) → among (named-slots (Create e count stamp)) k ≡ true → r ≡ name-slot e stamp t k
+      → (j : ℕ) → j < 32 → r j ≡ effect (with-text (Create e count stamp) t) d k j
   unfolding effect edits operation-edits named-slots
-  in-create e count h is j s = (λ i. is i j) ∙ sym (λ i. only-in (λ k b. name-slot e t k) (name-slots (e .slot) count) d k h i j)
+  in-create e count stamp h is j s = (λ i. is i j) ∙ sym (λ i. only-in (λ k b. name-slot e stamp t k) (name-slots (e .slot) count) d k h i j)
 
   -- An edit of its own bytes alone.
   made : (x : Change) (s : ℕ) (f : Bytes → Bytes) → edits x ≡ edit s f ∷ [] → ((j : ℕ) → Edits.Laid f j) → k ≡ s → r ≡ f b
@@ -77,21 +77,26 @@ module _ (t : Bytes) (d : Directory) (k : ℕ) (b r : Bytes) (same : (j : ℕ) �
   unfolding effect
   made x s f e laid at is j small = (λ i. is i j) ∙ own-made s f [] d k j b at (laid j) (same j small) ∙ ap (λ es. set-slots es d k j) (sym e)
 
-  pub in-update : (e : Entry) (last from size : ℕ) → among (named-slots (Update e last from size)) k ≡ true → r ≡ resized b (eqb last 0) from size
-      → (j : ℕ) → j < 32 → r j ≡ effect (with-text (Update e last from size) t) d k j
+  pub in-update : (e : Entry) (last from size stamp : ℕ) → among (named-slots (Update e last from size stamp)) k ≡ true
+      → r ≡ set-stamp stamp (resized b (eqb last 0) from size)
+      → (j : ℕ) → j < 32 → r j ≡ effect (with-text (Update e last from size stamp) t) d k j
   unfolding edits operation-edits named-slots
-  in-update e last from size h is =
-      made _ (e .slot) (λ x. resized x (eqb last 0) from size) refl (laid-resized (eqb last 0) from size) (own-slot (e .slot) k h) is
+  in-update e last from size stamp h is =
+      made _ (e .slot) (λ x. set-stamp stamp (resized x (eqb last 0) from size)) refl (laid-resized (eqb last 0) from size stamp) (own-slot (e .slot) k h) is
 
-  pub in-truncate : (e : Entry) (first from size : ℕ) → among (named-slots (Truncate e first from size)) k ≡ true → r ≡ resized b (eqb size 0) 0 size
-      → (j : ℕ) → j < 32 → r j ≡ effect (with-text (Truncate e first from size) t) d k j
+  pub in-truncate : (e : Entry) (first from size stamp : ℕ) → among (named-slots (Truncate e first from size stamp)) k ≡ true
+      → r ≡ set-stamp stamp (resized b (eqb size 0) 0 size)
+      → (j : ℕ) → j < 32 → r j ≡ effect (with-text (Truncate e first from size stamp) t) d k j
   unfolding edits operation-edits named-slots
-  in-truncate e first from size h is = made _ (e .slot) (λ x. resized x (eqb size 0) 0 size) refl (laid-resized (eqb size 0) 0 size) (own-slot (e .slot) k h) is
+  in-truncate e first from size stamp h is =
+      made _ (e .slot) (λ x. set-stamp stamp (resized x (eqb size 0) 0 size)) refl (laid-resized (eqb size 0) 0 size stamp) (own-slot (e .slot) k h) is
 
-  pub in-replace : (e : Entry) (first from size : ℕ) → among (named-slots (Replace e first from size)) k ≡ true → r ≡ resized b true from size
-      → (j : ℕ) → j < 32 → r j ≡ effect (with-text (Replace e first from size) t) d k j
+  pub in-replace : (e : Entry) (first from size stamp : ℕ) → among (named-slots (Replace e first from size stamp)) k ≡ true
+      → r ≡ set-stamp stamp (resized b true from size)
+      → (j : ℕ) → j < 32 → r j ≡ effect (with-text (Replace e first from size stamp) t) d k j
   unfolding edits operation-edits named-slots
-  in-replace e first from size h is = made _ (e .slot) (λ x. resized x true from size) refl (laid-resized true from size) (own-slot (e .slot) k h) is
+  in-replace e first from size stamp h is =
+      made _ (e .slot) (λ x. set-stamp stamp (resized x true from size)) refl (laid-resized true from size stamp) (own-slot (e .slot) k h) is
 
   -- A slot that is marked as deleted.
   deleted : r ≡ mark-deleted b → (j : ℕ) → j < 32 → r j ≡ mark-deleted (d k) j
@@ -127,11 +132,11 @@ unfolding edits operation-edits
 rename-source t n e count first size to renamed h =
     all-later (λ e. (e .slot < n) × (e .source < n)) (marks (name-slots (e .slot) count)) (edit-from (e .slot) to (λ x. set-name renamed x) ∷ []) h .0 .1
 
-pub create-slot : (t : Bytes) (n : ℕ) (e : Entry) (count : ℕ) → Slots n (with-text (Create e count) t) → e .slot < n
+pub create-slot : (t : Bytes) (n : ℕ) (e : Entry) (count stamp : ℕ) → Slots n (with-text (Create e count stamp) t) → e .slot < n
 unfolding edits operation-edits name-slots
-create-slot t n e count h = last (e .slot) count h
+create-slot t n e count stamp h = last (e .slot) count h
   where
-    last : (s m : ℕ) → All (λ e. (e .slot < n) × (e .source < n)) (each (λ k b. name-slot e t k) (name-slots s m)) → s < n
+    last : (s m : ℕ) → All (λ e. (e .slot < n) × (e .source < n)) (each (λ k b. name-slot e stamp t k) (name-slots s m)) → s < n
     last s zero h = h .0 .0
     last s (suc m) h = last s m (h .1)
 

@@ -15,7 +15,7 @@ ghost use Rattle.model.specs.Long.{name-slots};
 ghost use Rattle.model.specs.Record.{with-text};
 ghost use Rattle.model.specs.Pending.{named-slots};
 ghost use Rattle.model.specs.Promises.{Held, Texted, Ran};
-ghost use Rattle.operations.specs.Finish.{Slots, mark-deleted, effect, root-sector, root-stores};
+ghost use Rattle.operations.specs.Finish.{Slots, set-stamp, mark-deleted, effect, root-sector, root-stores};
 ghost use Rattle.root_write.specs.Slots.{resized, root-turn};
 
 // The 32 bytes of slot k.
@@ -37,6 +37,13 @@ fn resize(b: [u8; 32], moves: bool, first: u32, size: u32) -> [u8; 32]
         return sector_build::set(m, 28, 4, size);
     }
     sector_build::set(b, 28, 4, size)
+}
+
+// The same, written at a stamp.
+fn rewrite(b: [u8; 32], moves: bool, first: u32, size: u32, stamp: u32) -> [u8; 32]
+    ensures { λ r. ⌜ bytes-of r ≡ set-stamp stamp (resized (bytes-of b) moves first size) ⌝ }
+{
+    sector_build::set_stamp(resize(b, moves, first, size), stamp)
 }
 
 // A deleted entry.
@@ -82,13 +89,18 @@ fn slot_after(w: &[u8], l: Layout, o: Operation, text: &[u8], k: u32) -> [u8; 32
         return b;
     }
     match o {
-        Operation::Create { entry, count: _ } => root_spell::name_slot(entry, text, k),
+        Operation::Create {
+            entry,
+            count: _,
+            stamp,
+        } => root_spell::name_slot(entry, stamp, text, k),
         Operation::Update {
             entry: _,
             last,
             from,
             size,
-        } => resize(b, last == 0, from, size),
+            stamp,
+        } => rewrite(b, last == 0, from, size, stamp),
         Operation::Delete {
             entry: _,
             count: _,
@@ -100,7 +112,8 @@ fn slot_after(w: &[u8], l: Layout, o: Operation, text: &[u8], k: u32) -> [u8; 32
             first: _,
             from: _,
             size,
-        } => resize(b, size == 0, 0, size),
+            stamp,
+        } => rewrite(b, size == 0, 0, size, stamp),
         Operation::Rename {
             entry,
             count,
@@ -119,7 +132,8 @@ fn slot_after(w: &[u8], l: Layout, o: Operation, text: &[u8], k: u32) -> [u8; 32
             first: _,
             from,
             size,
-        } => resize(b, true, from, size),
+            stamp,
+        } => rewrite(b, true, from, size, stamp),
     }
 }
 

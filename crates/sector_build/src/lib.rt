@@ -3,7 +3,7 @@ use model::Name;
 ghost use mathlib.Core.Path.{_≡_};
 ghost use Prim.Native.Nat.{_+_, _*_, _%_, _≤_, _<_};
 ghost use Rattle.model.specs.Bytes.{bytes-of, overlay, patch};
-ghost use Rattle.operations.specs.Finish.{set-name, new-entry};
+ghost use Rattle.operations.specs.Finish.{set-name, set-stamp, new-entry};
 
 fn low(x: u64) -> u8
     ensures { λ r. ⌜ r ≡ x % 256 ⌝ }
@@ -41,13 +41,22 @@ pub fn set_name(b: [u8; 32], name: Name) -> [u8; 32]
     set_wide(e, 0, 8, name.stem)
 }
 
-// The entry of a new file: attributes 0x20, the three dates 0x0021.
-pub fn new_entry(name: Name) -> [u8; 32]
-    ensures { λ r. ⌜ bytes-of r ≡ new-entry name ⌝ }
+// An entry that is written at a stamp: its low two bytes are the write time, the high two the write date and the access date.
+pub fn set_stamp(b: [u8; 32], stamp: u32) -> [u8; 32]
+    ensures { λ r. ⌜ bytes-of r ≡ set-stamp stamp (bytes-of b) ⌝ }
 {
-    let a = set([0u8; 32], 24, 2, 0x21);
-    let b = set(a, 18, 2, 0x21);
-    let c = set(b, 16, 2, 0x21);
+    let a = set(b, 18, 2, stamp / 65536);
+    let c = set(a, 24, 2, stamp / 65536);
+    set(c, 22, 2, stamp % 65536)
+}
+
+// The entry of a new file: attributes 0x20, and all dates from its stamp.
+pub fn new_entry(name: Name, stamp: u32) -> [u8; 32]
+    ensures { λ r. ⌜ bytes-of r ≡ new-entry name stamp ⌝ }
+{
+    let a = set_stamp([0u8; 32], stamp);
+    let b = set(a, 16, 2, stamp / 65536);
+    let c = set(b, 14, 2, stamp % 65536);
     let d = set(c, 11, 1, 0x20);
     set_name(d, name)
 }

@@ -2,17 +2,19 @@
 use mathlib.Core.Path.{_≡_, refl, sym, ap, _∙_, subst}
 use mathlib.Core.Bool.{true}
 use mathlib.Core.List.{List, []}
-use Prim.Native.Nat.{ℕ, _+_, _*_}
+use Prim.Native.Nat.{ℕ, _+_, _*_, _≤_}
 use lib.ListN.{length, getD}
-use Rattle.model.specs.Sector.{card-of}
+use Rattle.model.specs.Sector.{card-of, window-of}
 use Rattle.model.specs.Fat.{fat1-of, fat2-of, fats-agree, write-fat}
 use Rattle.model.specs.Log.{run, run-ok, area}
+use Rattle.model.specs.Calendar.{last-second}
 use Rattle.model.specs.Ground.{Answer}
+use Rattle.model.specs.Volume.{clean-at}
 use Rattle.model.specs.declared.Volume.{Volume}
 use Rattle.model.specs.declared.Pending.the-variants as Pending
 use Rattle.model.proofs.Cards.{clip-clip}
 use Rattle.model.proofs.Fats.{agree-at, write-none}
-use Rattle.model.proofs.Volumes.{volume-of, cleaned, fit-run}
+use Rattle.model.proofs.Volumes.{volume-of, cleaned, fit-run, timely}
 use Rattle.volume.specs.Examined.{examined-of, Carries}
 use Rattle.volume.specs.Opened.{Opened, Ready}
 use Rattle.volume.specs.declared.Examined.{Examined}
@@ -44,3 +46,8 @@ module _ (v : Volume) (xs : List ℕ) (h : Ready v xs) where
 
   pub ready-log : v .log ≡ area (v .layout) (run (v .layout) (fat1-of (v .layout) (card-of xs)))
   ready-log = subst (λ (u : Volume). u .log ≡ area (u .layout) (run (u .layout) (fat1-of (u .layout) (card-of xs)))) is-volume refl
+
+-- The seconds that a call is given pass CLOCK.
+pub opened-at : (xs : List ℕ) (seconds : ℕ) (v : Volume) → Opened (clean-at (window-of xs) seconds) v xs → Ready v xs × (seconds ≤ last-second)
+opened-at xs seconds v h =
+    let t = timely (window-of xs) seconds v (h .passes) in (record { passes = t .0; held = h .held; lies = h .lies }, t .1)

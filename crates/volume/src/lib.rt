@@ -9,7 +9,7 @@ use model::Volume;
 ghost use mathlib.Core.Path.{_≡_};
 ghost use Rattle.model.specs.Sector.{card-of, window-of};
 ghost use Rattle.model.specs.Pending.{pending, is-broken, is-held};
-ghost use Rattle.model.specs.Volume.{mount, inspect, examine, settled, clean};
+ghost use Rattle.model.specs.Volume.{mount, inspect, examine, settled, clean, clean-at};
 ghost use Rattle.model.specs.Promises.{Held};
 ghost use Rattle.fat_read.specs.Located.{Lies};
 ghost use Rattle.volume.specs.Examined.{mounted-of, examined-of, Mounts, Carries, examine-on};
@@ -133,5 +133,21 @@ pub fn clean(w: &[u8]) -> Examined
     match e {
         Examined::Refused(g) => Examined::Refused(g),
         Examined::Granted(v) => settle(w, v),
+    }
+}
+
+// Grounds 1 to 7, and CLOCK.
+pub fn clean_at(w: &[u8], seconds: u32) -> Examined
+    ensures { λ r. ⌜ (examined-of r ≡ clean-at (window-of (now (w .entry))) seconds) × Carries (now (w .entry)) r ⌝ }
+{
+    let e = clean(w);
+    match e {
+        Examined::Refused(ground) => Examined::Refused(ground),
+        Examined::Granted(v) => {
+            if clock::LAST_SECOND < seconds {
+                return Examined::Refused(Ground::Clock);
+            }
+            Examined::Granted(v)
+        }
     }
 }

@@ -25,12 +25,12 @@ use Rattle.sector.proofs.wider.Reads as wider-reads
 returns : tie.Need-returns
 returns c =
     let a = c .before .before .before .before .before .before .before .before .args in
-    rw (append-full (card-of (a .w .now)) (a .v) (a .f) (view (a .bytes .now)) (omega arith)) (did-refused (a .limit) Ground.Nospace (a .w .now))
+    rw (append-full (card-of (a .w .now)) (a .v) (a .f) (view (a .bytes .now)) (a .stamp) (omega arith)) (did-refused (a .limit) Ground.Nospace (a .w .now))
 
 returns-2 : tie.Need-returns-2
 returns-2 c =
     let a = c .before .before .before .before .before .before .before .before .before .args in
-    rw (append-none (card-of (a .w .now)) (a .v) (a .f) (view (a .bytes .now)) (omega arith) (omega arith))
+    rw (append-none (card-of (a .w .now)) (a .v) (a .f) (view (a .bytes .now)) (a .stamp) (omega arith) (omega arith))
     (did-ran (a .limit) (ending []) (a .w .now) (a .w .now) 0 true (ran-none (a .limit) (a .w .now)))
 
 store-append-requires : tie.Need-store-append-requires
@@ -46,8 +46,8 @@ returns-3 : tie.Need-returns-3
 returns-3 c =
     let a = c .before .before .before .before .before .before .before .before .before .before .before .before .before .before .before .before .args in
     let s = c .before .before .before .store-append in
-    rw (c .ended .ensures, append-some (card-of (a .w .now)) (a .v) (a .f) (view (a .bytes .now)) (omega arith) (λ e. omega arith))
-    (did-ran (a .limit) (append-stores (a .v) (card-of (a .w .now)) (a .f) (view (a .bytes .now))) (a .w .now) (s .last .0) (s .result .made)
+    rw (c .ended .ensures, append-some (card-of (a .w .now)) (a .v) (a .f) (view (a .bytes .now)) (a .stamp) (omega arith) (λ e. omega arith))
+    (did-ran (a .limit) (append-stores (a .v) (card-of (a .w .now)) (a .f) (view (a .bytes .now)) (a .stamp)) (a .w .now) (s .last .0) (s .result .made)
     (s .result .whole) (s .ensures))
 
 pub append-to-spec : {M : Type 1} → statement M

@@ -13,7 +13,7 @@ returns c =
     let h = c .before .before .before .before .before .before .before .before .before .before .before .pre in
     let the-store-chain = c .before .before .before .before .store-chain in
     let cut = not-true (the-store-chain .result .whole) (c .if1 .taken) in
-    rw cut (append-cut (a .v) (a .w .now) (a .f) (view (a .bytes .now)) (h .0 .0) (h .0 .1) (a .limit) (the-store-chain .last .0)
+    rw cut (append-cut (a .v) (a .w .now) (a .f) (view (a .bytes .now)) (a .stamp) (h .0 .0) (h .0 .1) (a .limit) (the-store-chain .last .0)
     (the-store-chain .result .made) (a .last) (a .n) (h .1 .0) (h .1 .1) (rw cut at (the-store-chain .ensures)))
 
 plain-steps-requires : tie.Need-plain-steps-requires
@@ -33,7 +33,7 @@ returns-2 c =
     let the-if1 = c .before .before .before .before .before .before .before .before .if1 in
     let the-plain-steps = c .before .before .before .plain-steps in
     let done = rw (not-false (the-store-chain .result .whole) (the-if1 .left)) at (the-store-chain .ensures) in
-    rw (c .joined .ensures .0, c .joined .ensures .1) (append-ran (a .v) (a .w .now) (a .f) (view (a .bytes .now)) (h .0 .0) (h .0 .1) (a .limit)
+    rw (c .joined .ensures .0, c .joined .ensures .1) (append-ran (a .v) (a .w .now) (a .f) (view (a .bytes .now)) (a .stamp) (h .0 .0) (h .0 .1) (a .limit)
     (the-store-chain .last .0) (the-store-chain .result .made) (a .last) (a .n) (h .1 .0) (h .1 .1) done (the-first-new .result) _
     (the-first-new .ensures) refl (the-plain-steps .last .0) (the-plain-steps .result .made) (the-plain-steps .result .whole)
     (the-plain-steps .ensures))

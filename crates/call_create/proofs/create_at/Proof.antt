@@ -25,9 +25,14 @@ record-change-requires : tie.Need-record-change-requires
 unfolding operation-records
 record-change-requires c κs =
     let h = c .before .before .before .before .before .before .pre in
-    let a = c .before .before .before .before .before .before .args in
-    (h .0, (create-slots (a .v .layout .entries) _ _ (h .1 .0) (bytes-of (a .text .now)), record { even = h .1 .2; short = omega (arith, h .1 .3) },
-    omega (arith, h .1 .3)))
+    let a = c .before .before .before .before .before .before .args in (
+      h .0,
+      (
+        create-slots (a .v .layout .entries) _ _ (h .1 .0) (a .stamp) (bytes-of (a .text .now)),
+        record { even = h .1 .2; short = omega (arith, h .1 .3) },
+        omega (arith, h .1 .3),
+      ),
+    )
 
 returns : tie.Need-returns
 unfolding create-stores

@@ -23,7 +23,7 @@ use Rattle.sector.proofs.wider.Reads as wider-reads
 returns : tie.Need-returns
 returns c =
     let a = c .before .before .before .before .before .before .before .before .args in
-    rw (replace-full (card-of (a .w .now)) (a .v) (a .f) (view (a .bytes .now)) (omega arith)) (did-refused (a .limit) Ground.Nospace (a .w .now))
+    rw (replace-full (card-of (a .w .now)) (a .v) (a .f) (view (a .bytes .now)) (a .stamp) (omega arith)) (did-refused (a .limit) Ground.Nospace (a .w .now))
 
 store-replace-requires : tie.Need-store-replace-requires
 store-replace-requires c κs =
@@ -41,8 +41,8 @@ returns-2 : tie.Need-returns-2
 returns-2 c =
     let a = c .before .before .before .before .before .before .before .before .before .before .before .before .before .args in
     let s = c .before .before .before .store-replace in
-    rw (c .ended .ensures, replace-granted (card-of (a .w .now)) (a .v) (a .f) (view (a .bytes .now)) (omega arith))
-    (did-ran (a .limit) (replace-stores (a .v) (card-of (a .w .now)) (a .f) (view (a .bytes .now))) (a .w .now) (s .last .0) (s .result .made)
+    rw (c .ended .ensures, replace-granted (card-of (a .w .now)) (a .v) (a .f) (view (a .bytes .now)) (a .stamp) (omega arith))
+    (did-ran (a .limit) (replace-stores (a .v) (card-of (a .w .now)) (a .f) (view (a .bytes .now)) (a .stamp)) (a .w .now) (s .last .0) (s .result .made)
     (s .result .whole) (s .ensures))
 
 pub replace-file-spec : {M : Type 1} → statement M

@@ -13,7 +13,7 @@ returns c =
     let h = c .before .before .before .before .before .before .before .before .before .before .before .pre in
     let the-store-fresh = c .before .before .before .before .store-fresh in
     let cut = not-true (the-store-fresh .result .whole) (c .if1 .taken) in
-    rw cut (replace-cut (a .v) (a .w .now) (a .f) (view (a .bytes .now)) (h .0 .0) (h .0 .2) (a .limit) (the-store-fresh .last .0)
+    rw cut (replace-cut (a .v) (a .w .now) (a .f) (view (a .bytes .now)) (a .stamp) (h .0 .0) (h .0 .2) (a .limit) (the-store-fresh .last .0)
     (the-store-fresh .result .made) (a .n) (h .1) (rw cut at (the-store-fresh .ensures)))
 
 plain-steps-requires : tie.Need-plain-steps-requires
@@ -32,7 +32,7 @@ returns-2 c =
     let the-if1 = c .before .before .before .before .before .before .before .if1 in
     let the-plain-steps = c .before .before .before .plain-steps in
     let done = rw (not-false (the-store-fresh .result .whole) (the-if1 .left)) at (the-store-fresh .ensures) in
-    rw (c .joined .ensures .0, c .joined .ensures .1) (replace-ran (a .v) (a .w .now) (a .f) (view (a .bytes .now)) (h .0 .0) (h .0 .2) (a .limit)
+    rw (c .joined .ensures .0, c .joined .ensures .1) (replace-ran (a .v) (a .w .now) (a .f) (view (a .bytes .now)) (a .stamp) (h .0 .0) (h .0 .2) (a .limit)
     (the-store-fresh .last .0) (the-store-fresh .result .made) (a .n) (h .1) done (the-first-new .result) _ (the-first-new .ensures) refl
     (the-plain-steps .last .0) (the-plain-steps .result .made) (the-plain-steps .result .whole) (the-plain-steps .ensures))
 

@@ -10,9 +10,13 @@ shorten-requires : tie.Need-shorten-requires
 shorten-requires c κs =
     let h = c .before .before .before .before .before .before .before .pre in
     let a = c .before .before .before .before .before .before .before .args in
-    let the-clusters-for = c .before .before .before .before .clusters-for in
-    (h .0, (rw (the-clusters-for .ensures) (all-inside (a .v .layout) (h .0 .held .fits) (old-fat (a .v) (card-of (a .w .now))) (a .f) (h .1 .chain)),
-    delete-slots (a .v .layout .entries) _ _ (h .1 .seated .slot) _ _ _))
+    let the-clusters-for = c .before .before .before .before .clusters-for in (
+      h .0,
+      (
+        rw (the-clusters-for .ensures) (all-inside (a .v .layout) (h .0 .held .fits) (old-fat (a .v) (card-of (a .w .now))) (a .f) (h .1 .chain)),
+        delete-slots (a .v .layout .entries) _ _ (h .1 .seated .slot) _ _ _,
+      ),
+    )
 
 returns : tie.Need-returns
 returns c =

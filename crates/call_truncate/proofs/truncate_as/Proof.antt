@@ -16,11 +16,11 @@ use Rattle.sector.proofs.wider.Reads as wider-reads
 use Rattle.call_truncate.proofs.truncate_file.Reads as truncate-file-reads
 
 returns : tie.Need-returns
-returns c = let a = c .before .before .before .args in rw (as-longer (card-of (a .w .now)) (a .v) (a .f) (a .size) (omega arith))
+returns c = let a = c .before .before .before .args in rw (as-longer (card-of (a .w .now)) (a .v) (a .f) (a .size) (a .stamp) (omega arith))
     (did-refused (a .limit) _ (a .w .now))
 
 returns-2 : tie.Need-returns-2
-returns-2 c = let a = c .before .before .before .before .args in rw (as-same (card-of (a .w .now)) (a .v) (a .f) (a .size) (omega arith))
+returns-2 c = let a = c .before .before .before .before .args in rw (as-same (card-of (a .w .now)) (a .v) (a .f) (a .size) (a .stamp) (omega arith))
     (did-ran (a .limit) (ending []) (a .w .now) (a .w .now) _ _ (ran-none (a .limit) (a .w .now)))
 
 truncate-file-requires : tie.Need-truncate-file-requires
@@ -30,8 +30,8 @@ returns-3 : tie.Need-returns-3
 returns-3 c =
     let truncate-file = c .before .before .before .truncate-file in
     let a = c .before .before .before .before .before .before .before .before .before .args in
-    rw (as-shorter (card-of (a .w .now)) (a .v) (a .f) (a .size) (omega arith), c .ended .ensures)
-    (did-ran (a .limit) (truncate-stores (a .v) (card-of (a .w .now)) (a .f) (a .size)) (a .w .now) _ _ _ (truncate-file .ensures))
+    rw (as-shorter (card-of (a .w .now)) (a .v) (a .f) (a .size) (a .stamp) (omega arith), c .ended .ensures)
+    (did-ran (a .limit) (truncate-stores (a .v) (card-of (a .w .now)) (a .f) (a .size) (a .stamp)) (a .w .now) _ _ _ (truncate-file .ensures))
 
 pub truncate-as-spec : {M : Type 1} → statement M
 truncate-as-spec =

@@ -19,7 +19,7 @@ returns : tie.Need-returns
 returns c =
     let a = c .before .before .before .before .before .before .before .before .before .args in
     let the-cut-at = c .before .before .before .before .before .cut-at in
-    rw (truncate-is (a .v) (card-of (a .w .now)) (a .f) (a .size) (the-cut-at .result) (the-cut-at .ensures)) (c .before .before .shorten .ensures)
+    rw (truncate-is (a .v) (card-of (a .w .now)) (a .f) (a .size) (a .stamp) (the-cut-at .result) (the-cut-at .ensures)) (c .before .before .shorten .ensures)
 
 pub truncate-file-spec : {M : Type 1} → statement M
 truncate-file-spec = tie.close (tie.spec cut-at-requires shorten-requires (λ c. search needs) returns)

@@ -25,8 +25,11 @@ all-allowed-requires : tie.Need-all-allowed-requires
 all-allowed-requires c κs =
     let a = c .before .before .before .before .before .before .before .args in
     rw (c .index2 .ensures, c .before .before .index .ensures)
-    (omega (arith, text-few (card-of (a .log .now) (a .s)),
-    lent-length (a .log .now) (a .s) (512 * a .s + text-start + text-room - (512 * a .s + text-start)) (omega arith) (omega arith)))
+    (omega (
+      arith,
+      text-few (card-of (a .log .now) (a .s)),
+      lent-length (a .log .now) (a .s) (512 * a .s + text-start + text-room - (512 * a .s + text-start)) (omega arith) (omega arith),
+    ))
 
 returns-2 : tie.Need-returns-2
 unfolding characters-ok change-of

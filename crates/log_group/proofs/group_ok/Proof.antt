@@ -29,8 +29,13 @@ returns-3 c =
     let the-group-size = c .before .before .before .before .before .group-size in
     let the-records-ok = c .before .before .before .before .records-ok in
     let the-if1 = c .before .before .before .if1 in
-    rw (sym (the-records-ok .ensures) ∙ not-false _ (the-if1 .left), ← the-group-size .ensures .0, sym (c .before .before .all-start .ensures)
-    ∙ not-false _ (c .before .if2 .left), and-true) (c .text-ok .ensures)
+    rw (
+      sym (the-records-ok .ensures) ∙ not-false _ (the-if1 .left),
+      ← the-group-size .ensures .0,
+      sym (c .before .before .all-start .ensures)
+          ∙ not-false _ (c .before .if2 .left),
+      and-true,
+    ) (c .text-ok .ensures)
 
 pub group-ok-spec : {M : Type 1} → statement M
 group-ok-spec =

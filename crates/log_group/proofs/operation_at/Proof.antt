@@ -13,48 +13,53 @@ use Rattle.log_record.proofs.load.Reads as load-reads
 
 returns : tie.Need-returns
 returns c =
-    let a = c .before .before .before .before .args in
-    let load = c .before .before .load in
-    ap (λ (x : Record). Create (entry-in x) (x .count)) (load .ensures)
-    ∙ sym (told-create (record-at (card-of (a .log .now) (a .s))) (ap (λ (x : Record). x .number) (sym (load .ensures)) ∙ c .match .keys1))
+    let a = c .before .before .before .before .before .args in
+    let load = c .before .before .before .load in
+    let load2 = c .before .load2 in
+    (λ i. Create (entry-in (load .ensures i)) (load .ensures i .count) (load2 .ensures i .directory)) ∙ sym (told-create (record-at (card-of (a .log .now)
+    (a .s))) (ap (λ (x : Record). x .number) (sym (load .ensures)) ∙ c .match .keys1))
 
 returns-2 : tie.Need-returns-2
 returns-2 c =
-    let a = c .before .before .before .before .args in
-    let load = c .before .before .load in
-    ap (λ (x : Record). Update (entry-in x) (x .cluster) (x .from) (x .size)) (load .ensures)
-    ∙ sym (told-update (record-at (card-of (a .log .now) (a .s))) (ap (λ (x : Record). x .number) (sym (load .ensures)) ∙ c .match .keys2))
+    let a = c .before .before .before .before .before .args in
+    let load = c .before .before .before .load in
+    let load2 = c .before .load2 in
+    (λ i. Update (entry-in (load .ensures i)) (load .ensures i .cluster) (load .ensures i .from) (load .ensures i .size) (load2 .ensures i .directory)) ∙ sym
+    (told-update (record-at (card-of (a .log .now) (a .s))) (ap (λ (x : Record). x .number) (sym (load .ensures)) ∙ c .match .keys2))
 
 returns-3 : tie.Need-returns-3
 returns-3 c =
-    let a = c .before .before .before .before .args in
-    let load = c .before .before .load in
-    ap (λ (x : Record). Delete (entry-in x) (x .count) (x .cluster) (x .size)) (load .ensures)
-    ∙ sym (told-delete (record-at (card-of (a .log .now) (a .s))) (ap (λ (x : Record). x .number) (sym (load .ensures)) ∙ c .match .keys3))
+    let a = c .before .before .before .before .before .args in
+    let load = c .before .before .before .load in
+    let load2 = c .before .load2 in
+    (λ i. Delete (entry-in (load .ensures i)) (load .ensures i .count) (load .ensures i .cluster) (load .ensures i .size)) ∙ sym (told-delete (record-at
+    (card-of (a .log .now) (a .s))) (ap (λ (x : Record). x .number) (sym (load .ensures)) ∙ c .match .keys3))
 
 returns-4 : tie.Need-returns-4
 returns-4 c =
-    let a = c .before .before .before .before .args in
-    let load = c .before .before .load in
-    ap (λ (x : Record). Truncate (entry-in x) (x .cluster) (x .from) (x .size)) (load .ensures)
+    let a = c .before .before .before .before .before .args in
+    let load = c .before .before .before .load in
+    let load2 = c .before .load2 in
+    (λ i. Truncate (entry-in (load .ensures i)) (load .ensures i .cluster) (load .ensures i .from) (load .ensures i .size) (load2 .ensures i .directory))
     ∙ sym (told-truncate (record-at (card-of (a .log .now) (a .s))) (ap (λ (x : Record). x .number) (sym (load .ensures)) ∙ c .match .keys4))
 
 returns-5 : tie.Need-returns-5
 returns-5 c =
     let a = c .before .before .before .before .before .before .args in
     let load = c .before .before .before .before .load in
-    (λ i. Rename (entry-in (load .ensures i)) (load .ensures i .count) (load .ensures i .cluster) (load .ensures i .size) (c .before .load2 .ensures i .slot)
-    (c .before .load2 .ensures i .name)) ∙ sym
-    (told-rename (record-at (card-of (a .log .now) (a .s)))
-    (ap (λ (x : Record). x .number) (sym (load .ensures)) ∙ c .before .before .match .keys5))
+    let load2 = c .before .before .load2 in
+    (λ i. Rename (entry-in (load .ensures i)) (load .ensures i .count) (load .ensures i .cluster) (load .ensures i .size) (load2 .ensures i .slot)
+    (load2 .ensures i .name)) ∙ sym (told-rename (record-at (card-of (a .log .now) (a .s))) (ap (λ (x : Record). x .number) (sym (load .ensures))
+    ∙ c .before .match .keys5))
 
 returns-6 : tie.Need-returns-6
 returns-6 c =
-    let a = c .before .before .before .before .args in
-    let load = c .before .before .load in
+    let a = c .before .before .before .before .before .args in
+    let load = c .before .before .before .load in
+    let load2 = c .before .load2 in
     let same = ap (λ (x : Record). x .number) (load .ensures) in
     let match = c .match in
-    ap (λ (x : Record). Replace (entry-in x) (x .cluster) (x .from) (x .size)) (load .ensures)
+    (λ i. Replace (entry-in (load .ensures i)) (load .ensures i .cluster) (load .ensures i .from) (load .ensures i .size) (load2 .ensures i .directory))
     ∙ sym (told-replace (record-at (card-of (a .log .now) (a .s))) (λ q. (match .rest .0 .0 .0 .0 .1) (same ∙ q))
     (λ q. (match .rest .0 .0 .0 .1) (same ∙ q)) (λ q. (match .rest .0 .0 .1) (same ∙ q)) (λ q. (match .rest .0 .1) (same ∙ q))
     (λ q. (match .rest .1) (same ∙ q)))

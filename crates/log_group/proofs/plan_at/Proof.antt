@@ -19,10 +19,16 @@ returns : tie.Need-returns
 unfolding group-in change-of group-records records
 returns c =
     let a = c .before .before .before .before .args in
-    let the-operation-at = c .before .before .operation-at in
-    ((λ i. record { sector = a .s; records = (c .group-records .ensures .0
-    ∙ (λ j. length (operation-records (the-operation-at .ensures j)) + (c .before .text-length .ensures j + 15) / 16)) i; change = with-text
-    (the-operation-at .ensures i) (text-in (card-of (a .w .now) (a .s))) }), c .group-records .ensures .1)
+    let the-operation-at = c .before .before .operation-at in (
+      (λ i. record {
+        sector = a .s;
+        records = (c .group-records .ensures .0
+            ∙ (λ j. length (operation-records (the-operation-at .ensures j)) + (c .before .text-length .ensures j + 15) / 16)) i;
+        change = with-text
+            (the-operation-at .ensures i) (text-in (card-of (a .w .now) (a .s)));
+      }),
+      c .group-records .ensures .1,
+    )
 
 pub plan-at-spec : {M : Type 1} → statement M
 plan-at-spec =

@@ -1,59 +1,21 @@
 use mathlib.Core.Path.{sym, ap, _∙_}
-use mathlib.Core.Bool.{and-true}
-use borrow.Author.Tests.{not-true, not-false}
-use Rattle.model.specs.Sector.{card-of}
-use Rattle.model.specs.Scan.{every, all}
-use Rattle.model.specs.Record.{record-at}
-use Rattle.model.specs.Pending.{slot-ok, alike, apart, part-ok}
-use Rattle.model.specs.declared.Record.{Record}
-use Rattle.model.proofs.Tests.{every-not}
+use borrow.Author.Tests.{eq-eqb, ne-eqb}
+use Rattle.model.specs.Pending.{is-stamp, part-ok}
 use borrow.Author.Needs.{needs}
 use Rattle.log_record.proofs.part_ok.Statement.{statement}
 use Rattle.log_record.proofs.part_ok.Tie as tie
-use Rattle.log_record.proofs.part_ok.Reads as reads
-use Rattle.log_record.proofs.part_ok.Lts as lts
-use Rattle.log_record.proofs.is_alike.Reads as is-alike-reads
-use Rattle.log_record.proofs.is_apart.Reads as is-apart-reads
-use Rattle.log_record.proofs.load.Reads as load-reads
-use Rattle.log_record.proofs.slot_ok.Reads as slot-ok-reads
 
 returns : tie.Need-returns
 unfolding part-ok
 returns c =
-    let k = c .before in
-    let d = k .before in
-    let r = d .before in
-    sym (every-not _ 0 (sym (λ i. alike (r .load .ensures i) (d .load2 .ensures i)) ∙ sym (k .is-alike .ensures) ∙ not-true _ (c .if1 .taken)))
+    let h = c .before .before .before .pre in
+    rw (sym (h .3), eq-eqb _ 5 (c .before .if1 .taken)) (c .pair-ok .ensures)
 
 returns-2 : tie.Need-returns-2
 unfolding part-ok
 returns-2 c =
-    let t = c .before in
-    let d = t .before .before .before in
-    let a = d .before .before .before .args in
-    sym (every-not _ 1 (ap (λ (x : Record). slot-ok (a .entries) (a .z) (x .slot)) (sym (d .load2 .ensures))
-    ∙ sym (t .slot-ok .ensures) ∙ not-true _ (c .if2 .taken)))
-
-returns-3 : tie.Need-returns-3
-unfolding part-ok every
-returns-3 c =
-    let f = c .before in
-    let t = f .before in
-    let e = t .before in
-    let k = e .before in
-    let d = k .before in
-    let r = d .before in
-    let a = r .before .before .args in
-    let rs = record-at (card-of (a .log .now) (a .s)) in
-    rw (
-      sym (λ i. alike (r .load .ensures i) (d .load2 .ensures i)) ∙ sym (k .is-alike .ensures) ∙ not-false _ (e .if1 .left),
-      ap (λ (x : Record). slot-ok (a .entries) (a .z) (x .slot)) (sym (d .load2 .ensures)) ∙ sym (t .slot-ok .ensures) ∙ not-false _ (f .if2 .left),
-      and-true,
-    )
-    (c .is-apart .ensures ∙ ap (λ (x : Record). all (apart rs (x .slot)) (a .k)) (d .load2 .ensures))
+    let h = c .before .before .before .before .pre in
+    rw (sym (h .3), ne-eqb _ 5 (c .before .before .if1 .left)) (c .is-stamp .ensures ∙ ap is-stamp (c .before .load .ensures))
 
 pub part-ok-spec : {M : Type 1} → statement M
-part-ok-spec =
-    tie.close
-    (tie.spec (λ c. search needs) (λ c κs. search needs) (λ c κs. search needs) (λ c κs. search needs) returns (λ c κs. search needs)
-    returns-2 (λ c κs. search needs) returns-3)
+part-ok-spec = tie.close (tie.spec (λ c κs. search needs) returns (λ c κs. search needs) (λ c κs. search needs) returns-2)

@@ -6,6 +6,7 @@ use borrow.Author.Tests.{not-true, not-false}
 use Rattle.model.specs.Sector.{card-of}
 use Rattle.model.specs.Record.{record-at, group-size}
 use Rattle.model.specs.Pending.{record-ok, part-ok, records-ok}
+use Rattle.model.specs.declared.Record.{Record}
 use Rattle.model.proofs.Tests.{every-not, each-every, _also_}
 use Rattle.model.proofs.Scan.{Sofar, sofar-none, sofar-more, all-of, all-not}
 use borrow.Author.Needs.{needs}
@@ -18,10 +19,10 @@ use Rattle.log_record.proofs.part_ok.Reads as part-ok-reads
 use Rattle.log_record.proofs.record_ok.Reads as record-ok-reads
 
 abbrev Inv-loop : tie.InvT-loop
-Inv-loop log s m entries z k₀ k = (1 ≤ k) × (k ≤ 16) × Sofar (part-ok entries z (record-at (card-of log s))) true 1 k
+Inv-loop log s m entries z number k₀ k = (1 ≤ k) × (k ≤ 16) × Sofar (part-ok entries z (record-at (card-of log s))) true 1 k
 
 abbrev μ-loop : tie.MeasureT-loop
-μ-loop log s m entries z k₀ k = m - k
+μ-loop log s m entries z number k₀ k = m - k
 
 returns : tie.Need-returns Inv-loop μ-loop
 unfolding records-ok
@@ -29,6 +30,11 @@ returns c = sym (every-not _ 0 (rw (← c .before .before .load .ensures) (sym (
 
 loop-holds : tie.Need-loop-holds Inv-loop μ-loop
 loop-holds c = (search needs, search needs, sofar-none _ _ _ _ (omega arith))
+
+part-ok-requires : tie.Need-part-ok-requires Inv-loop μ-loop
+part-ok-requires c κs =
+    let load = c .before .before .before .before .load in
+    (search needs, search needs, search needs, ap (λ (r : Record). r .number) (load .ensures))
 
 returns-2 : tie.Need-returns-2 Inv-loop μ-loop
 unfolding records-ok
@@ -71,5 +77,5 @@ returns-3 c =
 pub records-ok-spec : {M : Type 1} → statement M
 records-ok-spec =
     tie.close
-    (tie.spec Inv-loop μ-loop (λ c κs. search needs) (λ c κs. search needs) returns loop-holds (λ c κs. search needs) returns-2
+    (tie.spec Inv-loop μ-loop (λ c κs. search needs) (λ c κs. search needs) returns loop-holds part-ok-requires returns-2
     (λ c. search needs) (λ c. search needs) loop-again returns-3)

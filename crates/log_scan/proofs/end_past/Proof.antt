@@ -22,9 +22,11 @@ abbrev μ-loop : tie.MeasureT-loop
 
 loop-holds : tie.Need-loop-holds Inv-loop μ-loop
 loop-holds c =
-    let a = c .before .args in
-    (search needs, λ m lo less. seen-before (a .o) (a .l .entries) (first-bytes (a .l) (card-of (a .w .now))) m
-    (let up = seen-up (a .o) (a .l .entries) (first-bytes (a .l) (card-of (a .w .now))) in omega arith))
+    let a = c .before .args in (
+      search needs,
+      λ m lo less. seen-before (a .o) (a .l .entries) (first-bytes (a .l) (card-of (a .w .now))) m
+          (let up = seen-up (a .o) (a .l .entries) (first-bytes (a .l) (card-of (a .w .now))) in omega arith),
+    )
 
 returns : tie.Need-returns Inv-loop μ-loop
 unfolding end-past end-slot

@@ -11,10 +11,12 @@ use Rattle.log_scan.proofs.pending_of.Tie as tie
 pending-in-requires : tie.Need-pending-in-requires
 pending-in-requires c κs =
     let h = c .before .before .before .before .before .pre in
-    let a = c .before .before .before .before .before .args in
-    (search needs, rw (c .before .before .index .ensures, c .before .index2 .ensures)
-    (h .1 .2 ∙ sym (ap (λ (j : ℕ). place-of j (a .a .sectors))
-    (first-part (a .a) (a .w .now) (512 * a .a .sector + 512 * a .a .sectors - 512 * a .a .sector) (omega arith)))))
+    let a = c .before .before .before .before .before .args in (
+      search needs,
+      rw (c .before .before .index .ensures, c .before .index2 .ensures)
+          (h .1 .2 ∙ sym (ap (λ (j : ℕ). place-of j (a .a .sectors))
+          (first-part (a .a) (a .w .now) (512 * a .a .sector + 512 * a .a .sectors - 512 * a .a .sector) (omega arith)))),
+    )
 
 returns : tie.Need-returns
 returns c =

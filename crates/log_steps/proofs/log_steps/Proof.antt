@@ -23,9 +23,17 @@ store-and-redo-requires c κs =
     let h = c .before .before .before .before .before .before .before .before .before .before .before .before .before .before .before .pre in
     let the-group-sector = c .before .before .before .before .before .before .before .before .before .group-sector in
     let the-plan-for = c .before .plan-for in
-    let b = group-sector-in (a .v .log) (log-of (a .v .log) (card-of (a .w .now))) (omega arith) in
-    (search needs, (rw (the-plan-for .ensures .1) (h .1 .1), (omega (arith, b, the-group-sector .ensures, the-plan-for .ensures .2),
-    omega (arith, b, the-group-sector .ensures, the-plan-for .ensures .2), the-plan-for .ensures .3)))
+    let b = group-sector-in (a .v .log) (log-of (a .v .log) (card-of (a .w .now))) (omega arith) in (
+      search needs,
+      (
+        rw (the-plan-for .ensures .1) (h .1 .1),
+        (
+          omega (arith, b, the-group-sector .ensures, the-plan-for .ensures .2),
+          omega (arith, b, the-group-sector .ensures, the-plan-for .ensures .2),
+          the-plan-for .ensures .3,
+        ),
+      ),
+    )
 
 returns-2 : tie.Need-returns-2
 unfolding new-group

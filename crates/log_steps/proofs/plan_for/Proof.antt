@@ -13,10 +13,18 @@ text-length-requires c κs = (c .before .pre .0 .even, c .before .pre .0 .short)
 returns : tie.Need-returns
 unfolding group-records records
 returns c =
-    let a = c .before .before .before .args in
-    ((λ i. record { sector = a .s; records = (c .group-records .ensures .0
-    ∙ (λ j. length (operation-records (a .o)) + (c .before .text-length .ensures .0 j + 15) / 16)) i; change
-    = (with-text (a .o) (bytes-of (a .text .now))) }), refl, refl, c .group-records .ensures .1)
+    let a = c .before .before .before .args in (
+      (λ i. record {
+        sector = a .s;
+        records = (c .group-records .ensures .0
+            ∙ (λ j. length (operation-records (a .o)) + (c .before .text-length .ensures .0 j + 15) / 16)) i;
+        change
+            = (with-text (a .o) (bytes-of (a .text .now)));
+      }),
+      refl,
+      refl,
+      c .group-records .ensures .1,
+    )
 
 pub plan-for-spec : {M : Type 1} → statement M
 plan-for-spec = tie.close (tie.spec text-length-requires (λ c κs. search needs) returns)

@@ -25,15 +25,20 @@ loop-holds c = (search needs, search needs, sofar-none _ _ _ _ (omega arith))
 returns : tie.Need-returns Inv-loop μ-loop
 returns c =
     let a = c .before .before .before .before .before .before .args in
-    let o = c .before .before .before .before .loop in
-    (sym (length-found (a .t .now) (omega arith) (omega arith) (o .q) (omega arith) (o .inv .2)
-    (eq-eqb _ _ (sym (rw (c .before .before .index .ensures) at (c .before .character .ensures .0)) ∙ c .if1 .taken))), omega arith)
+    let o = c .before .before .before .before .loop in (
+      sym (length-found (a .t .now) (omega arith) (omega arith) (o .q) (omega arith) (o .inv .2)
+          (eq-eqb _ _ (sym (rw (c .before .before .index .ensures) at (c .before .character .ensures .0)) ∙ c .if1 .taken))),
+      omega arith,
+    )
 
 loop-again : tie.Need-loop-again Inv-loop μ-loop
 loop-again c =
-    let o = c .before .before .before .before .loop in
-    (search needs, search needs, sofar-more _ _ _ _ (o .inv .2)
-    (ne-eqb _ _ (λ e. c .if1 .left ((rw (c .before .before .index .ensures) at (c .before .character .ensures .0)) ∙ e))))
+    let o = c .before .before .before .before .loop in (
+      search needs,
+      search needs,
+      sofar-more _ _ _ _ (o .inv .2)
+          (ne-eqb _ _ (λ e. c .if1 .left ((rw (c .before .before .index .ensures) at (c .before .character .ensures .0)) ∙ e))),
+    )
 
 returns-2 : tie.Need-returns-2 Inv-loop μ-loop
 returns-2 c =

@@ -23,9 +23,11 @@ loop-again : tie.Need-loop-again Inv-loop μ-loop
 loop-again c =
     let a = c .before .before .before .before .before .before .before .args in
     let o = c .before .before .before .before .before .loop in
-    let the-spelled = c .before .before .before .spelled in
-    (search needs, c .set .ensures ∙ (λ i. patch 2 (the-spelled .ensures i) ((c .before .index .ensures ∙ c .before .before .place .ensures .0) i)
-    (o .inv .1 i)) ∙ fill-more (λ i. spelled (bytes-of (a .t .now)) (a .n) (a .q + i)) (bytes-of (a .b)) (o .k))
+    let the-spelled = c .before .before .before .spelled in (
+      search needs,
+      c .set .ensures ∙ (λ i. patch 2 (the-spelled .ensures i) ((c .before .index .ensures ∙ c .before .before .place .ensures .0) i)
+          (o .inv .1 i)) ∙ fill-more (λ i. spelled (bytes-of (a .t .now)) (a .n) (a .q + i)) (bytes-of (a .b)) (o .k),
+    )
 
 returns : tie.Need-returns Inv-loop μ-loop
 returns c =

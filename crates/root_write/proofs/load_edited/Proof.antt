@@ -33,7 +33,7 @@ loop-again c =
       search needs,
       search needs,
       laid-more d (a .r) (t .i) (n .result) (bytes-of (t .buf)) (bytes-of (b .result)) (bytes-of (p .last .0)) (n .ensures) (t .inv .2) (b .ensures)
-      (fun-ext (λ j. p .ensures j ∙ (λ t'. overlay 32 (part-zero (bytes-of (b .result)) t') (32 * n .result) (bytes-of (t .buf)) j))),
+          (fun-ext (λ j. p .ensures j ∙ (λ t'. overlay 32 (part-zero (bytes-of (b .result)) t') (32 * n .result) (bytes-of (t .buf)) j))),
     )
 
 returns : tie.Need-returns Inv-loop μ-loop

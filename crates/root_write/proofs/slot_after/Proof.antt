@@ -29,7 +29,7 @@ name-slot-requires c κs =
     let a = b .args in
     let g = o .o .given in
     let low = low-named (g .0 .0 .slot) (g .0 .1 .0) (a .k) (rw (g .1) at (sym (n .before .names .ensures) ∙ not-false _ (n .if1 .left))) in
-    let in-root = create-slot (bytes-of (a .text .now)) (a .l .entries) (g .0 .0) (g .0 .1 .0) (rw (g .1) at (b .pre .1 .0)) in
+    let in-root = create-slot (bytes-of (a .text .now)) (a .l .entries) (g .0 .0) (g .0 .1 .0) (g .0 .1 .1 .0) (rw (g .1) at (b .pre .1 .0)) in
     (b .pre .1 .1 .even, b .pre .1 .1 .short, low, omega (arith, b .pre .0 .0 .fits .entries-high))
 
 returns-2 : tie.Need-returns-2
@@ -46,9 +46,11 @@ load-slot-requires-2 : tie.Need-load-slot-requires-2
 load-slot-requires-2 c κs =
     let h = c .before .before .before .before .before .before .before .before .before .before .pre in
     let a = c .before .before .before .before .before .before .before .before .before .before .args in
-    let the-o4 = c .before .before .before .o4 in
-    (h .0 .0, rename-source (bytes-of (a .text .now)) (a .l .entries) (the-o4 .given .0 .0) (the-o4 .given .0 .1 .0) (the-o4 .given .0 .1 .1 .0)
-    (the-o4 .given .0 .1 .1 .1 .0) (the-o4 .given .0 .1 .1 .1 .1 .0) (the-o4 .given .0 .1 .1 .1 .1 .1 .0) (rw (the-o4 .given .1) at (h .1 .0)))
+    let the-o4 = c .before .before .before .o4 in (
+      h .0 .0,
+      rename-source (bytes-of (a .text .now)) (a .l .entries) (the-o4 .given .0 .0) (the-o4 .given .0 .1 .0) (the-o4 .given .0 .1 .1 .0)
+          (the-o4 .given .0 .1 .1 .1 .0) (the-o4 .given .0 .1 .1 .1 .1 .0) (the-o4 .given .0 .1 .1 .1 .1 .1 .0) (rw (the-o4 .given .1) at (h .1 .0)),
+    )
 
 returns-3 : tie.Need-returns-3
 returns-3 c =
@@ -58,7 +60,7 @@ returns-3 c =
     let the-if1 = c .before .before .before .before .if1 in
     let the-o = c .before .before .o in
     rw (the-o .given .1) (in-create (bytes-of (a .text .now)) (slot-at (a .l) (card-of (a .w .now))) (a .k) (bytes-of (the-load-slot .result))
-    (bytes-of (c .name-slot .result)) (the-load-slot .ensures) (the-o .given .0 .0) (the-o .given .0 .1 .0)
+    (bytes-of (c .name-slot .result)) (the-load-slot .ensures) (the-o .given .0 .0) (the-o .given .0 .1 .0) (the-o .given .0 .1 .1 .0)
     (rw (the-o .given .1) at (sym (the-names .ensures) ∙ not-false _ (the-if1 .left))) (c .name-slot .ensures))
 
 returns-4 : tie.Need-returns-4
@@ -69,8 +71,9 @@ returns-4 c =
     let the-if1 = c .before .before .before .before .if1 in
     let the-o2 = c .before .before .o2 in
     rw (the-o2 .given .1) (in-update (bytes-of (a .text .now)) (slot-at (a .l) (card-of (a .w .now))) (a .k) (bytes-of (the-load-slot .result))
-    (bytes-of (c .resize .result)) (the-load-slot .ensures) (the-o2 .given .0 .0) (the-o2 .given .0 .1 .0) (the-o2 .given .0 .1 .1 .0)
-    (the-o2 .given .0 .1 .1 .1 .0) (rw (the-o2 .given .1) at (sym (the-names .ensures) ∙ not-false _ (the-if1 .left))) (c .resize .ensures))
+    (bytes-of (c .rewrite .result)) (the-load-slot .ensures) (the-o2 .given .0 .0) (the-o2 .given .0 .1 .0) (the-o2 .given .0 .1 .1 .0)
+    (the-o2 .given .0 .1 .1 .1 .0) (the-o2 .given .0 .1 .1 .1 .1 .0)
+    (rw (the-o2 .given .1) at (sym (the-names .ensures) ∙ not-false _ (the-if1 .left))) (c .rewrite .ensures))
 
 returns-5 : tie.Need-returns-5
 returns-5 c =
@@ -92,8 +95,9 @@ returns-6 c =
     let the-if1 = c .before .before .before .before .if1 in
     let the-o3 = c .before .before .o3 in
     rw (the-o3 .given .1) (in-truncate (bytes-of (a .text .now)) (slot-at (a .l) (card-of (a .w .now))) (a .k) (bytes-of (the-load-slot .result))
-    (bytes-of (c .resize2 .result)) (the-load-slot .ensures) (the-o3 .given .0 .0) (the-o3 .given .0 .1 .0) (the-o3 .given .0 .1 .1 .0)
-    (the-o3 .given .0 .1 .1 .1 .0) (rw (the-o3 .given .1) at (sym (the-names .ensures) ∙ not-false _ (the-if1 .left))) (c .resize2 .ensures))
+    (bytes-of (c .rewrite2 .result)) (the-load-slot .ensures) (the-o3 .given .0 .0) (the-o3 .given .0 .1 .0) (the-o3 .given .0 .1 .1 .0)
+    (the-o3 .given .0 .1 .1 .1 .0) (the-o3 .given .0 .1 .1 .1 .1 .0)
+    (rw (the-o3 .given .1) at (sym (the-names .ensures) ∙ not-false _ (the-if1 .left))) (c .rewrite2 .ensures))
 
 returns-7 : tie.Need-returns-7
 returns-7 c =
@@ -117,8 +121,9 @@ returns-8 c =
     let the-if1 = c .before .before .before .before .if1 in
     let the-o5 = c .before .before .o5 in
     rw (the-o5 .given .1) (in-replace (bytes-of (a .text .now)) (slot-at (a .l) (card-of (a .w .now))) (a .k) (bytes-of (the-load-slot .result))
-    (bytes-of (c .resize3 .result)) (the-load-slot .ensures) (the-o5 .given .0 .0) (the-o5 .given .0 .1 .0) (the-o5 .given .0 .1 .1 .0)
-    (the-o5 .given .0 .1 .1 .1 .0) (rw (the-o5 .given .1) at (sym (the-names .ensures) ∙ not-false _ (the-if1 .left))) (c .resize3 .ensures))
+    (bytes-of (c .rewrite3 .result)) (the-load-slot .ensures) (the-o5 .given .0 .0) (the-o5 .given .0 .1 .0) (the-o5 .given .0 .1 .1 .0)
+    (the-o5 .given .0 .1 .1 .1 .0) (the-o5 .given .0 .1 .1 .1 .1 .0)
+    (rw (the-o5 .given .1) at (sym (the-names .ensures) ∙ not-false _ (the-if1 .left))) (c .rewrite3 .ensures))
 
 pub slot-after-spec : {M : Type 1} → statement M
 slot-after-spec =

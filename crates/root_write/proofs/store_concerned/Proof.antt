@@ -27,7 +27,7 @@ returns-2 c =
     rw (
       concerns-named x (a .r) ∙ sym (n .ensures) ∙ not-false _ (t .left),
       ← store-same (root-place (a .l) (a .r)) (bytes-of (e .last .1 .1 .1 .1 .1 .0))
-      (root-sector (effect x (slot-at (a .l) (card-of (a .w .now)))) (a .r)) (e .ensures)
+          (root-sector (effect x (slot-at (a .l) (card-of (a .w .now)))) (a .r)) (e .ensures),
     ) (rw (c .before .before .before .before .root-place .ensures .0) at (c .before .before .store-sector .ensures))
 
 pub store-concerned-spec : {M : Type 1} → statement M

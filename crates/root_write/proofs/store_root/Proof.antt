@@ -33,20 +33,27 @@ returns c =
     let the-store-concerned = c .before .before .before .before .before .store-concerned in
     rw (← root-turns (a .l) (with-text (a .o) (bytes-of (a .text .now))) (card-of (a .w .now)))
     (turns-cut (root-turn (a .l) (with-text (a .o) (bytes-of (a .text .now))) (card-of (a .w .now))) (a .limit) (o .r) (a .w .now) (o .w) _ (o .made)
-    _ (o .inv .2) (a .l .entries / 16) (omega arith) (rw (turn-same (a .l) (with-text (a .o) (bytes-of (a .text .now)))
-    (h .0 .fits .shape .whole-sectors) (h .1 .0) (card-of (a .w .now)) (a .limit) (o .r) (a .w .now) (o .w) (o .made) refl (o .inv .2) (omega arith),
-    not-true (the-store-concerned .result .whole) (c .if2 .taken)) at (the-store-concerned .ensures)))
+    _ (o .inv .2) (a .l .entries / 16) (omega arith) (rw (
+      turn-same (a .l) (with-text (a .o) (bytes-of (a .text .now)))
+          (h .0 .fits .shape .whole-sectors) (h .1 .0) (card-of (a .w .now)) (a .limit) (o .r) (a .w .now) (o .w) (o .made) refl (o .inv .2) (omega arith),
+      not-true (the-store-concerned .result .whole) (c .if2 .taken),
+    ) at (the-store-concerned .ensures)))
 
 loop-again : tie.Need-loop-again Inv-loop μ-loop
 loop-again c =
     let a = c .before .before .before .before .before .before .before .before .before .before .before .before .args in
     let h = c .before .before .before .before .before .before .before .before .before .before .before .before .pre in
     let o = c .before .before .before .before .before .before .before .before .before .loop in
-    let the-store-concerned = c .before .before .before .before .before .store-concerned in
-    (search needs, search needs, turns-more (root-turn (a .l) (with-text (a .o) (bytes-of (a .text .now))) (card-of (a .w .now))) (a .limit) (o .r)
-    (a .w .now) (o .w) _ (o .made) _ (o .inv .2) (rw (turn-same (a .l) (with-text (a .o) (bytes-of (a .text .now))) (h .0 .fits .shape .whole-sectors)
-    (h .1 .0) (card-of (a .w .now)) (a .limit) (o .r) (a .w .now) (o .w) (o .made) refl (o .inv .2) (omega arith),
-    not-false (the-store-concerned .result .whole) (c .if2 .left)) at (the-store-concerned .ensures)))
+    let the-store-concerned = c .before .before .before .before .before .store-concerned in (
+      search needs,
+      search needs,
+      turns-more (root-turn (a .l) (with-text (a .o) (bytes-of (a .text .now))) (card-of (a .w .now))) (a .limit) (o .r)
+          (a .w .now) (o .w) _ (o .made) _ (o .inv .2) (rw (
+            turn-same (a .l) (with-text (a .o) (bytes-of (a .text .now))) (h .0 .fits .shape .whole-sectors)
+                (h .1 .0) (card-of (a .w .now)) (a .limit) (o .r) (a .w .now) (o .w) (o .made) refl (o .inv .2) (omega arith),
+            not-false (the-store-concerned .result .whole) (c .if2 .left),
+          ) at (the-store-concerned .ensures)),
+    )
 
 returns-2 : tie.Need-returns-2 Inv-loop μ-loop
 returns-2 c =
