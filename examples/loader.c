@@ -1,12 +1,13 @@
 /*
- * What the router does at power-up: recover the card, list it with long names, read a path into a buffer.
+ * What the router does at power-up: recover the card, list it with dates and long names, read a path into a buffer. Recovery gives a
+ * file the date that its save was begun with, so the loader needs no clock.
  * A card or a name that is refused is refused here too, with the ground's name and number.
  *
  *     loader IMAGE          recovers and lists
  *     loader IMAGE NAME     then reads the path NAME, as ROUTE.CUT, and prints it
  *
  * Here the card is an image file that is read into memory; the file itself is left as it is.
- * Exit status: 0, or the ground's number (1 to 17), or 64 for wrong usage, 65 for a path that is longer than the
+ * Exit status: 0, or the ground's number (1 to 18), or 64 for wrong usage, 65 for a path that is longer than the
  * buffer (half a path is none), 66 if there is no reading the image.
  */
 #include "lfat.h"
@@ -106,6 +107,18 @@ static void print_long_name(const uint8_t *card, size_t card_len, const uint8_t 
     putchar('"');
 }
 
+/* Prints when an entry was last written, as 2026-11-17 19:30:58, or - if it has no date there. */
+static void print_date(const uint8_t *entry)
+{
+    int time = entry[22] | entry[23] << 8, date = entry[24] | entry[25] << 8;
+    int year = 1980 + (date >> 9), month = date >> 5 & 15, day = date & 31;
+    int hour = time >> 11, minute = time >> 5 & 63, second = (time & 31) * 2;
+    if (second > 59 || lfat_seconds(year, month, day, hour, minute, second) > LFAT_LAST_SECOND)
+        printf(" -");
+    else
+        printf(" %d-%02d-%02d %02d:%02d:%02d", year, month, day, hour, minute, second);
+}
+
 static void print_entry(const uint8_t *card, size_t card_len, const uint8_t *entry)
 {
     uint32_t size = (uint32_t)entry[28] | (uint32_t)entry[29] << 8 | (uint32_t)entry[30] << 16 |
@@ -115,6 +128,7 @@ static void print_entry(const uint8_t *card, size_t card_len, const uint8_t *ent
         putchar('.');
     print_part(entry + 8, 3);
     printf(" %lu%s", (unsigned long)size, entry[11] & 0x10 ? " directory" : "");
+    print_date(entry);
     print_long_name(card, card_len, entry);
     putchar('\n');
 }

@@ -5,13 +5,15 @@
  *
  * The card is recovered first. A file of that name is saved over in one call: a cut leaves its old bytes or the new ones, whole.
  * Under a new name the file is made first: a cut leaves no such file, an empty one, or the whole one. The bytes are read back and
- * compared. A file marked read-only is refused and stays as it was. Exit status: 0, or 1 with a line on standard error.
+ * compared. The file is dated by the clock of this machine, in local time. A file marked read-only is refused and stays as it was.
+ * Exit status: 0, or 1 with a line on standard error.
  */
 #include "lfat_disk.h"
 
 #include <stdio.h>
 #include <stdlib.h>
 #include <string.h>
+#include <time.h>
 
 enum { PIECE = 1 << 16 };
 
@@ -78,21 +80,32 @@ static int is_saved(lfat_disk *disk, const uint8_t *name, const uint8_t *data, s
     }
 }
 
-/* Saves under a new name. Whether the bytes fit is asked first, so that no empty file is made for want of room. */
-static int save_new(lfat_disk *disk, const uint8_t *name, const uint8_t *data, size_t length)
+/* The seconds since 1980 began by the clock of this machine. A time that a card cannot date is refused by the library. */
+static uint32_t now(void)
 {
-    return done("fits", lfat_disk_fits(disk, length)) && done("create", lfat_disk_create(disk, name, LFAT_NAME_BYTES)) &&
-           done("append", lfat_disk_append(disk, name, LFAT_NAME_BYTES, data, length));
+    time_t seconds = time(NULL);
+    const struct tm *t = localtime(&seconds);
+    if (t == NULL)
+        return LFAT_LAST_SECOND + 1;
+    return lfat_seconds(t->tm_year + 1900, t->tm_mon + 1, t->tm_mday, t->tm_hour, t->tm_min, t->tm_sec);
+}
+
+/* Saves under a new name. Whether the bytes fit is asked first, so that no empty file is made for want of room. */
+static int save_new(lfat_disk *disk, const uint8_t *name, const uint8_t *data, size_t length, uint32_t seconds)
+{
+    return done("fits", lfat_disk_fits(disk, length)) && done("create", lfat_disk_create(disk, name, LFAT_NAME_BYTES, seconds)) &&
+           done("append", lfat_disk_append(disk, name, LFAT_NAME_BYTES, data, length, seconds));
 }
 
 static int save(lfat_disk *disk, const uint8_t *name, const uint8_t *data, size_t length)
 {
     uint64_t answer;
+    uint32_t seconds = now();
     if (!done("recover", lfat_disk_recover(disk)))
         return 0;
-    answer = lfat_disk_replace(disk, name, LFAT_NAME_BYTES, data, length);
+    answer = lfat_disk_replace(disk, name, LFAT_NAME_BYTES, data, length, seconds);
     if (LFAT_CODE(answer) == LFAT_ABSENT) {
-        if (!save_new(disk, name, data, length))
+        if (!save_new(disk, name, data, length, seconds))
             return 0;
     } else if (!done("save", answer)) {
         return 0;

@@ -1,5 +1,5 @@
 /*
- * Card K of the requirements, made from nothing, and its rows M3 to M10: all twelve calls of the library from C.
+ * Card K of the requirements, made from nothing, and its rows M3 to M10: all twelve calls of the library from C, with fixed dates.
  * Prints a line for each call with its answer. Exit status: 0 if every answer is the one that is due, else 1.
  */
 #include "lfat.h"
@@ -7,14 +7,18 @@
 #include <stdio.h>
 #include <string.h>
 
-enum { SECTORS = 4150, FAT1 = 1, FAT2 = 17, PATH_BYTES = 1300, ATTRIBUTES = 33 * LFAT_SECTOR_BYTES + 11 /* of slot 0 */ };
-enum { CHARACTERS = 22 };
+enum { SECTORS = 4150, FAT1 = 1, FAT2 = 17, PATH_BYTES = 1300, CHARACTERS = 22 };
+enum { SLOT = 33 * LFAT_SECTOR_BYTES /* slot 0 */, ATTRIBUTES = SLOT + 11, DATES = SLOT + 13 };
 
 static const uint8_t route[] = "ROUTE   CUT", panel[] = "PANEL   CUT", hull[] = "HULL7S~1CUT";
 static const char long_text[] = "Hull 7 sheer panel.cut";
 static uint8_t card[SECTORS * LFAT_SECTOR_BYTES], saved[sizeof card];
 static uint8_t points[PATH_BYTES], back[PATH_BYTES + 1];
 static uint8_t chars[2 * CHARACTERS], text[2 * LFAT_LONG_CHARACTERS];
+/* Bytes 13 to 25 of a slot: created on 17 November 2026 at 19:30:59, and then written the day after, at 6:00. */
+static const uint8_t new_dates[] = {0, 0xDD, 0x9B, 0x71, 0x5D, 0x71, 0x5D, 0, 0, 0xDD, 0x9B, 0x71, 0x5D};
+static const uint8_t written_dates[] = {0, 0xDD, 0x9B, 0x71, 0x5D, 0x72, 0x5D, 0, 0, 0x00, 0x30, 0x72, 0x5D};
+static uint32_t today, tomorrow;
 static int wrong;
 
 /* 1 reserved sector, 1 sector per cluster, 16 per FAT, 512 root entries; log clusters 2 to 9; otherwise empty. */
@@ -42,24 +46,40 @@ static void due(const char *what, uint64_t answer, uint32_t code, uint32_t count
     wrong |= !right;
 }
 
+/* Compares the dates of slot 0. */
+static void dated(const uint8_t *dates)
+{
+    wrong |= memcmp(card + DATES, dates, sizeof new_dates) != 0;
+}
+
+static uint64_t append_at(size_t length, uint32_t seconds, uint32_t limit)
+{
+    return lfat_append(card, sizeof card, route, LFAT_NAME_BYTES, points, length, seconds, limit);
+}
+
 static uint64_t append(size_t length, uint32_t limit)
 {
-    return lfat_append(card, sizeof card, route, LFAT_NAME_BYTES, points, length, limit);
+    return append_at(length, tomorrow, limit);
 }
 
 static uint64_t replace(size_t length, uint32_t limit)
 {
-    return lfat_replace(card, sizeof card, route, LFAT_NAME_BYTES, points, length, limit);
+    return lfat_replace(card, sizeof card, route, LFAT_NAME_BYTES, points, length, tomorrow, limit);
+}
+
+static uint64_t truncate_to(uint64_t size, uint32_t seconds)
+{
+    return lfat_truncate(card, sizeof card, route, LFAT_NAME_BYTES, size, seconds, LFAT_NO_LIMIT);
 }
 
 static uint64_t create(const uint8_t *name)
 {
-    return lfat_create(card, sizeof card, name, LFAT_NAME_BYTES, LFAT_NO_LIMIT);
+    return lfat_create(card, sizeof card, name, LFAT_NAME_BYTES, today, LFAT_NO_LIMIT);
 }
 
 static uint64_t create_long(uint32_t limit)
 {
-    return lfat_create_long(card, sizeof card, hull, LFAT_NAME_BYTES, chars, sizeof chars, limit);
+    return lfat_create_long(card, sizeof card, hull, LFAT_NAME_BYTES, chars, sizeof chars, today, limit);
 }
 
 /* Reads the long name into text, of which it is lent so many bytes; the others are 0. */
@@ -105,6 +125,8 @@ int main(void)
         points[i] = (uint8_t)(i * 7 + 1);
     for (i = 0; i < CHARACTERS; i++)
         chars[2 * i] = (uint8_t)long_text[i];
+    today = lfat_seconds(2026, 11, 17, 19, 30, 59);
+    tomorrow = lfat_seconds(2026, 11, 18, 6, 0, 0);
 
     make_card();
     memcpy(saved, card, sizeof card);
@@ -116,11 +138,19 @@ int main(void)
     due("    fits, the largest number", fits(UINT64_MAX), LFAT_NO, 0);
     wrong |= memcmp(card, saved, sizeof card) != 0;
     due("M3  create ROUTE.CUT", create(route), LFAT_DONE, 3);
+    dated(new_dates);
     memcpy(saved, card, sizeof card);
     cut("M5  append 1300, cut after 4 stores", append, PATH_BYTES, 4, 1, 0);
+    dated(new_dates);
     cut("M6  append 1300, cut after 5 stores", append, PATH_BYTES, 5, 3, PATH_BYTES);
+    dated(written_dates);
     memcpy(card, saved, sizeof card);
+    due("    append nothing", append(0, LFAT_NO_LIMIT), LFAT_DONE, 0);
+    due("    append nothing, a second past 2107", append_at(0, LFAT_LAST_SECOND + 1, LFAT_NO_LIMIT), LFAT_CLOCK, 0);
+    due("    truncate to 0, at no date", truncate_to(0, lfat_seconds(2026, 2, 29, 0, 0, 0)), LFAT_CLOCK, 0);
+    dated(new_dates);
     due("M4  append 1300", append(PATH_BYTES, LFAT_NO_LIMIT), LFAT_DONE, 8);
+    dated(written_dates);
     due("    read", read_route(), LFAT_DONE, PATH_BYTES);
     due("    fits 1300, in clusters 13 to 15", fits(PATH_BYTES), LFAT_DONE, 15);
     wrong |= memcmp(back, points, PATH_BYTES) != 0;
@@ -161,8 +191,9 @@ int main(void)
     wrong |= memcmp(card, saved, sizeof card) != 0;
 
     due("M7  append 100", append(100, LFAT_NO_LIMIT), LFAT_DONE, 4);
-    due("    truncate to 1401", lfat_truncate(card, sizeof card, route, 11, 1401, LFAT_NO_LIMIT), LFAT_LENGTH, 0);
-    due("M8  truncate to 512", lfat_truncate(card, sizeof card, route, 11, 512, LFAT_NO_LIMIT), LFAT_DONE, 5);
+    due("    truncate to 1401", truncate_to(1401, tomorrow), LFAT_LENGTH, 0);
+    due("M8  truncate to 512", truncate_to(512, today), LFAT_DONE, 5);
+    dated(new_dates);
     due("M9  delete", lfat_delete(card, sizeof card, route, 11, LFAT_NO_LIMIT), LFAT_DONE, 5);
     for (i = 0; i < 3; i++)
         due("    create", create(letters[i]), LFAT_DONE, 3);

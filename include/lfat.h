@@ -4,24 +4,31 @@
  * The card is a window of bytes in memory. Every change is a store of one whole sector of 512 bytes.
  * The calls keep no state between them, allocate nothing and touch nothing but what they are lent.
  *
- * Example: save 3 bytes under a new name, on a card that may have been cut.
+ * Example: save 3 bytes under a new name, on a card that may have been cut. The file is dated 17 November 2026, 19:30:58.
  *
  *     const uint8_t name[] = "ROUTE   CUT", data[] = "G0\n";
+ *     uint32_t seconds = lfat_seconds(2026, 11, 17, 19, 30, 58);
  *     uint64_t answer = lfat_recover(card, card_len, LFAT_NO_LIMIT);
  *     if (LFAT_CODE(answer) == LFAT_DONE)
- *         answer = lfat_create(card, card_len, name, LFAT_NAME_BYTES, LFAT_NO_LIMIT);
+ *         answer = lfat_create(card, card_len, name, LFAT_NAME_BYTES, seconds, LFAT_NO_LIMIT);
  *     if (LFAT_CODE(answer) == LFAT_DONE)
- *         answer = lfat_append(card, card_len, name, LFAT_NAME_BYTES, data, 3, LFAT_NO_LIMIT);
+ *         answer = lfat_append(card, card_len, name, LFAT_NAME_BYTES, data, 3, seconds, LFAT_NO_LIMIT);
  *     if (LFAT_CODE(answer) != LFAT_DONE)
  *         puts(lfat_code_name(LFAT_CODE(answer)));
  *
+ * Example: the seconds from a clock that C knows, in local time, as people read the dates of a card.
+ *
+ *     time_t now = time(NULL);
+ *     const struct tm *t = localtime(&now);
+ *     uint32_t seconds = lfat_seconds(t->tm_year + 1900, t->tm_mon + 1, t->tm_mday, t->tm_hour, t->tm_min, t->tm_sec);
+ *
  * Example: replace a file's bytes, or save them under a new name where there is none.
  *
- *     uint64_t answer = lfat_replace(card, card_len, name, LFAT_NAME_BYTES, data, data_len, LFAT_NO_LIMIT);
+ *     uint64_t answer = lfat_replace(card, card_len, name, LFAT_NAME_BYTES, data, data_len, seconds, LFAT_NO_LIMIT);
  *     if (LFAT_CODE(answer) == LFAT_ABSENT) {
- *         answer = lfat_create(card, card_len, name, LFAT_NAME_BYTES, LFAT_NO_LIMIT);
+ *         answer = lfat_create(card, card_len, name, LFAT_NAME_BYTES, seconds, LFAT_NO_LIMIT);
  *         if (LFAT_CODE(answer) == LFAT_DONE)
- *             answer = lfat_append(card, card_len, name, LFAT_NAME_BYTES, data, data_len, LFAT_NO_LIMIT);
+ *             answer = lfat_append(card, card_len, name, LFAT_NAME_BYTES, data, data_len, seconds, LFAT_NO_LIMIT);
  *     }
  *
  * Each call is one operation: after a cut and a recovery a file that was replaced has its old bytes or the new ones,
@@ -41,7 +48,7 @@
  *
  *     const uint8_t chars[] = {'P', 0, 'o', 0, 'r', 0, 't', 0, ' ', 0, '7', 0};
  *     uint8_t text[2 * LFAT_LONG_CHARACTERS];
- *     uint64_t answer = lfat_create_long(card, card_len, name, LFAT_NAME_BYTES, chars, sizeof chars, LFAT_NO_LIMIT);
+ *     uint64_t answer = lfat_create_long(card, card_len, name, LFAT_NAME_BYTES, chars, sizeof chars, seconds, LFAT_NO_LIMIT);
  *     if (LFAT_CODE(answer) == LFAT_DONE)
  *         answer = lfat_long_name(card, card_len, name, LFAT_NAME_BYTES, text, sizeof text);
  *
@@ -60,6 +67,19 @@
  *    they are made; or
  *  - memory that holds the card, whose stores are then put on the card in that order: lfat_disk.h does so for
  *    images and block devices. A file that is mapped into memory is not enough: the system writes it in any order.
+ *
+ * Dates. Create, append, replace and truncate take the time as seconds since 1980 began, and date the file by it. A new file gets all
+ * its dates and times from it, the tenths of its creation are 0; append, replace and truncate set time and date of writing and the date
+ * of access. Appending no bytes and truncating to the present size set none; a replace always does. A card holds even seconds: an
+ * odd one becomes the one before. Delete and rename take no time and leave dates as they are. A card has no time zone; people
+ * expect local time. After LFAT_LAST_SECOND a time is refused (LFAT_CLOCK), also where nothing would be stored.
+ *
+ * The router's clock. If it shows a date and a time, lfat_seconds makes the number of them. If it counts seconds from another moment,
+ * take off those up to 1980: 315532800 of a clock that counts from 1970 in local time. A machine without a clock passes 0, which is 1
+ * January 1980; so may one whose clock was never set, for which lfat_seconds gives a number that is refused.
+ *
+ * Before an update from a library without dates: recover all cards with the old library. Its log records have no date, so a save
+ * that is pending from before the update is LFAT_RECORD to this one, and so is a new one to the old. Finished ones do no harm.
  *
  * Reading. A read copies what fits. It does not say whether there is more, so a count equal to the buffer's length
  * is not the end of the file. Lend one byte more than the longest file that is taken; a count below that is a whole file:
@@ -120,10 +140,13 @@ extern "C" {
 #define LFAT_NEW_CHARACTERS 208
 #define LFAT_LONG_CHARACTERS 260
 
+/* The last second that a card can date, counted from 0 as 1980 began: 31 December 2107, 23:59:59. */
+#define LFAT_LAST_SECOND UINT32_C(4039286399)
+
 /*
- * The codes. 1 to 17 are the grounds of a refusal. They are asked in the order of their numbers, but for LFAT_LOCKED, which is
- * asked right after LFAT_DIRECTORY, and LFAT_LONGNAME, right after LFAT_NAME; the first that holds is answered. A refused call has
- * stored nothing and altered no byte; its count is 0.
+ * The codes. 1 to 18 are the grounds of a refusal. They are asked in the order of their numbers, but for LFAT_LOCKED, which is
+ * asked right after LFAT_DIRECTORY, LFAT_LONGNAME, right after LFAT_NAME, and LFAT_CLOCK, right after LFAT_UNCLEAN; the first that
+ * holds is answered. A refused call has stored nothing and altered no byte; its count is 0.
  */
 enum lfat_code {
     LFAT_DONE = 0,       /* all stores were made; for read and list: success; for lfat_fits: yes */
@@ -132,7 +155,7 @@ enum lfat_code {
     LFAT_WINDOW = 3,     /* the window has fewer bytes than the card's total sectors */
     LFAT_LOGAREA = 4,    /* FAT1 has no log, more than one, or one of over 128 sectors */
     LFAT_ROOT = 5,       /* a root slot after the first unused one is in use */
-    LFAT_RECORD = 6,     /* the pending log records are not one group */
+    LFAT_RECORD = 6,     /* the pending log records are not one group of this library: see the note on updates above */
     LFAT_UNCLEAN = 7,    /* a log record is pending or the FATs differ: call lfat_recover first */
     LFAT_NAME = 8,       /* a name is not 11 bytes or breaks the rule for names */
     LFAT_ABSENT = 9,     /* no file has the name */
@@ -144,6 +167,7 @@ enum lfat_code {
     LFAT_NOSPACE = 15,   /* the card has too few free clusters */
     LFAT_LOCKED = 16,    /* the file is marked read-only (append, replace, truncate, delete, rename by its old name) */
     LFAT_LONGNAME = 17,  /* the characters are an odd number of bytes, not 1 to 208, or one of them is forbidden */
+    LFAT_CLOCK = 18,     /* the seconds exceed LFAT_LAST_SECOND (create, create_long, append, replace, truncate) */
     LFAT_NO = 254,       /* lfat_fits: no, so many bytes do not fit */
     LFAT_STOPPED = 255   /* the limit ended the call before its last store: recover before anything else */
 };
@@ -153,7 +177,7 @@ static inline const char *lfat_code_name(uint32_t code)
 {
     static const char *const names[] = {
         "DONE", "SHORT", "BOOT", "WINDOW", "LOGAREA", "ROOT", "RECORD", "UNCLEAN",
-        "NAME", "ABSENT", "DIRECTORY", "EXISTS", "ROOTFULL", "CHAIN", "LENGTH", "NOSPACE", "LOCKED", "LONGNAME"};
+        "NAME", "ABSENT", "DIRECTORY", "EXISTS", "ROOTFULL", "CHAIN", "LENGTH", "NOSPACE", "LOCKED", "LONGNAME", "CLOCK"};
     if (code < sizeof names / sizeof names[0])
         return names[code];
     if (code == LFAT_NO)
@@ -162,7 +186,27 @@ static inline const char *lfat_code_name(uint32_t code)
 }
 
 /*
- * Calls that store. All but lfat_recover ask for a clean card. The count is the number of stores made.
+ * The seconds since 1980 began at a date and time of the calendar: months and days from 1 on, as people write them; a leap second, 60,
+ * counts as 59. What is no such date or time, or is before 1980 or after 2107, gives a number that the calls refuse (LFAT_CLOCK).
+ */
+static inline uint32_t lfat_seconds(int year, int month, int day, int hour, int minute, int second)
+{
+    static const int before[] = {0, 31, 59, 90, 120, 151, 181, 212, 243, 273, 304, 334, 365};
+    int is_leap, days;
+    if (year < 1980 || year > 2107 || month < 1 || month > 12 || day < 1 || hour < 0 || hour > 23 || minute < 0 || minute > 59 ||
+        second < 0 || second > 60)
+        return UINT32_C(0xFFFFFFFF);
+    is_leap = year % 4 == 0 && year != 2100;
+    if (day > before[month] - before[month - 1] + (is_leap && month == 2))
+        return UINT32_C(0xFFFFFFFF);
+    /* Every fourth year before this one, from 1980 on, had a leap day, but for 2100. */
+    days = 365 * (year - 1980) + (year - 1977) / 4 - (year > 2100) + before[month - 1] + (is_leap && month > 2) + day - 1;
+    return (uint32_t)days * 86400u + (uint32_t)(hour * 3600 + minute * 60 + (second < 60 ? second : 59));
+}
+
+/*
+ * Calls that store. All but lfat_recover ask for a clean card. The count is the number of stores made. `seconds` are those since
+ * 1980 began; the file is dated by them (see above).
  * A cut in mid-call leaves a card that lfat_recover brings to the state before the call or after it.
  * A file that is marked read-only, as other systems do, is not changed: append, replace, truncate, delete and rename refuse it
  * (LFAT_LOCKED), also where they would store nothing. No call sets the mark or takes it away.
@@ -175,11 +219,14 @@ static inline const char *lfat_code_name(uint32_t code)
  * appended to, replaced or truncated keeps its own.
  */
 
-/* Finishes what a power cut left behind, or takes it back. Call it at power-up, until it answers LFAT_DONE. */
+/*
+ * Finishes what a power cut left behind, or takes it back. Call it at power-up, until it answers LFAT_DONE. A save that it finishes
+ * keeps the date that it was begun with.
+ */
 uint64_t lfat_recover(uint8_t *card, size_t card_len, uint32_t limit);
 
 /* Makes an empty file in the root directory. */
-uint64_t lfat_create(uint8_t *card, size_t card_len, const uint8_t *name, size_t name_len, uint32_t limit);
+uint64_t lfat_create(uint8_t *card, size_t card_len, const uint8_t *name, size_t name_len, uint32_t seconds, uint32_t limit);
 
 /*
  * Makes an empty file with a short name, by which all other calls find it, and a long one of 1 to 208 characters of 16 bits. `chars`
@@ -190,22 +237,22 @@ uint64_t lfat_create(uint8_t *card, size_t card_len, const uint8_t *name, size_t
  * the root directory is full (LFAT_ROOTFULL). After a cut and a recovery the file has both names, or is not there.
  */
 uint64_t lfat_create_long(uint8_t *card, size_t card_len, const uint8_t *name, size_t name_len,
-                          const uint8_t *chars, size_t chars_len, uint32_t limit);
+                          const uint8_t *chars, size_t chars_len, uint32_t seconds, uint32_t limit);
 
 /* Adds bytes at the end of a file. */
 uint64_t lfat_append(uint8_t *card, size_t card_len, const uint8_t *name, size_t name_len,
-                     const uint8_t *data, size_t data_len, uint32_t limit);
+                     const uint8_t *data, size_t data_len, uint32_t seconds, uint32_t limit);
 
 /*
  * Saves over a file: it then has these bytes and no others, none if data_len is 0. They go to free clusters; the old ones
  * are freed in the same operation and do not count as room (LFAT_NOSPACE). Always stores, even for the bytes it has.
  */
 uint64_t lfat_replace(uint8_t *card, size_t card_len, const uint8_t *name, size_t name_len,
-                      const uint8_t *data, size_t data_len, uint32_t limit);
+                      const uint8_t *data, size_t data_len, uint32_t seconds, uint32_t limit);
 
 /* Shortens a file to a size. One over the file's is refused (LFAT_LENGTH). */
 uint64_t lfat_truncate(uint8_t *card, size_t card_len, const uint8_t *name, size_t name_len,
-                       uint64_t size, uint32_t limit);
+                       uint64_t size, uint32_t seconds, uint32_t limit);
 
 /* Removes a file and frees its clusters. The entries of its long name are removed with it. */
 uint64_t lfat_delete(uint8_t *card, size_t card_len, const uint8_t *name, size_t name_len, uint32_t limit);
@@ -230,7 +277,9 @@ uint64_t lfat_read(const uint8_t *card, size_t card_len, const uint8_t *name, si
 /*
  * Copies the root directory's entries, files and directories, 32 bytes each as on the card, as many as fit whole.
  * The count is how many there are. In an entry: name at 0 (11 bytes), attributes at 11 (bit 0x01: read-only, bit 0x10:
- * directory), size at 28 (4 bytes, little-endian).
+ * directory), size at 28 (4 bytes, little-endian). Its dates and times are 2 bytes each, little-endian: creation time at 14, creation
+ * date at 16, access date at 18, write time at 22, write date at 24. A date is (year - 1980) * 512 + month * 32 + day, a time
+ * hour * 2048 + minute * 32 + second / 2. Other systems write dates that are none, as 0 for one that they do not know.
  */
 uint64_t lfat_list(const uint8_t *card, size_t card_len, uint8_t *buffer, size_t buffer_len);
 

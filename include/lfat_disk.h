@@ -6,28 +6,30 @@
  * that keeps the library's promise, with flushes where they must stand. So a power cut at any moment, of the card or of this
  * machine, leaves each file as it was or as it was to be, once the card is recovered.
  *
- * Example: save 3 bytes under a new name, on a card that may have been cut.
+ * Example: save 3 bytes under a new name, on a card that may have been cut. The file is dated by the seconds since 1980 began, which
+ * lfat_seconds of lfat.h makes of a date and time.
  *
  *     const uint8_t name[] = "ROUTE   CUT", data[] = "G0\n";
+ *     uint32_t seconds = lfat_seconds(2026, 11, 17, 19, 30, 58);
  *     lfat_disk *disk;
  *     uint64_t answer = lfat_disk_open("/dev/sdX", 0, 0, &disk);
  *     if (LFAT_CODE(answer) == LFAT_DONE)
  *         answer = lfat_disk_recover(disk);
  *     if (LFAT_CODE(answer) == LFAT_DONE)
- *         answer = lfat_disk_create(disk, name, LFAT_NAME_BYTES);
+ *         answer = lfat_disk_create(disk, name, LFAT_NAME_BYTES, seconds);
  *     if (LFAT_CODE(answer) == LFAT_DONE)
- *         answer = lfat_disk_append(disk, name, LFAT_NAME_BYTES, data, 3);
+ *         answer = lfat_disk_append(disk, name, LFAT_NAME_BYTES, data, 3, seconds);
  *     if (LFAT_CODE(answer) != LFAT_DONE)
  *         puts(lfat_disk_message());
  *     lfat_disk_close(disk);
  *
  * To save over the file later, in one operation:
  *
- *     answer = lfat_disk_replace(disk, name, LFAT_NAME_BYTES, data, 3);
+ *     answer = lfat_disk_replace(disk, name, LFAT_NAME_BYTES, data, 3, seconds);
  *
  * To give a new file a long name too, which other systems show:
  *
- *     answer = lfat_disk_create_long(disk, name, LFAT_NAME_BYTES, chars, chars_len);
+ *     answer = lfat_disk_create_long(disk, name, LFAT_NAME_BYTES, chars, chars_len, seconds);
  *
  * Link with liblfat_disk.a alone, which has the proved library in it (with a glibc before 2.34 also -lpthread -ldl). Linux on
  * x86-64. examples/save.c is a whole program.
@@ -87,32 +89,36 @@ void lfat_disk_close(lfat_disk *disk);
 /*
  * Calls that store. They answer as the calls of lfat.h do, and the count is the number of stores made. All but
  * lfat_disk_recover ask for a clean card. When they answer LFAT_DONE, all is on the disk. Append, replace, truncate, delete and
- * rename refuse a file that is marked read-only (LFAT_LOCKED).
+ * rename refuse a file that is marked read-only (LFAT_LOCKED). `seconds` are those since 1980 began, by which the file is dated;
+ * above LFAT_LAST_SECOND they are refused (LFAT_CLOCK). lfat.h says which dates are set, and what to do before an update.
  */
 
 /* Finishes what a power cut left behind, or takes it back. Call it after lfat_disk_open. */
 uint64_t lfat_disk_recover(lfat_disk *disk);
 
 /* Makes an empty file in the root directory. `name` is 8 and 3 bytes, filled up with spaces; name_len is 11. */
-uint64_t lfat_disk_create(lfat_disk *disk, const uint8_t *name, size_t name_len);
+uint64_t lfat_disk_create(lfat_disk *disk, const uint8_t *name, size_t name_len, uint32_t seconds);
 
 /*
  * Makes an empty file with a short name and a long one, of 1 to 208 characters of 16 bits, two bytes each, the low one first;
  * lfat.h says which are allowed. In one operation: after a cut and a recovery the file has both names, or is not there.
  */
-uint64_t lfat_disk_create_long(lfat_disk *disk, const uint8_t *name, size_t name_len, const uint8_t *chars, size_t chars_len);
+uint64_t lfat_disk_create_long(lfat_disk *disk, const uint8_t *name, size_t name_len, const uint8_t *chars, size_t chars_len,
+                               uint32_t seconds);
 
 /* Adds bytes at the end of a file, in one operation: after a cut and a recovery all of them are there, or none. */
-uint64_t lfat_disk_append(lfat_disk *disk, const uint8_t *name, size_t name_len, const uint8_t *data, size_t data_len);
+uint64_t lfat_disk_append(lfat_disk *disk, const uint8_t *name, size_t name_len, const uint8_t *data, size_t data_len,
+                          uint32_t seconds);
 
 /*
  * Saves over a file, in one operation: after a cut and a recovery it has its old bytes or these, whole. The old bytes keep their
  * clusters until then, so both need room (LFAT_NOSPACE). A name that is not there is refused (LFAT_ABSENT): create it first.
  */
-uint64_t lfat_disk_replace(lfat_disk *disk, const uint8_t *name, size_t name_len, const uint8_t *data, size_t data_len);
+uint64_t lfat_disk_replace(lfat_disk *disk, const uint8_t *name, size_t name_len, const uint8_t *data, size_t data_len,
+                           uint32_t seconds);
 
 /* Shortens a file to a size. One over the file's is refused (LFAT_LENGTH). */
-uint64_t lfat_disk_truncate(lfat_disk *disk, const uint8_t *name, size_t name_len, uint64_t size);
+uint64_t lfat_disk_truncate(lfat_disk *disk, const uint8_t *name, size_t name_len, uint64_t size, uint32_t seconds);
 
 /*
  * Removes a file and frees its clusters. The entries of its long name, as other systems show it, are removed with it; lfat.h says
@@ -132,7 +138,7 @@ uint64_t lfat_disk_rename(lfat_disk *disk, const uint8_t *old_name, size_t old_l
 uint64_t lfat_disk_read(lfat_disk *disk, const uint8_t *name, size_t name_len, uint64_t offset, uint8_t *buffer,
                         size_t buffer_len);
 
-/* Copies the root directory's entries, 32 bytes each, as lfat_list does. The count is how many there are. */
+/* Copies the root directory's entries, 32 bytes each, as lfat_list does, with their dates. The count is how many there are. */
 uint64_t lfat_disk_list(lfat_disk *disk, uint8_t *buffer, size_t buffer_len);
 
 /*

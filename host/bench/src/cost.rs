@@ -3,6 +3,7 @@
 use crate::cards::{Card, Layout, Shape, LAYOUTS, LOG_SECTORS, NAME, SIZES};
 use lfat_card::calls::{append, create, delete, replace, truncate, Answer};
 use reference::{plan, Operation};
+use testkit::AT;
 
 const LIMIT: u32 = u32::MAX;
 
@@ -18,9 +19,9 @@ fn save(shape: Shape, layout: Layout, size: usize, piece: usize) -> [usize; 3] {
     let mut card = Card::with_room(shape, layout, size).bytes;
     let path = vec![7; size];
     stores(delete(&mut card, NAME, LIMIT));
-    let created = stores(create(&mut card, NAME, LIMIT));
+    let created = stores(create(&mut card, NAME, AT, LIMIT));
     let pieces = path.chunks(piece);
-    let appended = pieces.map(|piece| stores(append(&mut card, NAME, piece, LIMIT)));
+    let appended = pieces.map(|piece| stores(append(&mut card, NAME, piece, AT, LIMIT)));
     [
         created,
         appended.sum(),
@@ -83,6 +84,7 @@ fn save_over(shape: Shape, layout: Layout, size: usize) -> ([usize; 5], usize, u
     let operation = Operation::Replace {
         name: NAME,
         data: path,
+        seconds: AT,
     };
     let (fat2, root, log) = (1 + shape.fat_sectors(), shape.root(), shape.data());
     let mut kinds = [0; 5];
@@ -96,10 +98,10 @@ fn save_over(shape: Shape, layout: Layout, size: usize) -> ([usize; 5], usize, u
         }] += 1;
     }
     let mut other = card.clone();
-    let two_calls = stores(truncate(&mut other, NAME, 0, LIMIT))
-        + stores(append(&mut other, NAME, path, LIMIT));
+    let two_calls = stores(truncate(&mut other, NAME, 0, AT, LIMIT))
+        + stores(append(&mut other, NAME, path, AT, LIMIT));
     let mut card = card;
-    let all = stores(replace(&mut card, NAME, path, LIMIT));
+    let all = stores(replace(&mut card, NAME, path, AT, LIMIT));
     assert_eq!(kinds.iter().sum::<usize>(), all);
     (kinds, all, two_calls)
 }

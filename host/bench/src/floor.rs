@@ -5,6 +5,7 @@ use crate::call::Call;
 use crate::cards::{Card, Layout, Shape, NAME, SHAPES};
 use crate::timing::{compare_copy, compare_loop, compare_runs, copy_between_buffers};
 use std::hint::black_box;
+use testkit::AT;
 
 const BYTES: usize = 1 << 20;
 
@@ -81,7 +82,7 @@ fn copies() {
     println!("|---|---|---|---|---|");
     print!("| append 1 MiB |");
     for shape in SHAPES {
-        let call = Call::Append(NAME.to_vec(), vec![7; BYTES]);
+        let call = Call::Append(NAME.to_vec(), vec![7; BYTES], AT);
         print_copy(Card::with_room(shape, Layout::OnePiece, BYTES), &call);
     }
     print!("\n| read 1 MiB |");

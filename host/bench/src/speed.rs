@@ -5,6 +5,7 @@ use crate::cards::{Card, Layout, Shape, LAYOUTS, LOG_SECTORS, NAME, SHAPES, SIZE
 use crate::timing::compare;
 use reference::{plan, run, Operation};
 use testkit::characters::{bytes_of, letters};
+use testkit::AT;
 
 /// Makes the card for a call, and the call.
 type Setup = Box<dyn Fn(Shape) -> (Card, Call)>;
@@ -78,7 +79,7 @@ fn rows() -> Vec<(String, Setup)> {
     );
     row(
         "create".into(),
-        Box::new(move |shape| (Card::empty(shape), Call::Create(name()))),
+        Box::new(move |shape| (Card::empty(shape), Call::Create(name(), AT))),
     );
     row(
         "rename".into(),
@@ -95,7 +96,7 @@ fn rows() -> Vec<(String, Setup)> {
             text.into(),
             Box::new(move |shape| {
                 let characters = bytes_of(&letters(count));
-                (Card::empty(shape), Call::CreateLong(name(), characters))
+                (Card::empty(shape), Call::CreateLong(name(), characters, AT))
             }),
         );
     }
@@ -105,7 +106,7 @@ fn rows() -> Vec<(String, Setup)> {
             let characters = bytes_of(&letters(208));
             (
                 Card::with_long_names(shape),
-                Call::CreateLong(name(), characters),
+                Call::CreateLong(name(), characters, AT),
             )
         }),
     );
@@ -136,7 +137,7 @@ fn rows() -> Vec<(String, Setup)> {
                 text("append"),
                 Box::new(move |shape| {
                     let card = Card::with_room(shape, layout, size);
-                    (card, Call::Append(name(), data.clone()))
+                    (card, Call::Append(name(), data.clone(), AT))
                 }),
             );
             let data = vec![7; size];
@@ -144,7 +145,7 @@ fn rows() -> Vec<(String, Setup)> {
                 text("replace"),
                 Box::new(move |shape| {
                     let card = Card::with_file_and_room(shape, layout, size);
-                    (card, Call::Replace(name(), data.clone()))
+                    (card, Call::Replace(name(), data.clone(), AT))
                 }),
             );
             row(
@@ -158,7 +159,7 @@ fn rows() -> Vec<(String, Setup)> {
                 text("truncate to 1 byte,"),
                 Box::new(move |shape| {
                     let card = Card::with_file(shape, layout, size);
-                    (card, Call::Truncate(name(), 1))
+                    (card, Call::Truncate(name(), 1, AT))
                 }),
             );
             row(
@@ -198,6 +199,7 @@ fn cut_append(shape: Shape, layout: Layout, size: usize) -> Card {
     let append = Operation::Append {
         name: NAME,
         data: &data,
+        seconds: AT,
     };
     let log = shape.data()..shape.data() + LOG_SECTORS;
     let stores = plan(&card.bytes, &append).expect("accepted");

@@ -78,7 +78,7 @@ pub fn compare_copy(card: &mut [u8], call: &Call, place: Range<usize>) -> Times 
 
         let start = Instant::now();
         match call {
-            Call::Append(_, data) => black_box(&mut card[place.clone()]).copy_from_slice(data),
+            Call::Append(_, data, _) => black_box(&mut card[place.clone()]).copy_from_slice(data),
             _ => black_box(&mut buffer).copy_from_slice(&card[place.clone()]),
         }
         let memcpy = start.elapsed();

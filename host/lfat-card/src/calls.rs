@@ -41,31 +41,17 @@ impl Answer {
 
 // In each call below the slices are valid for their lengths, and a mutable one overlaps no other.
 
-/// Makes a call on a name.
-fn on_name(
-    call: unsafe extern "C" fn(*mut u8, usize, *const u8, usize, u32) -> u64,
-    card: &mut [u8],
-    name: &[u8],
-    limit: u32,
-) -> Answer {
-    let answer = unsafe {
-        call(
-            card.as_mut_ptr(),
-            card.len(),
-            name.as_ptr(),
-            name.len(),
-            limit,
-        )
-    };
-    Answer::decode(answer)
-}
+/// A call on a name and another slice, which sets dates.
+type OnTwo =
+    unsafe extern "C" fn(*mut u8, usize, *const u8, usize, *const u8, usize, u32, u32) -> u64;
 
-/// Makes a call on a name and another slice: data, characters, or a second name.
+/// Makes a call on a name and another slice, data or characters, at a number of seconds.
 fn on_two(
-    call: unsafe extern "C" fn(*mut u8, usize, *const u8, usize, *const u8, usize, u32) -> u64,
+    call: OnTwo,
     card: &mut [u8],
     name: &[u8],
     other: &[u8],
+    seconds: u32,
     limit: u32,
 ) -> Answer {
     let answer = unsafe {
@@ -76,34 +62,57 @@ fn on_two(
             name.len(),
             other.as_ptr(),
             other.len(),
+            seconds,
             limit,
         )
     };
     Answer::decode(answer)
 }
 
-/// Makes an empty file, with at most so many stores.
-pub fn create(card: &mut [u8], name: &[u8], limit: u32) -> Answer {
-    on_name(raw::lfat_create, card, name, limit)
+/// Makes an empty file, with at most so many stores. Here and below the seconds are those since 1980 began.
+pub fn create(card: &mut [u8], name: &[u8], seconds: u32, limit: u32) -> Answer {
+    Answer::decode(unsafe {
+        raw::lfat_create(
+            card.as_mut_ptr(),
+            card.len(),
+            name.as_ptr(),
+            name.len(),
+            seconds,
+            limit,
+        )
+    })
 }
 
 /// Makes an empty file with a short name and a long one, with at most so many stores. The characters are bytes, two each.
-pub fn create_long(card: &mut [u8], name: &[u8], characters: &[u8], limit: u32) -> Answer {
-    on_two(raw::lfat_create_long, card, name, characters, limit)
+pub fn create_long(
+    card: &mut [u8],
+    name: &[u8],
+    characters: &[u8],
+    seconds: u32,
+    limit: u32,
+) -> Answer {
+    on_two(
+        raw::lfat_create_long,
+        card,
+        name,
+        characters,
+        seconds,
+        limit,
+    )
 }
 
 /// Adds bytes at the end of a file, with at most so many stores.
-pub fn append(card: &mut [u8], name: &[u8], data: &[u8], limit: u32) -> Answer {
-    on_two(raw::lfat_append, card, name, data, limit)
+pub fn append(card: &mut [u8], name: &[u8], data: &[u8], seconds: u32, limit: u32) -> Answer {
+    on_two(raw::lfat_append, card, name, data, seconds, limit)
 }
 
 /// Saves over a file, with at most so many stores: it then has these bytes and no others.
-pub fn replace(card: &mut [u8], name: &[u8], data: &[u8], limit: u32) -> Answer {
-    on_two(raw::lfat_replace, card, name, data, limit)
+pub fn replace(card: &mut [u8], name: &[u8], data: &[u8], seconds: u32, limit: u32) -> Answer {
+    on_two(raw::lfat_replace, card, name, data, seconds, limit)
 }
 
 /// Shortens a file, with at most so many stores.
-pub fn truncate(card: &mut [u8], name: &[u8], size: u64, limit: u32) -> Answer {
+pub fn truncate(card: &mut [u8], name: &[u8], size: u64, seconds: u32, limit: u32) -> Answer {
     Answer::decode(unsafe {
         raw::lfat_truncate(
             card.as_mut_ptr(),
@@ -111,6 +120,7 @@ pub fn truncate(card: &mut [u8], name: &[u8], size: u64, limit: u32) -> Answer {
             name.as_ptr(),
             name.len(),
             size,
+            seconds,
             limit,
         )
     })
@@ -118,12 +128,30 @@ pub fn truncate(card: &mut [u8], name: &[u8], size: u64, limit: u32) -> Answer {
 
 /// Removes a file, with the entries of its long name, and frees its clusters, with at most so many stores.
 pub fn delete(card: &mut [u8], name: &[u8], limit: u32) -> Answer {
-    on_name(raw::lfat_delete, card, name, limit)
+    Answer::decode(unsafe {
+        raw::lfat_delete(
+            card.as_mut_ptr(),
+            card.len(),
+            name.as_ptr(),
+            name.len(),
+            limit,
+        )
+    })
 }
 
 /// Gives a file another name, with at most so many stores; the entries of its long name are removed.
 pub fn rename(card: &mut [u8], old: &[u8], new: &[u8], limit: u32) -> Answer {
-    on_two(raw::lfat_rename, card, old, new, limit)
+    Answer::decode(unsafe {
+        raw::lfat_rename(
+            card.as_mut_ptr(),
+            card.len(),
+            old.as_ptr(),
+            old.len(),
+            new.as_ptr(),
+            new.len(),
+            limit,
+        )
+    })
 }
 
 /// Finishes what a power cut left behind, or takes it back, with at most so many stores.

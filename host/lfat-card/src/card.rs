@@ -1,6 +1,8 @@
 //! A card in memory that is changed.
 
-use crate::{count, Answer, CardView, Entry, File, LongName, Name, Operation, Refusal, NO_LIMIT};
+use crate::{
+    count, Answer, CardView, DateTime, Entry, File, LongName, Name, Operation, Refusal, NO_LIMIT,
+};
 
 /// A card over the bytes of its window. Methods that change it give the number of stores made.
 ///
@@ -11,16 +13,22 @@ use crate::{count, Answer, CardView, Entry, File, LongName, Name, Operation, Ref
 /// marked as deleted in the same operation. After a rename the file has its new name only. [`Card::create_long`] gives a new file
 /// one; the other methods leave it alone.
 ///
+/// Create, append, replace and truncate date the file: `at` is the time, in the zone in which the card's dates are to be read. A new
+/// file gets all its dates from it, the others set those of writing and access; what appends nothing or truncates to the present size
+/// sets none. A card holds even seconds of the years 1980 to 2107; another year is refused ([`Refusal::Clock`]).
+///
 /// ```
-/// use lfat_card::{Card, Name, Refusal};
+/// use lfat_card::{Card, DateTime, Name, Refusal};
 ///
 /// # let image = reference::card_k();
 /// let mut window: Vec<u8> = image;
 /// let mut card = Card::new(&mut window);
 /// card.recover()?;
 /// let name = Name::parse("ROUTE.CUT")?;
-/// assert_eq!(card.create(name), Ok(3));
-/// assert_eq!(card.create(name), Err(Refusal::Exists));
+/// let at = DateTime::new(2026, 11, 17, 19, 30, 59).expect("a date and a time");
+/// assert_eq!(card.create(name, at), Ok(3));
+/// assert_eq!(card.create(name, at), Err(Refusal::Exists));
+/// assert_eq!(card.list()?[0].created(), DateTime::new(2026, 11, 17, 19, 30, 58));
 /// # Ok::<(), Refusal>(())
 /// ```
 pub struct Card<'a> {
@@ -54,8 +62,8 @@ impl<'a> Card<'a> {
     }
 
     /// Makes an empty file.
-    pub fn create(&mut self, name: Name) -> Result<u32, Refusal> {
-        count(self.run(&Operation::Create { name }, NO_LIMIT))
+    pub fn create(&mut self, name: Name, at: DateTime) -> Result<u32, Refusal> {
+        count(self.run(&Operation::Create { name, at }, NO_LIMIT))
     }
 
     /// Makes an empty file with a short name, by which the other methods find it, and a long one, which other systems show. In one
@@ -63,46 +71,58 @@ impl<'a> Card<'a> {
     /// ([`Refusal::Exists`]), and the root directory needs a run of free slots: one for every 13 characters, and one more.
     ///
     /// ```
-    /// # use lfat_card::{Card, LongName, Name, Refusal};
+    /// # use lfat_card::{Card, DateTime, LongName, Name, Refusal};
     /// # let mut window = reference::card_k();
     /// # let mut card = Card::new(&mut window);
+    /// # let at = DateTime::FIRST;
     /// let long = LongName::parse("Hull 7 sheer panel.cut")?;
-    /// card.create_long(Name::parse("HULL7S~1.CUT")?, &long)?;
+    /// card.create_long(Name::parse("HULL7S~1.CUT")?, &long, at)?;
     /// assert_eq!(card.long_name(Name::parse("HULL7S~1.CUT")?)?, long.characters());
-    /// assert_eq!(card.create_long(Name::parse("HULL7S~2.CUT")?, &long), Err(Refusal::Exists));
+    /// assert_eq!(card.create_long(Name::parse("HULL7S~2.CUT")?, &long, at), Err(Refusal::Exists));
     /// # Ok::<(), Refusal>(())
     /// ```
-    pub fn create_long(&mut self, name: Name, long_name: &LongName) -> Result<u32, Refusal> {
-        count(self.run(&Operation::CreateLong { name, long_name }, NO_LIMIT))
+    pub fn create_long(
+        &mut self,
+        name: Name,
+        long_name: &LongName,
+        at: DateTime,
+    ) -> Result<u32, Refusal> {
+        let create = Operation::CreateLong {
+            name,
+            long_name,
+            at,
+        };
+        count(self.run(&create, NO_LIMIT))
     }
 
     /// Adds bytes at the end of a file.
-    pub fn append(&mut self, name: Name, data: &[u8]) -> Result<u32, Refusal> {
-        count(self.run(&Operation::Append { name, data }, NO_LIMIT))
+    pub fn append(&mut self, name: Name, data: &[u8], at: DateTime) -> Result<u32, Refusal> {
+        count(self.run(&Operation::Append { name, data, at }, NO_LIMIT))
     }
 
     /// Saves over a file: it then has these bytes and no others. In one operation, so that a cut and a recovery leave the old
     /// bytes or the new ones, whole. The old ones keep their clusters until then: both need room.
     ///
     /// ```
-    /// # use lfat_card::{Card, Name, Refusal};
+    /// # use lfat_card::{Card, DateTime, Name, Refusal};
     /// # let mut window = reference::card_k();
     /// # let mut card = Card::new(&mut window);
     /// # let name = Name::parse("ROUTE.CUT")?;
-    /// # card.create(name)?;
-    /// # card.append(name, b"G1 X0 Y7\n")?;
-    /// card.replace(name, b"G1 X9\n")?;
+    /// # let at = DateTime::FIRST;
+    /// # card.create(name, at)?;
+    /// # card.append(name, b"G1 X0 Y7\n", at)?;
+    /// card.replace(name, b"G1 X9\n", at)?;
     /// assert_eq!(card.read_whole(name)?, b"G1 X9\n");
-    /// assert_eq!(card.replace(Name::parse("KEEL.CUT")?, b"G0\n"), Err(Refusal::Absent));
+    /// assert_eq!(card.replace(Name::parse("KEEL.CUT")?, b"G0\n", at), Err(Refusal::Absent));
     /// # Ok::<(), Refusal>(())
     /// ```
-    pub fn replace(&mut self, name: Name, data: &[u8]) -> Result<u32, Refusal> {
-        count(self.run(&Operation::Replace { name, data }, NO_LIMIT))
+    pub fn replace(&mut self, name: Name, data: &[u8], at: DateTime) -> Result<u32, Refusal> {
+        count(self.run(&Operation::Replace { name, data, at }, NO_LIMIT))
     }
 
     /// Shortens a file.
-    pub fn truncate(&mut self, name: Name, size: u64) -> Result<u32, Refusal> {
-        count(self.run(&Operation::Truncate { name, size }, NO_LIMIT))
+    pub fn truncate(&mut self, name: Name, size: u64, at: DateTime) -> Result<u32, Refusal> {
+        count(self.run(&Operation::Truncate { name, size, at }, NO_LIMIT))
     }
 
     /// Removes a file, with the entries of its long name, and frees its clusters.

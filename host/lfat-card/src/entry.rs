@@ -1,6 +1,6 @@
 //! Entries of the root directory.
 
-use crate::{name, Name, Refusal};
+use crate::{name, Date, DateTime, Name, Refusal};
 
 /// The bytes of an entry.
 pub const ENTRY_BYTES: usize = 32;
@@ -43,9 +43,29 @@ impl Entry {
         self.attributes() & READ_ONLY != 0
     }
 
+    /// When it was created; `None` where the entry has no date or time there. Files made by other systems may have odd seconds.
+    pub fn created(&self) -> Option<DateTime> {
+        let created = DateTime::from_fat(self.word(16), self.word(14))?;
+        Some(created.with_hundredths(self.0[13]))
+    }
+
+    /// When it was last written; `None` where the entry has no date or time there.
+    pub fn written(&self) -> Option<DateTime> {
+        DateTime::from_fat(self.word(24), self.word(22))
+    }
+
+    /// The day on which it was last used; `None` where the entry has no date there. Reading a file sets none.
+    pub fn accessed(&self) -> Option<Date> {
+        Date::from_fat(self.word(18))
+    }
+
     /// The number of its first cluster, 0 if it has none.
     pub fn first_cluster(&self) -> u16 {
-        u16::from_le_bytes([self.0[26], self.0[27]])
+        self.word(26)
+    }
+
+    fn word(&self, at: usize) -> u16 {
+        u16::from_le_bytes([self.0[at], self.0[at + 1]])
     }
 
     /// Its size in bytes.

@@ -8,14 +8,14 @@ use std::io::{Error, ErrorKind, Read, Result, Seek, SeekFrom};
 /// Every read asks all grounds of the card anew, so read in large pieces, or through a `BufReader` with a large buffer:
 ///
 /// ```
-/// use lfat_card::{Card, Name};
+/// use lfat_card::{Card, DateTime, Name};
 /// use std::io::{BufRead, BufReader, Seek, SeekFrom};
 ///
 /// # let mut window = reference::card_k();
 /// # let mut card = Card::new(&mut window);
 /// # let name = Name::parse("ROUTE.CUT")?;
-/// # card.create(name)?;
-/// # card.append(name, b"G0 X0\nG1 X7\n")?;
+/// # card.create(name, DateTime::FIRST)?;
+/// # card.append(name, b"G0 X0\nG1 X7\n", DateTime::FIRST)?;
 /// let mut file = card.open(name)?;
 /// file.seek(SeekFrom::Start(6))?;
 /// let mut lines = BufReader::with_capacity(1 << 16, file).lines();

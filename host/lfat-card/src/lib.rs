@@ -1,11 +1,11 @@
 //! FAT16 cards with a TI-LFAT journal: safe functions over the proved library.
 //!
 //! A card is a window of bytes, the whole card from its boot sector on. [`Card`] changes it, [`CardView`] only reads it, and a
-//! [`File`] is a file being read. [`calls`] has the library's twelve calls as they are, with names of any bytes; [`raw`]
+//! [`File`] is a file being read; a [`DateTime`] dates what is saved. [`calls`] has the library's twelve calls as they are, with names of any bytes; [`raw`]
 //! has them as C does.
 //!
 //! ```
-//! use lfat_card::{Card, LongName, Name};
+//! use lfat_card::{Card, DateTime, LongName, Name};
 //! use std::io::Read;
 //!
 //! # let image = reference::card_k();
@@ -14,19 +14,21 @@
 //! card.recover()?;
 //!
 //! let name = Name::parse("ROUTE.CUT")?;
-//! card.create(name)?;
-//! card.append(name, b"G1 X0 Y7\n")?;
+//! let at: DateTime = "2026-11-17T19:30:58".parse()?;
+//! card.create(name, at)?;
+//! card.append(name, b"G1 X0 Y7\n", at)?;
 //!
 //! let mut path = String::new();
 //! card.open(name)?.read_to_string(&mut path)?;
 //! assert_eq!(path, "G1 X0 Y7\n");
 //! assert_eq!(card.list()?[0].to_name()?, name);
+//! assert_eq!(card.list()?[0].written(), Some(at));
 //!
-//! card.replace(name, b"G1 X5 Y5\n")?;
+//! card.replace(name, b"G1 X5 Y5\n", at)?;
 //! assert_eq!(card.read_whole(name)?, b"G1 X5 Y5\n");
 //!
 //! let short = Name::parse("HULL7S~1.CUT")?;
-//! card.create_long(short, &LongName::parse("Hull 7 sheer panel.cut")?)?;
+//! card.create_long(short, &LongName::parse("Hull 7 sheer panel.cut")?, at)?;
 //! assert_eq!(String::from_utf16(&card.long_name(short)?)?, "Hull 7 sheer panel.cut");
 //! # Ok::<(), Box<dyn std::error::Error>>(())
 //! ```
@@ -41,6 +43,7 @@
 
 pub mod calls;
 mod card;
+mod date_time;
 mod entry;
 mod file;
 mod long_name;
@@ -52,6 +55,7 @@ mod view;
 
 pub use calls::Answer;
 pub use card::Card;
+pub use date_time::{Date, DateTime, ParseDateTimeError};
 pub use entry::{Entry, ENTRY_BYTES};
 pub use file::File;
 pub use long_name::LongName;

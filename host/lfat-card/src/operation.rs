@@ -1,6 +1,6 @@
 //! The calls that store, as values.
 
-use crate::{calls, Answer, LongName, Name};
+use crate::{calls, Answer, DateTime, LongName, Name};
 
 /// The limit that cuts nothing.
 pub const NO_LIMIT: u32 = u32::MAX;
@@ -13,6 +13,8 @@ pub enum Operation<'a> {
     Create {
         /// The new file's name.
         name: Name,
+        /// When: all its dates and times.
+        at: DateTime,
     },
     /// Makes an empty file with a short name and a long one.
     CreateLong {
@@ -20,6 +22,8 @@ pub enum Operation<'a> {
         name: Name,
         /// The long name, which other systems show.
         long_name: &'a LongName,
+        /// When: all its dates and times.
+        at: DateTime,
     },
     /// Adds bytes at the end of a file.
     Append {
@@ -27,6 +31,8 @@ pub enum Operation<'a> {
         name: Name,
         /// The bytes to add.
         data: &'a [u8],
+        /// When: the time of writing, and the day of access.
+        at: DateTime,
     },
     /// Saves over a file: it then has these bytes and no others.
     Replace {
@@ -34,6 +40,8 @@ pub enum Operation<'a> {
         name: Name,
         /// Its new bytes.
         data: &'a [u8],
+        /// When: the time of writing, and the day of access.
+        at: DateTime,
     },
     /// Shortens a file.
     Truncate {
@@ -41,6 +49,8 @@ pub enum Operation<'a> {
         name: Name,
         /// Its new size, no more than the present one.
         size: u64,
+        /// When: the time of writing, and the day of access.
+        at: DateTime,
     },
     /// Removes a file, with the entries of its long name, and frees its clusters.
     Delete {
@@ -62,13 +72,21 @@ impl Operation<'_> {
     /// Makes the call, with at most so many stores.
     pub fn run(&self, card: &mut [u8], limit: u32) -> Answer {
         match self {
-            Operation::Create { name } => calls::create(card, name.bytes(), limit),
-            Operation::CreateLong { name, long_name } => {
-                calls::create_long(card, name.bytes(), long_name.bytes(), limit)
+            Operation::Create { name, at } => calls::create(card, name.bytes(), at.asked(), limit),
+            Operation::CreateLong {
+                name,
+                long_name,
+                at,
+            } => calls::create_long(card, name.bytes(), long_name.bytes(), at.asked(), limit),
+            Operation::Append { name, data, at } => {
+                calls::append(card, name.bytes(), data, at.asked(), limit)
             }
-            Operation::Append { name, data } => calls::append(card, name.bytes(), data, limit),
-            Operation::Replace { name, data } => calls::replace(card, name.bytes(), data, limit),
-            Operation::Truncate { name, size } => calls::truncate(card, name.bytes(), *size, limit),
+            Operation::Replace { name, data, at } => {
+                calls::replace(card, name.bytes(), data, at.asked(), limit)
+            }
+            Operation::Truncate { name, size, at } => {
+                calls::truncate(card, name.bytes(), *size, at.asked(), limit)
+            }
             Operation::Delete { name } => calls::delete(card, name.bytes(), limit),
             Operation::Rename { old, new } => calls::rename(card, old.bytes(), new.bytes(), limit),
             Operation::Recover => calls::recover(card, limit),

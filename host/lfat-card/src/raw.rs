@@ -8,6 +8,7 @@ extern "C" {
         card_len: usize,
         name: *const u8,
         name_len: usize,
+        seconds: u32,
         limit: u32,
     ) -> u64;
     pub fn lfat_create_long(
@@ -17,6 +18,7 @@ extern "C" {
         name_len: usize,
         chars: *const u8,
         chars_len: usize,
+        seconds: u32,
         limit: u32,
     ) -> u64;
     pub fn lfat_append(
@@ -26,6 +28,7 @@ extern "C" {
         name_len: usize,
         data: *const u8,
         data_len: usize,
+        seconds: u32,
         limit: u32,
     ) -> u64;
     pub fn lfat_replace(
@@ -35,6 +38,7 @@ extern "C" {
         name_len: usize,
         data: *const u8,
         data_len: usize,
+        seconds: u32,
         limit: u32,
     ) -> u64;
     pub fn lfat_truncate(
@@ -43,6 +47,7 @@ extern "C" {
         name: *const u8,
         name_len: usize,
         size: u64,
+        seconds: u32,
         limit: u32,
     ) -> u64;
     pub fn lfat_delete(

@@ -5,7 +5,7 @@ use std::fmt;
 use std::io::{self, ErrorKind};
 
 /// The grounds on which a call refuses, in checking order. There may be more of them later. Numbers stay as they were first
-/// given, so those of LOCKED and LONGNAME are the highest.
+/// given, so those of LOCKED, LONGNAME and CLOCK are the highest.
 #[derive(Clone, Copy, Debug, PartialEq, Eq)]
 #[non_exhaustive]
 pub enum Refusal {
@@ -19,10 +19,12 @@ pub enum Refusal {
     Logarea,
     /// A root slot after the first unused one is in use.
     Root,
-    /// The pending log records are not one group.
+    /// The pending log records are not one group; nor is one that is pending from before groups had dates.
     Record,
     /// A log record is pending or the FATs differ: recover first.
     Unclean,
+    /// The time is before 1980 or after 2107.
+    Clock,
     /// The name breaks the rule for names of 8 and 3 characters.
     Name,
     /// The long name has no characters, more than 208 or a forbidden one.
@@ -48,7 +50,7 @@ pub enum Refusal {
 }
 
 /// The refusals by number, from 1 on.
-const BY_NUMBER: [Refusal; 17] = [
+const BY_NUMBER: [Refusal; 18] = [
     Refusal::Short,
     Refusal::Boot,
     Refusal::Window,
@@ -66,6 +68,7 @@ const BY_NUMBER: [Refusal; 17] = [
     Refusal::Nospace,
     Refusal::Locked,
     Refusal::Longname,
+    Refusal::Clock,
 ];
 
 impl Refusal {
@@ -116,6 +119,11 @@ impl Refusal {
             ),
             Refusal::Record => (6, "RECORD", "the pending log records are not one group"),
             Refusal::Unclean => (7, "UNCLEAN", "a log record is pending or the FATs differ"),
+            Refusal::Clock => (
+                18,
+                "CLOCK",
+                "the time is not within 1980 to 2107, the years that a card can date",
+            ),
             Refusal::Name => (
                 8,
                 "NAME",
@@ -155,7 +163,9 @@ impl Error for Refusal {}
 impl From<Refusal> for io::Error {
     fn from(refusal: Refusal) -> io::Error {
         let kind = match refusal {
-            Refusal::Name | Refusal::Longname | Refusal::Length => ErrorKind::InvalidInput,
+            Refusal::Clock | Refusal::Name | Refusal::Longname | Refusal::Length => {
+                ErrorKind::InvalidInput
+            }
             Refusal::Absent => ErrorKind::NotFound,
             Refusal::Directory => ErrorKind::IsADirectory,
             Refusal::Locked => ErrorKind::PermissionDenied,

@@ -2,8 +2,9 @@
 
 use std::io::Write;
 use std::process::{Command, Stdio};
+use testkit::dates::stamp_record;
 use testkit::random::Random;
-use testkit::ROUTE;
+use testkit::{AT, ROUTE};
 
 /// What the program prints for a log table on its standard input.
 fn printed(table: &[u8]) -> Vec<u8> {
@@ -60,6 +61,56 @@ fn sectors_that_are_led() {
                 same(&table);
                 table[1024..].fill(0);
                 same(&table);
+            }
+        }
+    }
+}
+
+/// M3's log sector after its first store and after its last: the stamp is a part.
+#[test]
+fn the_stamp_of_m3() {
+    for (limit, lines) in [
+        (
+            1,
+            "0 0 create pending ROUTE.CUT slot 0 first 0 from 0 size 0\n\
+             0 1 part pending T???????.??? slot 0 first 0 from 0 size 0\n",
+        ),
+        (
+            3,
+            "0 0 create committed ?OUTE.CUT slot 0 first 0 from 0 size 0\n\
+             0 1 part committed ????????.??? slot 0 first 0 from 0 size 0\n",
+        ),
+    ] {
+        let mut card = reference::card_k();
+        reference::create(&mut card, ROUTE, AT, limit);
+        let text = printed(&card[65 * 512..66 * 512]);
+        let expected = format!("log 1 sectors\n{lines}");
+        assert_eq!(String::from_utf8_lossy(&text), expected);
+    }
+}
+
+/// Stamps after records of all operations, with and without a long-name count, pending and committed, and elsewhere.
+#[test]
+fn stamps() {
+    for operation in 0..8 {
+        for (first, stamp) in [
+            (b'R', 0x54),
+            (0xE5, 0xE5),
+            (b'R', 0xE5),
+            (0xE5, 0x54),
+            (0, 0x54),
+        ] {
+            for count in [0, 1, 16] {
+                for place in [1, 2, 15] {
+                    let mut table = vec![0; 512];
+                    table[..11].copy_from_slice(ROUTE);
+                    table[0] = first;
+                    table[12] = count;
+                    table[13] = operation;
+                    table[32 * place..][..32].copy_from_slice(&stamp_record(AT));
+                    table[32 * place] = stamp;
+                    same(&table);
+                }
             }
         }
     }

@@ -211,8 +211,11 @@ pub unsafe extern "C" fn lfat_disk_create(
     disk: *mut Handle,
     name: *const u8,
     name_len: usize,
+    seconds: u32,
 ) -> u64 {
-    with_name(disk, (name, name_len), DiskCard::create)
+    with_name(disk, (name, name_len), |card, name| {
+        card.create(name, seconds)
+    })
 }
 
 /// # Safety
@@ -224,10 +227,13 @@ pub unsafe extern "C" fn lfat_disk_create_long(
     name_len: usize,
     chars: *const u8,
     chars_len: usize,
+    seconds: u32,
 ) -> u64 {
     let (name, chars) = ((name, name_len), (chars, chars_len));
     let what = "a name or characters of NULL";
-    with_two(disk, name, chars, what, DiskCard::create_long)
+    with_two(disk, name, chars, what, |card, name, chars| {
+        card.create_long(name, chars, seconds)
+    })
 }
 
 /// # Safety
@@ -239,9 +245,12 @@ pub unsafe extern "C" fn lfat_disk_append(
     name_len: usize,
     data: *const u8,
     data_len: usize,
+    seconds: u32,
 ) -> u64 {
     let (name, data) = ((name, name_len), (data, data_len));
-    with_two(disk, name, data, NAME_OR_DATA, DiskCard::append)
+    with_two(disk, name, data, NAME_OR_DATA, |card, name, data| {
+        card.append(name, data, seconds)
+    })
 }
 
 /// # Safety
@@ -253,9 +262,12 @@ pub unsafe extern "C" fn lfat_disk_replace(
     name_len: usize,
     data: *const u8,
     data_len: usize,
+    seconds: u32,
 ) -> u64 {
     let (name, data) = ((name, name_len), (data, data_len));
-    with_two(disk, name, data, NAME_OR_DATA, DiskCard::replace)
+    with_two(disk, name, data, NAME_OR_DATA, |card, name, data| {
+        card.replace(name, data, seconds)
+    })
 }
 
 /// # Safety
@@ -266,9 +278,10 @@ pub unsafe extern "C" fn lfat_disk_truncate(
     name: *const u8,
     name_len: usize,
     size: u64,
+    seconds: u32,
 ) -> u64 {
     with_name(disk, (name, name_len), |card, name| {
-        card.truncate(name, size)
+        card.truncate(name, size, seconds)
     })
 }
 

@@ -27,7 +27,8 @@ pub struct Opening<'a> {
     pub wait: Wait<'a>,
 }
 
-/// A card on a disk, open for this program alone. Calls that change it give the number of stores made.
+/// A card on a disk, open for this program alone. Calls that change it give the number of stores made. Those that date a file take
+/// the seconds since 1980 began, as `lfat_card::DateTime` has them.
 pub struct DiskCard<D = Part<Box<dyn Disk>>, L = Planned> {
     disk: D,
     lists: L,
@@ -128,28 +129,53 @@ impl<D: Disk, L: Lists> DiskCard<D, L> {
     }
 
     /// Makes an empty file.
-    pub fn create(&mut self, name: &[u8]) -> Result<u32, Error> {
-        self.save(&[Operation::Create { name }], NO_LIMIT)
+    pub fn create(&mut self, name: &[u8], seconds: u32) -> Result<u32, Error> {
+        self.save(&[Operation::Create { name, seconds }], NO_LIMIT)
     }
 
     /// Makes an empty file with a short name and a long one, of 16-bit characters as bytes, two each.
-    pub fn create_long(&mut self, name: &[u8], characters: &[u8]) -> Result<u32, Error> {
-        self.save(&[Operation::CreateLong { name, characters }], NO_LIMIT)
+    pub fn create_long(
+        &mut self,
+        name: &[u8],
+        characters: &[u8],
+        seconds: u32,
+    ) -> Result<u32, Error> {
+        let create = Operation::CreateLong {
+            name,
+            characters,
+            seconds,
+        };
+        self.save(&[create], NO_LIMIT)
     }
 
     /// Adds bytes at the end of a file.
-    pub fn append(&mut self, name: &[u8], data: &[u8]) -> Result<u32, Error> {
-        self.save(&[Operation::Append { name, data }], NO_LIMIT)
+    pub fn append(&mut self, name: &[u8], data: &[u8], seconds: u32) -> Result<u32, Error> {
+        let append = Operation::Append {
+            name,
+            data,
+            seconds,
+        };
+        self.save(&[append], NO_LIMIT)
     }
 
     /// Saves over a file: it then has these bytes and no others. A cut leaves the old bytes or the new ones, whole.
-    pub fn replace(&mut self, name: &[u8], data: &[u8]) -> Result<u32, Error> {
-        self.save(&[Operation::Replace { name, data }], NO_LIMIT)
+    pub fn replace(&mut self, name: &[u8], data: &[u8], seconds: u32) -> Result<u32, Error> {
+        let replace = Operation::Replace {
+            name,
+            data,
+            seconds,
+        };
+        self.save(&[replace], NO_LIMIT)
     }
 
     /// Shortens a file.
-    pub fn truncate(&mut self, name: &[u8], size: u64) -> Result<u32, Error> {
-        self.save(&[Operation::Truncate { name, size }], NO_LIMIT)
+    pub fn truncate(&mut self, name: &[u8], size: u64, seconds: u32) -> Result<u32, Error> {
+        let truncate = Operation::Truncate {
+            name,
+            size,
+            seconds,
+        };
+        self.save(&[truncate], NO_LIMIT)
     }
 
     /// Removes a file, with the entries of its long name, and frees its clusters. [`crate::InUse`] tells which name that was.

@@ -1,7 +1,7 @@
 //! Entries of the root directory, with the slots that they stand in.
 
 use crate::layout::get32;
-use lfat_card::{printed, Name};
+use lfat_card::{printed, Date, DateTime, Name};
 
 /// The bytes of an entry.
 pub const ENTRY: usize = 32;
@@ -47,6 +47,21 @@ impl Entry {
     /// Whether it is marked read-only.
     pub fn is_read_only(&self) -> bool {
         self.attributes() & READ_ONLY != 0
+    }
+
+    /// When it was created, if it has a date and a time there.
+    pub fn created(&self) -> Option<DateTime> {
+        lfat_card::Entry(self.bytes).created()
+    }
+
+    /// When it was last written, if it has a date and a time there.
+    pub fn written(&self) -> Option<DateTime> {
+        lfat_card::Entry(self.bytes).written()
+    }
+
+    /// The day on which it was last used, if it has a date there.
+    pub fn accessed(&self) -> Option<Date> {
+        lfat_card::Entry(self.bytes).accessed()
     }
 
     /// The bytes of the file.

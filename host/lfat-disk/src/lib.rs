@@ -5,14 +5,15 @@
 //! or as it was to be, once the card is recovered.
 //!
 //! ```no_run
-//! use lfat_disk::{Access, DiskCard};
+//! use lfat_disk::{clock, Access, DiskCard};
 //!
+//! let seconds = clock::now()?.seconds()?;
 //! let mut card = DiskCard::open("/dev/sdX".as_ref(), Access::Write)?;
 //! card.recover()?;
-//! card.create(b"ROUTE   CUT")?;
-//! card.append(b"ROUTE   CUT", b"G0\n")?;
-//! card.replace(b"ROUTE   CUT", b"G1 X9\n")?;
-//! # Ok::<(), lfat_disk::Error>(())
+//! card.create(b"ROUTE   CUT", seconds)?;
+//! card.append(b"ROUTE   CUT", b"G0\n", seconds)?;
+//! card.replace(b"ROUTE   CUT", b"G1 X9\n", seconds)?;
+//! # Ok::<(), Box<dyn std::error::Error>>(())
 //! ```
 //!
 //! Where to look:
@@ -21,6 +22,7 @@
 //! - `disk`, `partition`: images, block devices, partitions;
 //! - `window`, `memory`, `areas`: the card in memory, of which only a part is read;
 //! - `layout`, `volume`, `entry`, `long_name`: looking into a card;
+//! - `clock`: the time of this machine, by which files are dated;
 //! - `c`: the C interface, `include/lfat_disk.h`.
 
 #![deny(missing_docs)]
@@ -28,6 +30,7 @@
 pub mod areas;
 mod c;
 mod card;
+pub mod clock;
 pub mod disk;
 pub mod entry;
 mod error;

@@ -37,13 +37,27 @@ impl Lists for Planned {}
 /// Makes a call of the library, with at most so many stores.
 pub fn call(card: &mut [u8], operation: &Operation, limit: u32) -> Answer {
     match *operation {
-        Operation::Create { name } => calls::create(card, name, limit),
-        Operation::CreateLong { name, characters } => {
-            calls::create_long(card, name, characters, limit)
-        }
-        Operation::Append { name, data } => calls::append(card, name, data, limit),
-        Operation::Replace { name, data } => calls::replace(card, name, data, limit),
-        Operation::Truncate { name, size } => calls::truncate(card, name, size, limit),
+        Operation::Create { name, seconds } => calls::create(card, name, seconds, limit),
+        Operation::CreateLong {
+            name,
+            characters,
+            seconds,
+        } => calls::create_long(card, name, characters, seconds, limit),
+        Operation::Append {
+            name,
+            data,
+            seconds,
+        } => calls::append(card, name, data, seconds, limit),
+        Operation::Replace {
+            name,
+            data,
+            seconds,
+        } => calls::replace(card, name, data, seconds, limit),
+        Operation::Truncate {
+            name,
+            size,
+            seconds,
+        } => calls::truncate(card, name, size, seconds, limit),
         Operation::Delete { name } => calls::delete(card, name, limit),
         Operation::Rename { old, new } => calls::rename(card, old, new, limit),
         Operation::Recover => calls::recover(card, limit),

@@ -28,6 +28,10 @@ const LIMIT: Options = Options {
     valued: &["--limit"],
     plain: &[],
 };
+const DATED: Options = Options {
+    valued: &["--limit", "--at"],
+    plain: &[],
+};
 const LIMIT_JSON: Options = Options {
     valued: LIMIT.valued,
     plain: JSON.plain,
@@ -54,10 +58,13 @@ pub static COMMANDS: [Command; 13] = [
     Command {
         name: "ls",
         words: &["IMAGE"],
-        more: "[--json]",
-        about: "list the root directory: sizes, names and read-only marks",
+        more: "[-l] [--json]",
+        about: "list the root directory: sizes, names and read-only marks; with -l dates too",
         details: help::LS,
-        options: JSON,
+        options: Options {
+            valued: &[],
+            plain: &["--json", "-l"],
+        },
         run: reading::ls,
     },
     Command {
@@ -84,11 +91,11 @@ pub static COMMANDS: [Command; 13] = [
     Command {
         name: "put",
         words: &["IMAGE", "NAME", "FILE"],
-        more: "[--replace] [--limit N]",
+        more: "[--replace] [--at TIME] [--limit N]",
         about: "save a file of this machine under a new name, or over an old file",
         details: help::PUT,
         options: Options {
-            valued: LIMIT.valued,
+            valued: DATED.valued,
             plain: &["--replace", "-f"],
         },
         run: writing::put,
@@ -96,19 +103,19 @@ pub static COMMANDS: [Command; 13] = [
     Command {
         name: "append",
         words: &["IMAGE", "NAME", "FILE"],
-        more: "[--limit N]",
+        more: "[--at TIME] [--limit N]",
         about: "add a file of this machine to the end of one on the card",
         details: "FILE may be - for standard input.\n",
-        options: LIMIT,
+        options: DATED,
         run: writing::append,
     },
     Command {
         name: "truncate",
         words: &["IMAGE", "NAME", "SIZE"],
-        more: "[--limit N]",
+        more: "[--at TIME] [--limit N]",
         about: "shorten a file to SIZE bytes",
         details: "",
-        options: LIMIT,
+        options: DATED,
         run: writing::truncate,
     },
     Command {
@@ -143,7 +150,7 @@ pub static COMMANDS: [Command; 13] = [
         words: &["IMAGE"],
         more: "[--raw | --json]",
         about: "list the card's log, record by record",
-        details: "  --raw       write the log table itself, for the program loglist\n",
+        details: help::LOG,
         options: Options {
             valued: &[],
             plain: &["--raw", "--json"],
@@ -162,11 +169,11 @@ pub static COMMANDS: [Command; 13] = [
     Command {
         name: "rack",
         words: &["IMAGE", "OPERATION"],
-        more: "... [--svg FILE] [--depth N] [--random N] [--seed N] [--break[=I,J]] [--json]",
+        more: "... [--at TIME] [--svg FILE] [--depth N] [--random N] [--seed N] [--break[=I,J]] [--json]",
         about: "pull the plug at every store of an operation, recover, and check what is left",
         details: help::RACK,
         options: Options {
-            valued: &["--svg", "--depth", "--random", "--seed", "--break"],
+            valued: &["--at", "--svg", "--depth", "--random", "--seed", "--break"],
             plain: &["--break", "--json"],
         },
         run: rack::rack,

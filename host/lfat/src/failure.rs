@@ -68,10 +68,12 @@ fn advice(refusal: Refusal) -> &'static str {
              card that 'lfat blank' made."
         }
         Refusal::Record => {
-            "The log is damaged, so recovery cannot tell what to finish. 'lfat log' shows it. Copy the files off with any FAT \
-             program, and put them on a card that 'lfat blank' made."
+            "If the card was cut before lfat was updated to one that dates files, recover it with the lfat of then. Else the log is \
+             damaged, so recovery cannot tell what to finish; 'lfat log' shows it. Copy the files off with any FAT program, and put \
+             them on a card that 'lfat blank' made."
         }
         Refusal::Unclean => "A save was cut short. Run 'lfat recover' first.",
+        Refusal::Clock => "Give the time as --at 2026-11-17T19:30:58.",
         Refusal::Name => {
             "A name has 1 to 8 characters, then perhaps a dot and 1 to 3 more, as ROUTE.CUT: \
              capital letters, digits and ! # $ % & ' ( ) - @ ^ _ ` { } ~"

@@ -14,7 +14,10 @@ pub const LS: &str = "\
 A file whose name no rule allows, or has twice, is shown with its slot, as slot:3: get, rm and mv take that for its name.
 A file marked read-only is shown as (read-only) after its name: get reads it, commands that would change it refuse it.
 A long name is shown last, in quotes; commands take it for the file's name, if no other file has it.
-  --json      one JSON object: entries, each with slot, name, long_name (null for none), size, directory, attributes, read_only
+  -l          also the date and time of the last write, as 2026-11-17 19:30:58, before the name; - for what is no date. The files
+              are in the order of their slots: sort -k2,3 has them in the order of their dates
+  --json      one JSON object: entries, each with slot, name, long_name (null for none), size, directory, attributes, read_only,
+              created, written (as 2026-11-17T19:30:58) and accessed (as 2026-11-17), null for what is no date
 ";
 
 pub const GET: &str = "\
@@ -54,7 +57,19 @@ both are granted: after a power cut and a recovery there is no such file, an emp
 ";
 
 pub const RECOVER: &str = "\
-A save whose log record is on the card is finished; any other is dropped, and every file is as before it.
+A save whose log record is on the card is finished, with the date that it was begun with; any other is dropped, and every file is as
+before it. Before an update from an lfat that does not date files, recover all cards with that one: its records are not taken here.
+";
+
+pub const LOG: &str = "\
+  --raw       write the log table itself, for the program loglist
+  --json      one JSON object: sectors, records, each with what its line shows, long_entries, and stamp, the time that the operation
+              gives its file, from the record after its own (null for none)
+";
+
+const AT: &str = "\
+The file is dated by the clock of this machine, in local time (TZ); appending nothing and truncating to the present size set no date.
+  --at TIME   the time instead, as 2026-11-17T19:30:58, from 1980 to 2107; a card holds even seconds, an odd one is rounded down
 ";
 
 const LIMIT: &str =
@@ -73,6 +88,7 @@ rm NAME, mv OLD NEW. Names may be long, but for NEW.
 The card is only read. Each cut is followed by recoveries, cut in turn, until one ends; then both FATs, the root
 directory and all files must be as before the operation (old) or, if the log record was on the card, as after it (new).
 Of more than 4,096 stores of data, cuts are tried in 2,048 places.
+  --at TIME   the time that dates the file, as 2026-11-17T19:30:58, instead of the clock's; rm and mv date nothing
   --svg FILE  draw the cuts, coloured by outcome
   --depth N   cut N recoveries in a row in every place (2)
   --random N  also try N random sequences of cut recoveries after each cut (16)
@@ -84,16 +100,19 @@ Of more than 4,096 stores of data, cuts are tried in 2,048 places.
 
 impl Command {
     pub fn help(&self) -> String {
-        let limit = match self.options.valued {
-            ["--limit"] => LIMIT,
-            _ => "",
+        let has = |option| self.options.valued.contains(&option);
+        let limit = if has("--limit") { LIMIT } else { "" };
+        let at = if has("--limit") && has("--at") {
+            AT
+        } else {
+            ""
         };
         let card = match self.name {
             "blank" => "",
             _ => CARD,
         };
         format!(
-            "usage: lfat {}\n\n{}\n{}{limit}{card}",
+            "usage: lfat {}\n\n{}\n{}{at}{limit}{card}",
             self.usage(),
             self.about,
             self.details
@@ -112,6 +131,7 @@ pub fn overview() -> String {
     text + "\n'lfat COMMAND --help' says more; 'lfat --version' the version. -- ends the options.\n\
          IMAGE is an image, a block device such as /dev/sdX, or IMAGE:N for a partition. Names are as ROUTE.CUT, in capitals, or long ones.\n\
          Files marked read-only, which ls shows, can be read; they are not changed, renamed or removed.\n\
+         put, append and truncate date a file by this machine's clock, or by --at; ls -l shows the dates.\n\
          Exit status: 0 done; 1 refused, stopped, a mismatch or no; 2 wrong usage; 3 a file or the card could not be used;\n\
          4 list and library disagree, nothing written; 5 the disk failed in mid-save: recover the card.\n"
 }

@@ -27,6 +27,11 @@ pub fn array(values: impl IntoIterator<Item = String>) -> String {
     format!("[{}]", values.into_iter().collect::<Vec<_>>().join(", "))
 }
 
+/// A date, or a date and time, that may be missing.
+pub fn time(time: Option<impl Display>) -> String {
+    optional(time.map(|time| text(&time.to_string())))
+}
+
 /// A value that may be missing.
 pub fn optional(value: Option<impl Display>) -> String {
     value.map_or("null".to_string(), |value| value.to_string())

@@ -2,11 +2,13 @@
 //!
 //! - `commands`, `help`, `args`, `failure`, `remedy`: the command line itself;
 //! - `naming`, `short_name`: files by the names that users give, and names for new ones;
-//! - `target`, `source`, `output`, `progress`, `json`: the card it is given, files of this machine, what is printed;
+//! - `target`, `source`, `at`: the card it is given, files of this machine, the time;
+//! - `output`, `progress`, `json`: what is printed;
 //! - `reading`, `fits`, `writing`, `ended`, `blank`, `listing`: what the commands do;
 //! - `rack`: the test rack.
 
 pub mod args;
+mod at;
 pub mod blank;
 pub mod commands;
 mod ended;

@@ -1,7 +1,7 @@
 //! The text of a log, line by line the same as that of the proved program `loglist`.
 
 use crate::json;
-use lfat_card::printed;
+use lfat_card::{printed, DateTime};
 use lfat_disk::layout::{get16, get32, SECTOR};
 
 const MOST_BYTES: usize = 65_536;
@@ -9,24 +9,29 @@ const RECORD: usize = 32;
 const UNUSED: u8 = 0;
 const COMMITTED: u8 = 0xE5;
 const CREATE: u8 = 1;
+/// Create, update, truncate and replace, whose groups have a stamp.
+const DATED: [u8; 4] = [CREATE, 2, 4, 6];
 
 /// A record of the log, with its place.
 pub struct Record<'a> {
     sector: usize,
     index: usize,
     bytes: &'a [u8],
+    /// The record after it, if the sector has one.
+    next: Option<&'a [u8]>,
 }
 
 /// The records of a log table that are in use.
 pub fn records(table: &[u8]) -> impl Iterator<Item = Record<'_>> {
     let sectors = table.chunks_exact(SECTOR).enumerate();
-    let records = sectors.flat_map(|(sector, bytes)| {
-        let listed = if is_led(bytes) { 1 } else { SECTOR / RECORD };
-        let records = bytes.chunks_exact(RECORD).enumerate().take(listed);
+    let records = sectors.flat_map(|(sector, whole)| {
+        let listed = if is_led(whole) { 1 } else { SECTOR / RECORD };
+        let records = whole.chunks_exact(RECORD).enumerate().take(listed);
         records.map(move |(index, bytes)| Record {
             sector,
             index,
             bytes,
+            next: whole.chunks_exact(RECORD).nth(index + 1),
         })
     });
     records.filter(|record| record.bytes[0] != UNUSED)
@@ -70,6 +75,17 @@ impl Record<'_> {
         self.bytes[12]
     }
 
+    /// The time that the operation gives its file, if it has a proper one: it stands in the record after its own, which has the
+    /// first byte of a stamp or of a commit mark, and zeros elsewhere.
+    pub fn stamp(&self) -> Option<DateTime> {
+        let is_dated = self.index == 0 && DATED.contains(&self.bytes[13]);
+        let stamp = self.next.filter(|next| {
+            let mut others = next[1..14].iter().chain(&next[18..]);
+            is_dated && next[0] != UNUSED && others.all(|&byte| byte == 0)
+        })?;
+        DateTime::from_fat(get16(stamp, 16) as u16, get16(stamp, 14) as u16)
+    }
+
     fn state(&self) -> &'static str {
         match self.is_pending() {
             true => "pending",
@@ -109,6 +125,7 @@ impl Record<'_> {
             ("first", &self.first()),
             ("from", &get32(self.bytes, 22)),
             ("size", &get32(self.bytes, 28)),
+            ("stamp", &json::time(self.stamp())),
         ])
     }
 }

@@ -3,7 +3,7 @@
 use crate::failure::Failure;
 use crate::target::{Target, Which};
 use lfat_card::{LongName, Name, Refusal};
-use lfat_disk::{DiskCard, Entry, Named};
+use lfat_disk::{DiskCard, Entry, Named, Operation};
 use std::ffi::OsStr;
 
 /// A file on the card in a user's words.
@@ -167,6 +167,18 @@ pub fn new_file(known: &Known, text: &str) -> Result<(Name, Option<LongName>), F
         Err(_) => known.short_for(text)?,
     };
     Ok((name, long))
+}
+
+/// The call that makes a new file, with a long name or without.
+pub fn create<'a>(name: &'a [u8], long: Option<&'a LongName>, seconds: u32) -> Operation<'a> {
+    match long {
+        None => Operation::Create { name, seconds },
+        Some(long) => Operation::CreateLong {
+            name,
+            characters: long.bytes(),
+            seconds,
+        },
+    }
 }
 
 /// A new long name, and what is wrong with it if it breaks the rule.

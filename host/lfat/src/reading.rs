@@ -1,6 +1,7 @@
 //! The commands that only read a card.
 
 use crate::args::Args;
+use crate::at::shown;
 use crate::failure::Failure;
 use crate::naming::{one_line, Given};
 use crate::output::{print, Output};
@@ -35,6 +36,7 @@ pub fn ls(mut args: Args) -> Result<(), Failure> {
         let entries = json::array(entries.iter().map(entry_json));
         return print((json::object(&[("entries", &entries)]) + "\n").as_bytes());
     }
+    let with_dates = args.has("-l");
     let mut text = String::new();
     for (index, named) in entries.iter().enumerate() {
         let entry = &named.entry;
@@ -54,7 +56,11 @@ pub fn ls(mut args: Args) -> Result<(), Failure> {
         };
         let long = named.long_name().map(|long| one_line(&long));
         let long = long.map_or(String::new(), |long| format!("  '{long}'"));
-        text += &format!("{size:>10}  {}{slot}{mark}{long}\n", entry.name());
+        let date = match with_dates {
+            true => format!("{:<19}  ", entry.written().map_or("-".to_string(), shown)),
+            false => String::new(),
+        };
+        text += &format!("{size:>10}  {date}{}{slot}{mark}{long}\n", entry.name());
     }
     print(text.as_bytes())
 }
@@ -70,6 +76,9 @@ fn entry_json(named: &Named) -> String {
         ("directory", &entry.is_directory()),
         ("attributes", &entry.attributes()),
         ("read_only", &entry.is_read_only()),
+        ("created", &json::time(entry.created())),
+        ("written", &json::time(entry.written())),
+        ("accessed", &json::time(entry.accessed())),
     ])
 }
 

@@ -1,6 +1,7 @@
 //! The commands that change a card.
 
 use crate::args::{number, Args};
+use crate::at::{shown, At};
 use crate::blank::Blank;
 use crate::ended::Ended;
 use crate::failure::Failure;
@@ -22,6 +23,7 @@ struct Opened {
     target: Target,
     card: DiskCard,
     limit: u32,
+    at: At,
 }
 
 impl Opened {
@@ -29,6 +31,7 @@ impl Opened {
     fn new(target: Target, args: &Args) -> Result<Opened, Failure> {
         args.end()?;
         let limit = args.number("--limit", u32::MAX)?;
+        let at = At::of(args)?;
         let mut card = target.open(args, Access::Write)?;
         let mut progress = Progress::new("sector");
         card.on_progress(move |made, count| progress.step(made, count));
@@ -36,6 +39,7 @@ impl Opened {
             target,
             card,
             limit,
+            at,
         })
     }
 
@@ -52,9 +56,10 @@ impl Opened {
         }
     }
 
-    /// The names on the card.
-    fn known(&mut self) -> Result<Known, Failure> {
-        Known::on(&self.target, &mut self.card)
+    /// The names on the card, and the seconds that date what is saved, one number for all calls of a command.
+    fn known(&mut self) -> Result<(Known, u32), Failure> {
+        let known = Known::on(&self.target, &mut self.card)?;
+        Ok((known, self.at.seconds()?))
     }
 
     /// Makes a call on a file.
@@ -117,7 +122,7 @@ fn with_file(mut args: Args) -> Result<(Opened, String, Source), Failure> {
 pub fn put(args: Args) -> Result<(), Failure> {
     let may_replace = args.has("--replace") || args.has("-f");
     let (mut opened, text, source) = with_file(args)?;
-    let known = opened.known()?;
+    let (known, seconds) = opened.known()?;
     let there = match known.lookup(&text) {
         Found::None => None,
         Found::One(entry) => Some(*entry),
@@ -125,8 +130,8 @@ pub fn put(args: Args) -> Result<(), Failure> {
     };
     let data = source.bytes();
     match there {
-        None => opened.put_new(&known, &text, data),
-        Some(_) if may_replace => opened.put_over(known.find_name(&text)?, data),
+        None => opened.put_new(&known, &text, data, seconds),
+        Some(_) if may_replace => opened.put_over(known.find_name(&text)?, data, seconds),
         Some(entry) => {
             let advice = opened.remedy().taken(&entry, &one_line(&text));
             Err(Failure::Refused(Refusal::Exists, advice))
@@ -136,34 +141,38 @@ pub fn put(args: Args) -> Result<(), Failure> {
 
 impl Opened {
     /// Saves bytes under a new name, and tells which short name a long one got.
-    fn put_new(&mut self, known: &Known, text: &str, data: &[u8]) -> Result<(), Failure> {
-        let (name, long) = naming::new_file(known, text)?;
-        let name_bytes = name.bytes();
+    fn put_new(
+        &mut self,
+        known: &Known,
+        text: &str,
+        data: &[u8],
+        seconds: u32,
+    ) -> Result<(), Failure> {
+        let (given, long) = naming::new_file(known, text)?;
+        let name = given.bytes();
         let append = Operation::Append {
-            name: name_bytes,
+            name,
             data,
+            seconds,
         };
-        let create = long
-            .as_ref()
-            .map_or(Operation::Create { name: name_bytes }, |long| {
-                Operation::CreateLong {
-                    name: name_bytes,
-                    characters: long.bytes(),
-                }
-            });
+        let create = naming::create(name, long.as_ref(), seconds);
         self.save(&[create, append]).map_err(with_room)?;
         match long {
             Some(long) => {
-                print(format!("'{}' is saved as {name}\n", one_line(&long.to_string())).as_bytes())
+                print(format!("'{}' is saved as {given}\n", one_line(&long.to_string())).as_bytes())
             }
             None => Ok(()),
         }
     }
 
     /// Saves bytes over a file.
-    fn put_over(&mut self, given: Name, data: &[u8]) -> Result<(), Failure> {
+    fn put_over(&mut self, given: Name, data: &[u8], seconds: u32) -> Result<(), Failure> {
         let name = given.bytes();
-        let made = self.save(&[Operation::Replace { name, data }]);
+        let made = self.save(&[Operation::Replace {
+            name,
+            data,
+            seconds,
+        }]);
         made.map(drop).map_err(|failure| match failure {
             Failure::Refused(Refusal::Nospace, _) => {
                 let old = self.remedy().entry(Which::Name(given));
@@ -194,9 +203,14 @@ const NO_ROOM: &str =
 
 pub fn append(args: Args) -> Result<(), Failure> {
     let (mut opened, given, source) = with_file(args)?;
-    let given = opened.known()?.find_name(&given)?;
-    let (name, data) = (given.bytes(), source.bytes());
-    opened.change(given, Operation::Append { name, data })
+    let (known, seconds) = opened.known()?;
+    let given = known.find_name(&given)?;
+    let append = Operation::Append {
+        name: given.bytes(),
+        data: source.bytes(),
+        seconds,
+    };
+    opened.change(given, append)
 }
 
 pub fn truncate(mut args: Args) -> Result<(), Failure> {
@@ -204,9 +218,14 @@ pub fn truncate(mut args: Args) -> Result<(), Failure> {
     let given = naming::text(&args.word("NAME")?)?;
     let size = number(&args.text("SIZE")?, "SIZE")?;
     let mut opened = Opened::new(target, &args)?;
-    let given = opened.known()?.find_name(&given)?;
-    let name = given.bytes();
-    opened.change(given, Operation::Truncate { name, size })
+    let (known, seconds) = opened.known()?;
+    let given = known.find_name(&given)?;
+    let truncate = Operation::Truncate {
+        name: given.bytes(),
+        size,
+        seconds,
+    };
+    opened.change(given, truncate)
 }
 
 pub fn rm(mut args: Args) -> Result<(), Failure> {
@@ -269,7 +288,13 @@ fn pending(card: &DiskCard) -> Option<String> {
         0 => "",
         _ => " with its long name",
     };
-    Some(format!("{} {}{long}", record.operation(), record.name()))
+    let dated = record.stamp().map(|at| format!(", dated {}", shown(at)));
+    Some(format!(
+        "{} {}{long}{}",
+        record.operation(),
+        record.name(),
+        dated.unwrap_or_default()
+    ))
 }
 
 pub fn blank(mut args: Args) -> Result<(), Failure> {

@@ -3,7 +3,8 @@
 use std::fmt;
 
 /// Why a call refused, by number. The numbers give the checking order, but for
-/// LOCKED, which is asked right after DIRECTORY, and LONGNAME, right after NAME.
+/// LOCKED, which is asked right after DIRECTORY, LONGNAME, right after NAME, and
+/// CLOCK, right after UNCLEAN.
 #[derive(Clone, Copy, Debug, PartialEq, Eq, PartialOrd, Ord, Hash)]
 pub enum Ground {
     Short = 1,
@@ -23,11 +24,12 @@ pub enum Ground {
     Nospace,
     Locked,
     Longname,
+    Clock,
 }
 
 impl Ground {
     /// All grounds, by number.
-    pub const ALL: [Ground; 17] = [
+    pub const ALL: [Ground; 18] = [
         Ground::Short,
         Ground::Boot,
         Ground::Window,
@@ -45,9 +47,10 @@ impl Ground {
         Ground::Nospace,
         Ground::Locked,
         Ground::Longname,
+        Ground::Clock,
     ];
 
-    /// The ground's number in the requirements, 1 to 17.
+    /// The ground's number in the requirements, 1 to 18.
     pub fn number(self) -> u32 {
         self as u32
     }
@@ -72,6 +75,7 @@ impl Ground {
             Ground::Nospace => "NOSPACE",
             Ground::Locked => "LOCKED",
             Ground::Longname => "LONGNAME",
+            Ground::Clock => "CLOCK",
         }
     }
 }

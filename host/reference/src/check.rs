@@ -1,6 +1,7 @@
-//! Grounds 1 to 7: the judging of a card.
+//! Grounds 1 to 7: the judging of a card. Ground 18: the judging of the clock.
 
 use crate::answer::Ground;
+use crate::calendar::{stamp, Stamp};
 use crate::journal::{scan, Journal, PendingGroup};
 use crate::root::ends_once;
 use crate::volume::Volume;
@@ -31,4 +32,11 @@ pub fn clean(window: &[u8]) -> Result<Mounted<'_>, Ground> {
         return Err(Ground::Unclean);
     }
     Ok(mounted)
+}
+
+/// Grounds 1 to 7 and 18, CLOCK: the card, and what its files are stamped with.
+pub fn clean_at(window: &[u8], seconds: u32) -> Result<(Mounted<'_>, Stamp), Ground> {
+    let card = clean(window)?;
+    let stamp = stamp(seconds).ok_or(Ground::Clock)?;
+    Ok((card, stamp))
 }

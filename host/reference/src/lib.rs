@@ -6,7 +6,8 @@
 //! from the card as it stands, then makes the first `limit` of them.
 //!
 //! Where to look:
-//! - `check`: grounds 1 to 7, which judge the card;
+//! - `check`: grounds 1 to 7, which judge the card, and 18, which judges the clock;
+//! - `calendar`: the dates and times of a number of seconds;
 //! - `lookup`: grounds 8 to 10, 13 and 16, which judge a name and its file;
 //! - `long_entries`: the entries of a long name that go with its slot;
 //! - `long_name`: its characters, written and read;
@@ -23,6 +24,7 @@
 mod answer;
 mod builder;
 mod bytes;
+mod calendar;
 mod chain;
 mod check;
 mod data;
@@ -48,6 +50,7 @@ mod volume;
 
 pub use answer::{Answer, Ground};
 pub use builder::{card_k, CardSpec};
+pub use calendar::{stamp, Stamp};
 pub use geometry::Geometry;
 pub use inspect::{file_bytes, file_chain, free_clusters, is_sound};
 pub use listing::log_listing;

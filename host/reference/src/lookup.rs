@@ -1,6 +1,7 @@
 //! Finding a file by its name: grounds 8 to 10, 13 and 16.
 
 use crate::answer::Ground;
+use crate::calendar::Stamp;
 use crate::chain;
 use crate::check::{self, Mounted};
 use crate::journal::Record;
@@ -122,20 +123,29 @@ pub struct Opened<'a> {
 
 /// A file to be read: grounds 1 to 10 and 13.
 pub fn open_to_read<'a>(card: &'a [u8], name: &[u8]) -> Result<Opened<'a>, Ground> {
-    open(card, name, Found::readable)
+    open(check::clean(card)?, name, Found::readable)
 }
 
-/// A file to be changed: grounds 1 to 10, 16 and 13.
-pub fn open_to_write<'a>(card: &'a [u8], name: &[u8]) -> Result<Opened<'a>, Ground> {
-    open(card, name, Found::writable)
+/// A file to be removed: grounds 1 to 10, 16 and 13.
+pub fn open_to_remove<'a>(card: &'a [u8], name: &[u8]) -> Result<Opened<'a>, Ground> {
+    open(check::clean(card)?, name, Found::writable)
+}
+
+/// A file to be changed, with its new stamp: grounds 1 to 7, 18, 8 to 10, 16 and 13.
+pub fn open_to_write<'a>(
+    card: &'a [u8],
+    name: &[u8],
+    seconds: u32,
+) -> Result<(Opened<'a>, Stamp), Ground> {
+    let (card, stamp) = check::clean_at(card, seconds)?;
+    Ok((open(card, name, Found::writable)?, stamp))
 }
 
 fn open<'a>(
-    card: &'a [u8],
+    card: Mounted<'a>,
     name: &[u8],
     granted: fn(Found) -> Result<File, Ground>,
 ) -> Result<Opened<'a>, Ground> {
-    let card = check::clean(card)?;
     let file = granted(Found::by_name(&card.volume, &name::parse(name)?))?;
     let chain = file.chain(&card.volume)?;
     Ok(Opened { card, file, chain })

@@ -1,6 +1,7 @@
 //! What an operation does to the root directory.
 
 use crate::bytes::{put16, put32};
+use crate::calendar::Stamp;
 use crate::long_name;
 use crate::name::Name;
 use crate::root::{slot, DELETED, SLOTS_PER_SECTOR, SLOT_BYTES};
@@ -9,8 +10,13 @@ use crate::volume::Volume;
 
 /// The attributes of a created file.
 pub const ARCHIVE: u8 = 0x20;
-/// 1 January 1980.
-const FIRST_DATE: u16 = 0x0021;
+
+// Where dates and times stand in a slot.
+const CREATION_TIME: usize = 14;
+const CREATION_DATE: usize = 16;
+const ACCESS_DATE: usize = 18;
+const WRITE_TIME: usize = 22;
+const WRITE_DATE: usize = 24;
 
 type SlotBytes = [u8; SLOT_BYTES];
 
@@ -20,28 +26,29 @@ pub enum RootChange {
     Create {
         slot: usize,
         name: Name,
+        stamp: Stamp,
     },
     /// The slot, and the long slots of the characters directly before it.
     CreateLong {
         slot: usize,
         name: Name,
         characters: Vec<u16>,
+        stamp: Stamp,
     },
     /// Append. The first cluster is given only where the file was empty.
     Update {
         slot: usize,
         size: u32,
         first_cluster: Option<u16>,
+        stamp: Stamp,
     },
     Truncate {
         slot: usize,
         size: u32,
+        stamp: Stamp,
     },
     /// With the slots directly before it, so many.
-    Delete {
-        slot: usize,
-        long_entries: usize,
-    },
+    Delete { slot: usize, long_entries: usize },
     /// With the slots directly before the old one, so many.
     Rename {
         old_slot: usize,
@@ -53,6 +60,7 @@ pub enum RootChange {
         slot: usize,
         first_cluster: u16,
         size: u32,
+        stamp: Stamp,
     },
 }
 
@@ -89,25 +97,27 @@ impl RootChange {
     /// The slots concerned, with their new bytes.
     fn new_slots(&self, root: &[u8]) -> Vec<(usize, SlotBytes)> {
         match *self {
-            RootChange::Create { slot, name } => vec![(slot, created(&name))],
+            RootChange::Create { slot, name, stamp } => vec![(slot, created(&name, stamp))],
             RootChange::CreateLong {
                 slot,
                 name,
                 ref characters,
+                stamp,
             } => {
                 let mut entries = long_name::entries(&name, characters);
                 let first = slot - entries.len();
-                entries.push(created(&name));
+                entries.push(created(&name, stamp));
                 (first..).zip(entries).collect()
             }
             RootChange::Update {
                 slot,
                 size,
                 first_cluster,
-            } => vec![(slot, resized(root, slot, size, first_cluster))],
-            RootChange::Truncate { slot, size } => {
+                stamp,
+            } => vec![(slot, changed(root, slot, size, first_cluster, stamp))],
+            RootChange::Truncate { slot, size, stamp } => {
                 let first_cluster = (size == 0).then_some(0);
-                vec![(slot, resized(root, slot, size, first_cluster))]
+                vec![(slot, changed(root, slot, size, first_cluster, stamp))]
             }
             RootChange::Delete { slot, long_entries } => ended(root, slot, long_entries),
             RootChange::Rename {
@@ -124,7 +134,8 @@ impl RootChange {
                 slot,
                 first_cluster,
                 size,
-            } => vec![(slot, resized(root, slot, size, Some(first_cluster)))],
+                stamp,
+            } => vec![(slot, changed(root, slot, size, Some(first_cluster), stamp))],
         }
     }
 }
@@ -135,19 +146,34 @@ fn present(root: &[u8], index: usize) -> SlotBytes {
     bytes
 }
 
-fn created(name: &Name) -> SlotBytes {
+/// All dates and times are the stamp's, the tenths 0.
+fn created(name: &Name, stamp: Stamp) -> SlotBytes {
     let mut bytes = [0; SLOT_BYTES];
     bytes[..11].copy_from_slice(name);
     bytes[11] = ARCHIVE;
-    let dates = [16, 18, 24]; // creation, access, write
-    for at in dates {
-        put16(&mut bytes, at, FIRST_DATE);
-    }
+    put16(&mut bytes, CREATION_TIME, stamp.time);
+    put16(&mut bytes, CREATION_DATE, stamp.date);
+    put_written(&mut bytes, stamp);
     bytes
 }
 
-fn resized(root: &[u8], index: usize, size: u32, first_cluster: Option<u16>) -> SlotBytes {
+/// Write time, write date and access date.
+fn put_written(bytes: &mut SlotBytes, stamp: Stamp) {
+    put16(bytes, ACCESS_DATE, stamp.date);
+    put16(bytes, WRITE_TIME, stamp.time);
+    put16(bytes, WRITE_DATE, stamp.date);
+}
+
+/// The slot as it stands, with a new size, a new stamp, and a new first cluster where one is given.
+fn changed(
+    root: &[u8],
+    index: usize,
+    size: u32,
+    first_cluster: Option<u16>,
+    stamp: Stamp,
+) -> SlotBytes {
     let mut bytes = present(root, index);
+    put_written(&mut bytes, stamp);
     if let Some(cluster) = first_cluster {
         put16(&mut bytes, 26, cluster);
     }

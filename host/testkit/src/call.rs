@@ -5,15 +5,15 @@ use lfat_card::calls;
 use reference::{Answer, Operation};
 use std::fmt;
 
-/// One of the twelve calls.
+/// One of the twelve calls. Those that set dates have the seconds last.
 #[derive(Clone)]
 pub enum Call {
-    Create(Vec<u8>),
+    Create(Vec<u8>, u32),
     /// Name, and the characters as bytes.
-    CreateLong(Vec<u8>, Vec<u8>),
-    Append(Vec<u8>, Vec<u8>),
-    Replace(Vec<u8>, Vec<u8>),
-    Truncate(Vec<u8>, u64),
+    CreateLong(Vec<u8>, Vec<u8>, u32),
+    Append(Vec<u8>, Vec<u8>, u32),
+    Replace(Vec<u8>, Vec<u8>, u32),
+    Truncate(Vec<u8>, u64, u32),
     Delete(Vec<u8>),
     Rename(Vec<u8>, Vec<u8>),
     Recover,
@@ -53,29 +53,78 @@ impl Call {
         }
     }
 
+    /// The name that the call was given, the old one of a rename.
+    pub fn name(&self) -> Option<&[u8]> {
+        match self {
+            Call::Create(name, _)
+            | Call::CreateLong(name, _, _)
+            | Call::Append(name, _, _)
+            | Call::Replace(name, _, _)
+            | Call::Truncate(name, _, _)
+            | Call::Delete(name)
+            | Call::Rename(name, _)
+            | Call::Read(name, _, _)
+            | Call::LongName(name, _) => Some(name),
+            Call::Recover | Call::List(_) | Call::Fits(_) => None,
+        }
+    }
+
+    /// The seconds that the call was given, if it sets dates.
+    pub fn seconds(&self) -> Option<u32> {
+        match *self {
+            Call::Create(_, seconds)
+            | Call::CreateLong(_, _, seconds)
+            | Call::Append(_, _, seconds)
+            | Call::Replace(_, _, seconds)
+            | Call::Truncate(_, _, seconds) => Some(seconds),
+            _ => None,
+        }
+    }
+
     /// The reference's name for a call that stores.
     pub fn operation(&self) -> Option<Operation<'_>> {
-        match self {
-            Call::Create(name) => Some(Operation::Create { name }),
-            Call::CreateLong(name, characters) => Some(Operation::CreateLong { name, characters }),
-            Call::Append(name, data) => Some(Operation::Append { name, data }),
-            Call::Replace(name, data) => Some(Operation::Replace { name, data }),
-            Call::Truncate(name, size) => Some(Operation::Truncate { name, size: *size }),
-            Call::Delete(name) => Some(Operation::Delete { name }),
-            Call::Rename(old, new) => Some(Operation::Rename { old, new }),
-            Call::Recover => Some(Operation::Recover),
-            Call::Read(..) | Call::List(..) | Call::Fits(..) | Call::LongName(..) => None,
-        }
+        let seconds = self.seconds().unwrap_or_default();
+        Some(match self {
+            Call::Create(name, _) => Operation::Create { name, seconds },
+            Call::CreateLong(name, characters, _) => Operation::CreateLong {
+                name,
+                characters,
+                seconds,
+            },
+            Call::Append(name, data, _) => Operation::Append {
+                name,
+                data,
+                seconds,
+            },
+            Call::Replace(name, data, _) => Operation::Replace {
+                name,
+                data,
+                seconds,
+            },
+            &Call::Truncate(ref name, size, _) => Operation::Truncate {
+                name,
+                size,
+                seconds,
+            },
+            Call::Delete(name) => Operation::Delete { name },
+            Call::Rename(old, new) => Operation::Rename { old, new },
+            Call::Recover => Operation::Recover,
+            Call::Read(..) | Call::List(..) | Call::Fits(..) | Call::LongName(..) => return None,
+        })
     }
 
     #[cfg(feature = "library")]
     pub fn on_library(&self, card: &mut [u8], limit: u32, buffer: &mut [u8]) -> calls::Answer {
         match self {
-            Call::Create(name) => calls::create(card, name, limit),
-            Call::CreateLong(name, characters) => calls::create_long(card, name, characters, limit),
-            Call::Append(name, data) => calls::append(card, name, data, limit),
-            Call::Replace(name, data) => calls::replace(card, name, data, limit),
-            Call::Truncate(name, size) => calls::truncate(card, name, *size, limit),
+            Call::Create(name, seconds) => calls::create(card, name, *seconds, limit),
+            Call::CreateLong(name, characters, seconds) => {
+                calls::create_long(card, name, characters, *seconds, limit)
+            }
+            Call::Append(name, data, seconds) => calls::append(card, name, data, *seconds, limit),
+            Call::Replace(name, data, seconds) => calls::replace(card, name, data, *seconds, limit),
+            Call::Truncate(name, size, seconds) => {
+                calls::truncate(card, name, *size, *seconds, limit)
+            }
             Call::Delete(name) => calls::delete(card, name, limit),
             Call::Rename(old, new) => calls::rename(card, old, new, limit),
             Call::Recover => calls::recover(card, limit),
@@ -103,14 +152,14 @@ impl fmt::Debug for Call {
         let shown = |name: &[u8]| name.escape_ascii().to_string();
         write!(f, "{}", self.word())?;
         match self {
-            Call::Create(name) | Call::Delete(name) => write!(f, " '{}'", shown(name)),
-            Call::CreateLong(name, characters) => {
+            Call::Create(name, _) | Call::Delete(name) => write!(f, " '{}'", shown(name)),
+            Call::CreateLong(name, characters, _) => {
                 write!(f, " '{}' {characters:02x?}", shown(name))
             }
-            Call::Append(name, data) | Call::Replace(name, data) => {
+            Call::Append(name, data, _) | Call::Replace(name, data, _) => {
                 write!(f, " '{}' {} bytes", shown(name), data.len())
             }
-            Call::Truncate(name, size) => write!(f, " '{}' to {size}", shown(name)),
+            Call::Truncate(name, size, _) => write!(f, " '{}' to {size}", shown(name)),
             Call::Rename(old, new) => write!(f, " '{}' '{}'", shown(old), shown(new)),
             Call::Recover => Ok(()),
             Call::Read(name, offset, room) => {
@@ -119,6 +168,10 @@ impl fmt::Debug for Call {
             Call::List(room) => write!(f, ", room {room}"),
             Call::Fits(bytes) => write!(f, " {bytes} bytes"),
             Call::LongName(name, room) => write!(f, " '{}', room {room}", shown(name)),
+        }?;
+        match self.seconds() {
+            Some(seconds) => write!(f, " at {seconds}"),
+            None => Ok(()),
         }
     }
 }

@@ -98,6 +98,12 @@ impl Card {
         &mut self.bytes[at..at + 32]
     }
 
+    /// The lowest slot that has the name.
+    pub fn slot_named(&self, name: &[u8]) -> Option<usize> {
+        let mut slots = 0..usize::from(self.spec.root_entries);
+        slots.find(|&slot| self.slot(slot)[11] & 0x08 == 0 && self.slot(slot).starts_with(name))
+    }
+
     pub fn size(&self, slot: usize) -> u32 {
         u32::from_le_bytes(self.slot(slot)[28..].try_into().unwrap())
     }

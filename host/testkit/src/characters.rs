@@ -3,6 +3,7 @@
 
 use crate::call::Call;
 use crate::cards::Card;
+use crate::dates::{stamp_created, LAST_SECOND};
 use crate::long_names::{checksum, CHARACTERS};
 use crate::random::Random;
 
@@ -111,10 +112,10 @@ impl Card {
 /// The root directory after a create with a long name that is granted: the lowest long enough run of slots that are free gets the
 /// entries, the short one last; nothing else changes.
 pub fn root_with_long_name(card: &Card, call: &Call) -> Option<Vec<u8>> {
-    let Call::CreateLong(name, characters) = call else {
+    let Call::CreateLong(name, characters, seconds) = call else {
         return None;
     };
-    if name.len() != 11 || characters.len() % 2 == 1 {
+    if name.len() != 11 || characters.len() % 2 == 1 || *seconds > LAST_SECOND {
         return None;
     }
     let entries = usize::from(card.spec.root_entries);
@@ -146,8 +147,6 @@ pub fn root_with_long_name(card: &Card, call: &Call) -> Option<Vec<u8>> {
     short.fill(0);
     short[..11].copy_from_slice(name);
     short[11] = 0x20;
-    for at in [16, 18, 24] {
-        short[at] = 0x21;
-    }
+    stamp_created(short, *seconds);
     Some(after.bytes[512 * card.root()..512 * card.data()].to_vec())
 }

@@ -3,6 +3,7 @@
 pub mod call;
 pub mod cards;
 pub mod characters;
+pub mod dates;
 pub mod fixtures;
 pub mod judge;
 pub mod long_names;
@@ -12,6 +13,9 @@ pub mod steps;
 
 /// The largest limit, which the router passes.
 pub const ALL: u32 = u32::MAX;
+
+/// 17 June 2026, 13:45:31, in seconds since 1980 began: date 0x5CD1, time 0x6DAF.
+pub const AT: u32 = 1_466_171_131;
 
 /// A name's bytes on a card.
 pub type Name = [u8; 11];

@@ -106,8 +106,7 @@ pub fn ended_slot(card: &Card, call: &Call) -> Option<usize> {
     let (Call::Delete(name) | Call::Rename(name, _)) = call else {
         return None;
     };
-    let mut slots = 0..usize::from(card.spec.root_entries);
-    slots.find(|&slot| card.slot(slot)[11] & 0x08 == 0 && card.slot(slot).starts_with(name))
+    card.slot_named(name)
 }
 
 /// The root directory after a delete or rename that is granted: the slot and its long entries marked, the new slot filled, and

@@ -3,6 +3,7 @@
 use crate::call::Call;
 use crate::cards::Card;
 use crate::characters::random_characters;
+use crate::dates::random_seconds;
 use crate::fixtures::{BROKEN, FOLDER};
 use crate::long_names::{damage_long_entries, random_count};
 use crate::random::Random;
@@ -115,20 +116,24 @@ pub fn random_call(random: &mut Random, card: &Card) -> Call {
     let cluster_bytes = usize::from(card.spec.sectors_per_cluster) * 512;
     let name = present_name(random, card);
     let length = random_length(random, cluster_bytes);
+    let seconds = random_seconds(random);
     match random.below(34) {
-        0..=2 => Call::Create(random_name(random)),
-        3..=5 => Call::CreateLong(random_name(random), random_characters(random, card)),
+        0..=2 => Call::Create(random_name(random), seconds),
+        3..=5 => {
+            let name = random_name(random);
+            Call::CreateLong(name, random_characters(random, card), seconds)
+        }
         30..=32 => {
             let any = present_name(random, card);
             Call::LongName(long_name(random, card, any), random_room(random))
         }
-        6..=9 => Call::Append(name, random.bytes(length)),
-        10..=12 => Call::Truncate(name, length as u64),
+        6..=9 => Call::Append(name, random.bytes(length), seconds),
+        10..=12 => Call::Truncate(name, length as u64, seconds),
         13 | 14 => Call::Delete(long_name(random, card, name)),
         15..=17 => Call::Rename(long_name(random, card, name), random_name(random)),
         18 => Call::Recover,
         19..=21 => Call::Read(name, random_offset(random), length),
-        22..=25 => Call::Replace(name, random.bytes(length)),
+        22..=25 => Call::Replace(name, random.bytes(length), seconds),
         26 | 27 => Call::Fits(random_bytes(random, card)),
         _ => Call::List(random_room(random)),
     }

@@ -4,7 +4,7 @@ use crate::support::twin::Twin;
 use reference::{Answer, CardSpec, Ground};
 use testkit::call::Call;
 use testkit::cards::Card;
-use testkit::{ALL, PANEL, ROUTE};
+use testkit::{ALL, AT, PANEL, ROUTE};
 
 /// All calls that ask CHAIN agree on a file with the given FAT entries. The card has clusters 2 to 4,086.
 fn chain(first: u16, size: u32, entries: &[(u16, u16)], proper: bool) {
@@ -16,12 +16,12 @@ fn chain(first: u16, size: u32, entries: &[(u16, u16)], proper: bool) {
     let mut twin = Twin::new(card);
     let name = ROUTE.to_vec();
     for call in [
-        Call::Append(name.clone(), vec![1; 700]),
-        Call::Append(name.clone(), Vec::new()),
-        Call::Replace(name.clone(), vec![1; 700]),
-        Call::Replace(name.clone(), Vec::new()),
-        Call::Truncate(name.clone(), u64::from(size)),
-        Call::Truncate(name.clone(), 0),
+        Call::Append(name.clone(), vec![1; 700], AT),
+        Call::Append(name.clone(), Vec::new(), AT),
+        Call::Replace(name.clone(), vec![1; 700], AT),
+        Call::Replace(name.clone(), Vec::new(), AT),
+        Call::Truncate(name.clone(), u64::from(size), AT),
+        Call::Truncate(name.clone(), 0, AT),
         Call::Delete(name.clone()),
         Call::Read(name.clone(), 0, 3_000),
         Call::Read(name.clone(), u64::MAX, 0),
@@ -79,7 +79,7 @@ fn log_area(spec: CardSpec, marks: &[u16], both: bool, found: bool) {
     let refused = answer == Answer::Refused(Ground::Logarea);
     assert_eq!(refused, !found, "{spec:?} {marks:?}");
     if found && both {
-        let create = Call::Create(PANEL.to_vec());
+        let create = Call::Create(PANEL.to_vec(), AT);
         twin.all_limits(&create, |twin| twin.done(&Call::Recover));
     }
     twin.call(&Call::List(40), ALL);

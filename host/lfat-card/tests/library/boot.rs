@@ -5,13 +5,13 @@ use reference::{Answer, CardSpec, Ground};
 use testkit::call::Call;
 use testkit::cards::Card;
 use testkit::random::Random;
-use testkit::{cases, ALL, ROUTE};
+use testkit::{cases, ALL, AT, ROUTE};
 
 /// What list answers where the window is the boot sector alone: WINDOW if it is accepted.
 fn boot_alone(bytes: Vec<u8>) -> Answer {
     let spec = CardSpec::K;
     let mut twin = Twin::new(Card { spec, bytes });
-    for call in [Call::Create(ROUTE.to_vec()), Call::Recover] {
+    for call in [Call::Create(ROUTE.to_vec(), AT), Call::Recover] {
         assert_eq!(twin.call(&call, ALL), twin.call(&Call::List(9), ALL));
     }
     twin.call(&Call::List(9), ALL)
@@ -139,7 +139,7 @@ fn window_lengths() {
         };
         assert_eq!(answer, expected);
         assert_eq!(twin.call(&Call::Recover, ALL), expected);
-        let create = twin.call(&Call::Create(ROUTE.to_vec()), 0);
+        let create = twin.call(&Call::Create(ROUTE.to_vec(), AT), 0);
         assert_eq!(create == Answer::Stopped(0), lent >= end);
     }
 }

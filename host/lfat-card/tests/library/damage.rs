@@ -35,7 +35,17 @@ fn damage(card: &mut Card, random: &mut Random) {
         1 => damage_file(card, random),
         2 => damage_slot(card, random),
         3 | 4 => random_long_name(random, card),
+        _ if random.one_in(4) => fill_root(card),
         _ => (),
+    }
+}
+
+/// Leaves no slot for a new file.
+fn fill_root(card: &mut Card) {
+    for slot in 0..usize::from(card.spec.root_entries) {
+        if matches!(card.slot(slot)[0], 0 | 0xE5) {
+            card.put_slot(slot, b"FILLING    ", 0x20, 0, 0);
+        }
     }
 }
 

@@ -7,7 +7,7 @@ use lfat_card::calls::{self, Answer};
 use lfat_card::Refusal;
 use std::collections::BTreeMap;
 use testkit::random::Random;
-use testkit::{cases, ALL};
+use testkit::{cases, ALL, AT};
 
 /// Names and bytes that the card should hold.
 type Files = BTreeMap<[u8; 11], Vec<u8>>;
@@ -66,20 +66,20 @@ fn library_step(image: &mut Image, files: &mut Files, random: &mut Random) {
     let done = |answer| assert!(matches!(answer, Answer::Done(_)), "{answer:?}");
     match (files.contains_key(&name), random.below(9)) {
         (false, _) => {
-            done(calls::create(card, &name, ALL));
-            done(calls::append(card, &name, &data, ALL));
+            done(calls::create(card, &name, AT, ALL));
+            done(calls::append(card, &name, &data, AT, ALL));
             files.insert(name, data);
         }
         (true, 0..=2) => {
-            done(calls::append(card, &name, &data, ALL));
+            done(calls::append(card, &name, &data, AT, ALL));
             files.get_mut(&name).expect("there").extend(data);
         }
         (true, 5..=7) => {
-            done(calls::replace(card, &name, &data, ALL));
+            done(calls::replace(card, &name, &data, AT, ALL));
             files.insert(name, data);
         }
         (true, 3) => {
-            done(calls::truncate(card, &name, smaller as u64, ALL));
+            done(calls::truncate(card, &name, smaller as u64, AT, ALL));
             files.get_mut(&name).expect("there").truncate(smaller);
         }
         (true, 4) if !files.contains_key(&new) => {
@@ -187,7 +187,7 @@ fn entries_of_other_systems() {
         assert_eq!(answer, Answer::Refused(refusal));
     }
 
-    let answer = calls::append(&mut image.card, alias, &[6; 5_000], ALL);
+    let answer = calls::append(&mut image.card, alias, &[6; 5_000], AT, ALL);
     assert!(matches!(answer, Answer::Done(_)), "{answer:?}");
     data.extend([6; 5_000]);
     image.save();
@@ -195,7 +195,7 @@ fn entries_of_other_systems() {
     image.check();
 
     // Saved over it keeps its long name; so does the directory what is in it.
-    let answer = calls::replace(&mut image.card, alias, &[9; 700], ALL);
+    let answer = calls::replace(&mut image.card, alias, &[9; 700], AT, ALL);
     assert!(matches!(answer, Answer::Done(_)), "{answer:?}");
     image.save();
     assert!(image.tool("mtype", &["::/sheer panel, port.cut"]) == [9; 700]);
@@ -218,7 +218,7 @@ fn saved_over_by_turns() {
         }
         for length in [5_000, 20_000, 0, 1, 512, 8_192, 8_193] {
             let data = random.bytes(length);
-            let answer = calls::replace(&mut image.card, NAMES[0], &data, ALL);
+            let answer = calls::replace(&mut image.card, NAMES[0], &data, AT, ALL);
             assert!(matches!(answer, Answer::Done(_)), "{answer:?}");
             files.insert(*NAMES[0], data);
             image.save();
@@ -257,11 +257,11 @@ fn mattrib(image: &mut Image, change: &str, name: &[u8; 11]) {
 fn changes(image: &mut Image, name: &[u8; 11], new: &[u8; 11]) -> [Answer; 7] {
     let card = &mut image.card;
     [
-        calls::append(card, name, &[], ALL),
-        calls::append(card, name, &[7; 600], ALL),
-        calls::replace(card, name, &[8; 9_000], ALL),
-        calls::truncate(card, name, 9_000, ALL),
-        calls::truncate(card, name, 5_000, ALL),
+        calls::append(card, name, &[], AT, ALL),
+        calls::append(card, name, &[7; 600], AT, ALL),
+        calls::replace(card, name, &[8; 9_000], AT, ALL),
+        calls::truncate(card, name, 9_000, AT, ALL),
+        calls::truncate(card, name, 5_000, AT, ALL),
         calls::rename(card, name, new, ALL),
         calls::delete(card, new, ALL),
     ]
@@ -328,11 +328,11 @@ fn assert_attributes(image: &Image, name: &[u8; 11], bits: u8) {
 fn kept_by_changes(image: &mut Image, name: &[u8; 11], bits: u8) {
     let other = NAMES[3];
     let done = |answer| assert!(matches!(answer, Answer::Done(1..)), "{answer:?}");
-    done(calls::append(&mut image.card, name, &[7; 600], ALL));
+    done(calls::append(&mut image.card, name, &[7; 600], AT, ALL));
     assert_attributes(image, name, bits);
-    done(calls::replace(&mut image.card, name, &[8; 3_000], ALL));
+    done(calls::replace(&mut image.card, name, &[8; 3_000], AT, ALL));
     assert_attributes(image, name, bits);
-    done(calls::truncate(&mut image.card, name, 10, ALL));
+    done(calls::truncate(&mut image.card, name, 10, AT, ALL));
     assert_attributes(image, name, bits);
     done(calls::rename(&mut image.card, name, other, ALL));
     assert_attributes(image, other, bits);

@@ -7,7 +7,7 @@ use testkit::call::Call;
 use testkit::cards::{random_card, Card};
 use testkit::fixtures::{furnished_card, largest_fragmented_card};
 use testkit::random::Random;
-use testkit::{cases, ALL, PANEL, ROUTE};
+use testkit::{cases, ALL, AT, PANEL, ROUTE};
 
 /// No card has room for these; cut to 16, 32 or 33 bits, most of them would be few bytes or few clusters.
 const TOO_MANY: [u64; 12] = [
@@ -182,7 +182,7 @@ fn what_is_not_asked() {
     card.fill_root(3);
     let mut twin = Twin::new(card);
     check_all(&mut twin, &[30, 31]);
-    let create = Call::Create(b"NEW        ".to_vec());
+    let create = Call::Create(b"NEW        ".to_vec(), AT);
     let full = Answer::Refused(Ground::Rootfull);
     assert_eq!(twin.call(&create, ALL), full);
 }
@@ -206,8 +206,8 @@ fn as_the_saves_do() {
             };
             let answer = fits(&mut twin, bytes as u64);
             let save = match turn < 3 && twin.card.size(0) == 0 {
-                true => Call::Append(ROUTE.to_vec(), vec![7; bytes]),
-                false => Call::Replace(ROUTE.to_vec(), vec![8; bytes]),
+                true => Call::Append(ROUTE.to_vec(), vec![7; bytes], AT),
+                false => Call::Replace(ROUTE.to_vec(), vec![8; bytes], AT),
             };
             if answer == Answer::No {
                 let refused = Answer::Refused(Ground::Nospace);
@@ -227,8 +227,8 @@ fn as_the_saves_do() {
 fn around_a_cut() {
     let card = with_free(1, &[20, 30, 40, 50]);
     let mut start = Twin::new(card);
-    start.done(&Call::Create(ROUTE.to_vec()));
-    let save = Call::Append(ROUTE.to_vec(), vec![7; 1_000]);
+    start.done(&Call::Create(ROUTE.to_vec(), AT));
+    let save = Call::Append(ROUTE.to_vec(), vec![7; 1_000], AT);
     // Two data sectors, FAT2, the group, FAT1, root, commit.
     let (old, new) = (Answer::Done(20), Answer::Done(40));
     start.all_limits(&save, |twin| {

@@ -6,9 +6,11 @@ use reference::{Answer, Ground};
 use testkit::call::Call;
 use testkit::cards::Card;
 use testkit::fixtures::{BROKEN, FOLDER};
-use testkit::{Name, ALL, OTHER, PANEL, ROUTE};
+use testkit::{Name, ALL, AT, OTHER, PANEL, ROUTE};
 
 const BAD_NAME: &[u8] = b"lower case ";
+/// Seconds past the last of 2107.
+const LATE: u32 = 4_039_286_400;
 /// A file with the mark that breaks the chain rule, too: LOCKED is asked before CHAIN.
 const LOCKED: &Name = b"LOCKED     ";
 
@@ -58,17 +60,17 @@ fn expect(twin: &mut Twin, call: &Call, ground: Ground) {
     }
 }
 
-/// Each call with a bad name, where it takes one.
-fn all_calls(name: &[u8]) -> [Call; 12] {
+/// Each call with a bad name and at the seconds, where it takes them. The first five take seconds, the first eight a name.
+fn all_calls(name: &[u8], seconds: u32) -> [Call; 12] {
     let name = name.to_vec();
     [
-        Call::Create(name.clone()),
-        Call::Append(name.clone(), vec![7; 5_000]),
-        Call::Replace(name.clone(), vec![7; 5_000]),
-        Call::Truncate(name.clone(), 701),
+        Call::Create(name.clone(), seconds),
+        Call::Append(name.clone(), vec![7; 5_000], seconds),
+        Call::Replace(name.clone(), vec![7; 5_000], seconds),
+        Call::Truncate(name.clone(), 701, seconds),
+        Call::CreateLong(name.clone(), b"*".to_vec(), seconds),
         Call::Delete(name.clone()),
         Call::Rename(name.clone(), ROUTE.to_vec()),
-        Call::CreateLong(name.clone(), b"*".to_vec()),
         Call::LongName(name.clone(), 64),
         Call::Recover,
         Call::Read(name, 0, 64),
@@ -81,14 +83,17 @@ fn all_calls(name: &[u8]) -> [Call; 12] {
 fn grounds_of_the_card() {
     let mut twin = faulty();
     for &ground in &Ground::ALL[..7] {
-        for call in all_calls(BAD_NAME) {
+        for call in all_calls(BAD_NAME, LATE) {
             if ground != Ground::Unclean || !matches!(call, Call::Recover) {
                 expect(&mut twin, &call, ground);
             }
         }
         mend(&mut twin, ground);
     }
-    for call in &all_calls(BAD_NAME)[..8] {
+    for call in &all_calls(BAD_NAME, LATE)[..5] {
+        expect(&mut twin, call, Ground::Clock);
+    }
+    for call in &all_calls(BAD_NAME, LATE - 1)[..8] {
         expect(&mut twin, call, Ground::Name);
     }
     twin.done(&Call::Recover);
@@ -120,22 +125,25 @@ fn grounds_of_the_call() {
         rows
     };
     let mut all = rows(
-        |name| Call::Append(name.to_vec(), vec![7; 5_000]),
+        |name| Call::Append(name.to_vec(), vec![7; 5_000], AT),
         Some(Ground::Nospace),
     );
     // One byte is too much on a full card, though the old clusters would hold it; none is not.
     all.extend(rows(
-        |name| Call::Replace(name.to_vec(), vec![7]),
+        |name| Call::Replace(name.to_vec(), vec![7], AT),
         Some(Ground::Nospace),
     ));
-    all.extend(rows(|name| Call::Replace(name.to_vec(), Vec::new()), None));
     all.extend(rows(
-        |name| Call::Truncate(name.to_vec(), 701),
+        |name| Call::Replace(name.to_vec(), Vec::new(), AT),
+        None,
+    ));
+    all.extend(rows(
+        |name| Call::Truncate(name.to_vec(), 701, AT),
         Some(Ground::Length),
     ));
     // A size of which the low 32 bits alone would pass.
     all.extend(rows(
-        |name| Call::Truncate(name.to_vec(), 1 << 32),
+        |name| Call::Truncate(name.to_vec(), 1 << 32, AT),
         Some(Ground::Length),
     ));
     all.extend(rows(|name| Call::Delete(name.to_vec()), None));
@@ -144,7 +152,7 @@ fn grounds_of_the_call() {
         expect(&mut twin, call, *ground);
     }
     twin.done(&Call::Read(ROUTE.to_vec(), 0, 800));
-    twin.done(&Call::Replace(ROUTE.to_vec(), Vec::new()));
+    twin.done(&Call::Replace(ROUTE.to_vec(), Vec::new(), AT));
 }
 
 #[test]
@@ -154,7 +162,7 @@ fn grounds_of_create_and_rename() {
         mend(&mut twin, ground);
     }
     twin.edit(|card| card.fill_root(5));
-    let create = |name: &[u8]| Call::Create(name.to_vec());
+    let create = |name: &[u8]| Call::Create(name.to_vec(), AT);
     let rename = |old: &[u8], new: &[u8]| Call::Rename(old.to_vec(), new.to_vec());
     for (call, ground) in [
         (create(BAD_NAME), Ground::Name),
@@ -189,7 +197,7 @@ fn fats_that_differ() {
             let mut card = Card::k();
             card.bytes[fat * 512 + at] ^= 1;
             let mut twin = Twin::new(card);
-            for call in all_calls(BAD_NAME) {
+            for call in all_calls(BAD_NAME, LATE) {
                 if !matches!(call, Call::Recover) {
                     expect(&mut twin, &call, Ground::Unclean);
                 }

@@ -14,7 +14,7 @@ use testkit::random::Random;
 use testkit::steps::{
     random_bytes, random_call, random_long_name, random_mark, random_name, random_offset,
 };
-use testkit::{cases, ALL, PANEL, ROUTE};
+use testkit::{cases, ALL, AT, PANEL, ROUTE};
 
 /// Things that a history can come across besides its answers.
 #[derive(Default)]
@@ -46,7 +46,8 @@ impl Met {
 
     /// A create with a long name that is done: the root directory is as it was to be, and the name is read back.
     fn look_at_created(&mut self, before: &Card, call: &Call, twin: &mut Twin) {
-        let (Call::CreateLong(name, bytes), Some(root)) = (call, root_with_long_name(before, call))
+        let (Call::CreateLong(name, bytes, _), Some(root)) =
+            (call, root_with_long_name(before, call))
         else {
             return;
         };
@@ -187,10 +188,10 @@ fn last_free_clusters() {
     for free in 0..4u16 {
         for start in [0usize, 1, 1_023, 1_024] {
             let mut twin = Twin::new(card_with_free(free + start.div_ceil(1_024) as u16));
-            twin.done(&Call::Create(ROUTE.to_vec()));
-            twin.done(&Call::Append(ROUTE.to_vec(), vec![1; start]));
+            twin.done(&Call::Create(ROUTE.to_vec(), AT));
+            twin.done(&Call::Append(ROUTE.to_vec(), vec![1; start], AT));
             let room = usize::from(free) * 1_024 + start.next_multiple_of(1_024) - start;
-            let append = |length| Call::Append(ROUTE.to_vec(), vec![2; length]);
+            let append = |length| Call::Append(ROUTE.to_vec(), vec![2; length], AT);
             let too_much = twin.call(&append(room + 1), ALL);
             assert_eq!(too_much, Answer::Refused(Ground::Nospace));
             twin.all_limits(&append(room), |_| ());
@@ -199,14 +200,14 @@ fn last_free_clusters() {
             assert_eq!(full, Answer::Refused(Ground::Nospace));
             twin.done(&append(0));
             replace_on_full_card(&mut twin, usize::from(free) + start.div_ceil(1_024));
-            twin.done(&Call::Truncate(ROUTE.to_vec(), 0));
+            twin.done(&Call::Truncate(ROUTE.to_vec(), 0, AT));
         }
     }
 }
 
 /// The file has all clusters that there are: only no bytes can take their place. Then half of them, which leaves the other half.
 fn replace_on_full_card(twin: &mut Twin, clusters: usize) {
-    let replace = |length| Call::Replace(ROUTE.to_vec(), vec![3; length]);
+    let replace = |length| Call::Replace(ROUTE.to_vec(), vec![3; length], AT);
     let refused = Answer::Refused(Ground::Nospace);
     assert_eq!(twin.call(&replace(1), ALL), refused);
     twin.done(&replace(0));
@@ -223,7 +224,7 @@ fn replace_on_full_card(twin: &mut Twin, clusters: usize) {
 #[test]
 fn last_root_slot() {
     for first_byte in [0, 0xE5] {
-        for new in [Call::Create(PANEL.to_vec()), rename()] {
+        for new in [Call::Create(PANEL.to_vec(), AT), rename()] {
             let mut card = Card::k();
             card.put_slot(0, ROUTE, 0x22, 0, 0);
             card.fill_root(1);
@@ -231,9 +232,9 @@ fn last_root_slot() {
             let mut twin = Twin::new(card);
             twin.all_limits(&new, |twin| twin.done(&Call::Recover));
             twin.done(&new);
-            let create = Call::Create(b"ONE_MORE   ".to_vec());
+            let create = Call::Create(b"ONE_MORE   ".to_vec(), AT);
             let answer = twin.call(&create, ALL);
-            let full = matches!(new, Call::Create(_));
+            let full = matches!(new, Call::Create(..));
             assert_eq!(answer == Answer::Refused(Ground::Rootfull), full);
         }
     }

@@ -5,7 +5,7 @@ use crate::support::twin::Twin;
 use reference::{Answer, Ground};
 use testkit::call::Call;
 use testkit::cards::Card;
-use testkit::{ALL, OTHER, PANEL, ROUTE};
+use testkit::{ALL, AT, OTHER, PANEL, ROUTE};
 
 const LOCKED: Answer = Answer::Refused(Ground::Locked);
 
@@ -25,16 +25,16 @@ fn card_with(slot: usize, attributes: u8) -> Card {
 fn asking() -> Vec<Call> {
     let name = || ROUTE.to_vec();
     vec![
-        Call::Append(name(), Vec::new()),
-        Call::Append(name(), vec![7]),
-        Call::Append(name(), vec![7; 3_000]),
-        Call::Truncate(name(), 700),
-        Call::Truncate(name(), 699),
-        Call::Truncate(name(), 0),
+        Call::Append(name(), Vec::new(), AT),
+        Call::Append(name(), vec![7], AT),
+        Call::Append(name(), vec![7; 3_000], AT),
+        Call::Truncate(name(), 700, AT),
+        Call::Truncate(name(), 699, AT),
+        Call::Truncate(name(), 0, AT),
         Call::Delete(name()),
         Call::Rename(name(), PANEL.to_vec()),
-        Call::Replace(name(), Vec::new()),
-        Call::Replace(name(), vec![7; 3_000]),
+        Call::Replace(name(), Vec::new(), AT),
+        Call::Replace(name(), vec![7; 3_000], AT),
     ]
 }
 
@@ -74,7 +74,7 @@ fn grounds_before_it() {
     let mut unclean = Twin::new(card_with(3, 0x21));
     unclean.edit(|card| card.set_fat1(4_000, 0xFFF7));
     let mut pending = Twin::new(card_with(3, 0x20));
-    pending.call(&Call::Append(ROUTE.to_vec(), vec![7]), 2);
+    pending.call(&Call::Append(ROUTE.to_vec(), vec![7], AT), 2);
     pending.edit(|card| card.mark_read_only(3, true));
     for call in asking() {
         expect(&mut folder, &call, Ground::Directory);
@@ -102,16 +102,24 @@ fn grounds_after_it() {
         (&taken, rename(ROUTE), Ground::Exists),
         (&taken, rename(b"F0000000   "), Ground::Exists),
         (&full_root, rename(PANEL), Ground::Rootfull),
-        (&broken, Call::Append(name(), vec![7]), Ground::Chain),
-        (&broken, Call::Append(name(), Vec::new()), Ground::Chain),
-        (&broken, Call::Truncate(name(), 700), Ground::Chain),
-        (&broken, Call::Truncate(name(), 701), Ground::Chain),
+        (&broken, Call::Append(name(), vec![7], AT), Ground::Chain),
+        (&broken, Call::Append(name(), Vec::new(), AT), Ground::Chain),
+        (&broken, Call::Truncate(name(), 700, AT), Ground::Chain),
+        (&broken, Call::Truncate(name(), 701, AT), Ground::Chain),
         (&broken, Call::Delete(name()), Ground::Chain),
-        (&broken, Call::Replace(name(), Vec::new()), Ground::Chain),
-        (&sound, Call::Truncate(name(), 701), Ground::Length),
-        (&sound, Call::Truncate(name(), 1 << 32), Ground::Length),
-        (&full, Call::Append(name(), vec![7; 325]), Ground::Nospace),
-        (&full, Call::Replace(name(), vec![7]), Ground::Nospace),
+        (
+            &broken,
+            Call::Replace(name(), Vec::new(), AT),
+            Ground::Chain,
+        ),
+        (&sound, Call::Truncate(name(), 701, AT), Ground::Length),
+        (&sound, Call::Truncate(name(), 1 << 32, AT), Ground::Length),
+        (
+            &full,
+            Call::Append(name(), vec![7; 325], AT),
+            Ground::Nospace,
+        ),
+        (&full, Call::Replace(name(), vec![7], AT), Ground::Nospace),
     ] {
         let mut twin = Twin::new(card.clone());
         expect(&mut twin, &call, Ground::Locked);
@@ -146,7 +154,7 @@ fn every_attribute_byte() {
         let is_entry = attributes & 0x08 == 0;
         let there = Answer::Done(2 + u32::from(is_entry));
         assert_eq!(twin.call(&Call::List(96), ALL), there, "{attributes:#x}");
-        let create = Call::Create(ROUTE.to_vec());
+        let create = Call::Create(ROUTE.to_vec(), AT);
         match is_entry {
             true => expect(&mut twin, &create, Ground::Exists),
             false => granted(&mut twin, &create),
@@ -156,7 +164,7 @@ fn every_attribute_byte() {
             true => expect(&mut twin, &onto, Ground::Exists),
             false => granted(&mut twin, &onto),
         }
-        granted(&mut twin, &Call::Create(OTHER.to_vec()));
+        granted(&mut twin, &Call::Create(OTHER.to_vec(), AT));
         assert_eq!(twin.call(&Call::Recover, ALL), Answer::Done(0));
     }
 }
@@ -206,10 +214,10 @@ fn files_beside_it() {
     let mut twin = Twin::new(card_with(1, 0x23));
     let slot = twin.card.slot(1).to_vec();
     for call in [
-        Call::Create(OTHER.to_vec()),
-        Call::Append(OTHER.to_vec(), vec![7; 900]),
-        Call::Replace(OTHER.to_vec(), vec![8; 1_900]),
-        Call::Truncate(OTHER.to_vec(), 600),
+        Call::Create(OTHER.to_vec(), AT),
+        Call::Append(OTHER.to_vec(), vec![7; 900], AT),
+        Call::Replace(OTHER.to_vec(), vec![8; 1_900], AT),
+        Call::Truncate(OTHER.to_vec(), 600, AT),
         Call::Rename(OTHER.to_vec(), PANEL.to_vec()),
         Call::Delete(PANEL.to_vec()),
     ] {

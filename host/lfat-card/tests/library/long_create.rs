@@ -7,11 +7,12 @@ use reference::{Answer, Ground};
 use testkit::call::Call;
 use testkit::cards::Card;
 use testkit::characters::{bytes_of, letters, random_characters, root_with_long_name};
+use testkit::dates::stamp_record;
 use testkit::random::Random;
-use testkit::{cases, ALL, OTHER, PANEL, ROUTE};
+use testkit::{cases, ALL, AT, OTHER, PANEL, ROUTE};
 
 fn named(characters: &[u16]) -> Call {
-    Call::CreateLong(ROUTE.to_vec(), bytes_of(characters))
+    Call::CreateLong(ROUTE.to_vec(), bytes_of(characters), AT)
 }
 
 fn read(room: usize) -> Call {
@@ -56,7 +57,7 @@ fn created(card: &Card, characters: &[u16]) {
     }
     let exists = Answer::Refused(Ground::Exists);
     assert_eq!(twin.call(&call, ALL), exists);
-    let other = Call::CreateLong(PANEL.to_vec(), bytes_of(characters));
+    let other = Call::CreateLong(PANEL.to_vec(), bytes_of(characters), AT);
     assert_eq!(twin.call(&other, ALL), exists);
     twin.all_limits(&Call::Delete(ROUTE.to_vec()), |twin| {
         twin.done(&Call::Recover)
@@ -145,14 +146,14 @@ fn lengths_and_order() {
     {
         for name in [&ROUTE[..], PANEL, b"route   cut", b"ROUTE"] {
             for fill in [b'a', 0, b'*'] {
-                let call = Call::CreateLong(name.to_vec(), vec![fill; bytes]);
+                let call = Call::CreateLong(name.to_vec(), vec![fill; bytes], AT);
                 twin.tried(&call, ALL, |_| ());
             }
         }
     }
     let refused = |name: &[u8], bytes: &[u8]| {
         let mut twin = Twin::new(twin.card.clone());
-        twin.call(&Call::CreateLong(name.to_vec(), bytes.to_vec()), ALL)
+        twin.call(&Call::CreateLong(name.to_vec(), bytes.to_vec(), AT), ALL)
     };
     assert_eq!(refused(b"ROUTE", b"*"), Answer::Refused(Ground::Name));
     assert_eq!(refused(ROUTE, b"*"), Answer::Refused(Ground::Longname));
@@ -194,14 +195,15 @@ fn names_that_are_taken() {
     }
 }
 
-/// The sector of a pending group.
+/// The sector of a pending group: main record, stamp, characters.
 fn group(count: u8, slot: usize, characters: &[u16]) -> [u8; 512] {
     let mut sector = [0; 512];
     sector[..11].copy_from_slice(ROUTE);
     sector[11..14].copy_from_slice(&[0x20, count, 1]);
     sector[18..20].copy_from_slice(&(slot as u16).to_le_bytes());
+    sector[32..64].copy_from_slice(&stamp_record(AT));
     let bytes = bytes_of(characters);
-    sector[32..32 + bytes.len()].copy_from_slice(&bytes);
+    sector[64..64 + bytes.len()].copy_from_slice(&bytes);
     sector
 }
 
@@ -244,7 +246,7 @@ fn counts_slots_and_ends() {
                 0, 1, 2, 13, 14, 16, 17, 20, 21, 22, 36, 37, 56, 57, 511, 512,
             ] {
                 for more in [0, 1, 13] {
-                    let length = (13 * usize::from(count) + more).saturating_sub(12).min(240);
+                    let length = (13 * usize::from(count) + more).saturating_sub(12).min(224);
                     match recovered(card(files, 0..0), 1, &group(count, slot, &letters(length))) {
                         Answer::Done(_) => good += 1,
                         _ => bad += 1,
@@ -264,9 +266,22 @@ fn led_sectors() {
         .into_iter()
         .flat_map(|f| [0, 1, 2, 16, 17, 255].map(|c| (f, c)))
     {
-        for operation in [0, 1, 2, 3, 5, 6, 129] {
-            for (record, other) in [(1, b'x'), (1, 0xE5), (2, b'x'), (15, b'x'), (1, 0)] {
+        for operation in [0, 1, 2, 3, 4, 5, 6, 129] {
+            for (is_stamped, record, other) in [
+                (true, 1, 0x54),
+                (true, 1, b'x'),
+                (true, 1, 0xE5),
+                (true, 2, b'x'),
+                (true, 15, b'x'),
+                (false, 1, b'x'),
+                (false, 1, 0xE5),
+                (false, 2, b'x'),
+                (false, 1, 0),
+            ] {
                 let mut sector = group(count, 30, &[]);
+                if !is_stamped {
+                    sector[32..].fill(0);
+                }
                 sector[0] = first;
                 sector[13] = operation;
                 sector[32 * record] = other;
@@ -295,7 +310,7 @@ fn random_groups() {
                 .chunks_exact(2)
                 .map(|p| u16::from_le_bytes([p[0], p[1]]))
                 .collect();
-            characters.truncate(240);
+            characters.truncate(224);
             let count = match random.below(6) {
                 0 => random.byte(),
                 _ => characters.len().div_ceil(13) as u8,

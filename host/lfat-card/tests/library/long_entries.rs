@@ -7,7 +7,7 @@ use testkit::call::Call;
 use testkit::cards::Card;
 use testkit::long_names::{card_with, checksum, root_after, JUDGED};
 use testkit::random::Random;
-use testkit::{cases, Name, ALL, OTHER, PANEL, ROUTE};
+use testkit::{cases, Name, ALL, AT, OTHER, PANEL, ROUTE};
 
 fn delete() -> Call {
     Call::Delete(ROUTE.to_vec())
@@ -209,10 +209,10 @@ fn broken_runs() {
 fn other_calls() {
     let name = || ROUTE.to_vec();
     for call in [
-        Call::Create(OTHER.to_vec()),
-        Call::Append(name(), vec![7; 600]),
-        Call::Replace(name(), vec![7; 600]),
-        Call::Truncate(name(), 3),
+        Call::Create(OTHER.to_vec(), AT),
+        Call::Append(name(), vec![7; 600], AT),
+        Call::Replace(name(), vec![7; 600], AT),
+        Call::Truncate(name(), 3, AT),
     ] {
         let mut twin = Twin::new(card_with(17, 3));
         let before = twin.card.clone();

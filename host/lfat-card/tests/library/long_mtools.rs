@@ -6,7 +6,7 @@ use crate::support::image::Image;
 use lfat_card::calls::{self, Answer};
 use lfat_card::Refusal;
 use testkit::characters::bytes_of_text;
-use testkit::{Name, ALL};
+use testkit::{Name, ALL, AT};
 
 /// Long names as mcopy is given them, with the short names that it makes.
 fn names() -> Vec<(String, Name)> {
@@ -69,10 +69,10 @@ fn the_entries_of_mtools() {
         let characters = bytes_of_text(&long);
         assert_eq!(read_back(&by_tool, &made), characters, "{long}");
 
-        let answer = calls::create_long(&mut image.card, &alias, &characters, ALL);
+        let answer = calls::create_long(&mut image.card, &alias, &characters, AT, ALL);
         assert_eq!(answer, Answer::Refused(Refusal::Exists));
         image.card = before;
-        let answer = calls::create_long(&mut image.card, &made, &characters, ALL);
+        let answer = calls::create_long(&mut image.card, &made, &characters, AT, ALL);
         assert!(matches!(answer, Answer::Done(3..)), "{long}: {answer:?}");
         for &entry in entries {
             assert!(is_long(slot(&by_tool, entry)), "{long}");
@@ -80,7 +80,7 @@ fn the_entries_of_mtools() {
         }
         assert_eq!(slot(&image.card, short)[..12], slot(&by_tool, short)[..12]);
         assert_eq!(read_back(&image.card, &made), characters, "{long}");
-        let answer = calls::append(&mut image.card, &made, long.as_bytes(), ALL);
+        let answer = calls::append(&mut image.card, &made, long.as_bytes(), AT, ALL);
         assert!(matches!(answer, Answer::Done(1..)), "{long}: {answer:?}");
         image.save();
         assert!(image.listed().contains(&long), "{long}");
@@ -99,7 +99,7 @@ fn mtools_on_the_librarys_names() {
         .filter(|(long, _)| !long.contains('\u{FF21}'))
     {
         let characters = bytes_of_text(&long);
-        let answer = calls::create_long(&mut image.card, &alias, &characters, ALL);
+        let answer = calls::create_long(&mut image.card, &alias, &characters, AT, ALL);
         assert!(matches!(answer, Answer::Done(3..)), "{long}: {answer:?}");
         image.save();
         image.check();
@@ -119,8 +119,13 @@ fn mtools_on_the_librarys_names() {
         let long = "w".repeat(length);
         image.copy_in(b"w", &format!("::/{long}"));
         assert_eq!(read_back(&image.card, b"WWWWWW~1   "), bytes_of_text(&long));
-        let refused =
-            calls::create_long(&mut image.card, b"W          ", &bytes_of_text(&long), ALL);
+        let refused = calls::create_long(
+            &mut image.card,
+            b"W          ",
+            &bytes_of_text(&long),
+            AT,
+            ALL,
+        );
         assert_eq!(refused, Answer::Refused(Refusal::Longname));
         image.tool("mdel", &[&format!("::/{long}")]);
         image.load();
@@ -146,9 +151,9 @@ fn names_that_mtools_do_not_write() {
             .try_into()
             .expect("11 bytes");
         let characters = bytes_of_text(long);
-        let answer = calls::create_long(&mut image.card, &alias, &characters, ALL);
+        let answer = calls::create_long(&mut image.card, &alias, &characters, AT, ALL);
         assert!(matches!(answer, Answer::Done(3..)), "{long}: {answer:?}");
-        let answer = calls::append(&mut image.card, &alias, long.as_bytes(), ALL);
+        let answer = calls::append(&mut image.card, &alias, long.as_bytes(), AT, ALL);
         assert!(matches!(answer, Answer::Done(1..)), "{long}");
         image.save();
         assert_eq!(read_back(&image.card, &alias), characters);

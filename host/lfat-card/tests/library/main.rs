@@ -1,13 +1,15 @@
-//! The library's ten calls: against the independent implementation, against Debian's FAT tools, and through power cuts.
+//! The library's twelve calls: against the independent implementation, against Debian's FAT tools, and through power cuts.
 //!
 //! All random numbers have fixed seeds. `LFAT_CASES=10 cargo test --release -p lfat-card --test library` runs ten times as many
-//! random cases. `fat_tools` and `long_names` need the packages dosfstools and mtools.
+//! random cases. `fat_tools`, `long_names`, `long_mtools` and `dates_mtools` need the packages dosfstools and mtools.
 
 mod support;
 
 mod areas;
 mod boot;
 mod damage;
+mod dates;
+mod dates_mtools;
 mod fat_tools;
 mod fits;
 mod grounds;
@@ -23,5 +25,6 @@ mod power_cuts;
 mod raw;
 mod records;
 mod sizes;
+mod stamp_groups;
 mod wide;
 mod worked_card;

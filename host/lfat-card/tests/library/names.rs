@@ -4,7 +4,7 @@ use crate::support::twin::Twin;
 use reference::{Answer, Ground};
 use testkit::call::Call;
 use testkit::cards::Card;
-use testkit::{OTHER, PANEL, ROUTE};
+use testkit::{AT, OTHER, PANEL, ROUTE};
 
 /// The rule, written down once more.
 fn is_name(name: &[u8]) -> bool {
@@ -20,9 +20,9 @@ fn is_name(name: &[u8]) -> bool {
 /// With limit 0 nothing is stored, so one card serves for all names.
 fn expect(twin: &mut Twin, name: &[u8]) {
     let good = is_name(name);
-    let create = twin.call(&Call::Create(name.to_vec()), 0);
+    let create = twin.call(&Call::Create(name.to_vec(), AT), 0);
     let delete = twin.call(&Call::Delete(name.to_vec()), 0);
-    let replace = twin.call(&Call::Replace(name.to_vec(), vec![7]), 0);
+    let replace = twin.call(&Call::Replace(name.to_vec(), vec![7], AT), 0);
     let rename = twin.call(&Call::Rename(ROUTE.to_vec(), name.to_vec()), 0);
     let refused = Answer::Refused(Ground::Name);
     let shown = name.escape_ascii();
@@ -84,13 +84,13 @@ fn slots_that_a_name_means() {
     assert_eq!(twin.call(&Call::List(200), 0), Answer::Done(4));
     let folder = twin.call(&Call::Delete(PANEL.to_vec()), 0);
     assert_eq!(folder, Answer::Refused(Ground::Directory));
-    let folder = twin.call(&Call::Replace(PANEL.to_vec(), vec![7]), 0);
+    let folder = twin.call(&Call::Replace(PANEL.to_vec(), vec![7], AT), 0);
     assert_eq!(folder, Answer::Refused(Ground::Directory));
-    twin.done(&Call::Replace(ROUTE.to_vec(), vec![7; 90]));
+    twin.done(&Call::Replace(ROUTE.to_vec(), vec![7; 90], AT));
     assert_eq!(twin.call(&read, 0), Answer::Done(90));
     twin.done(&Call::Rename(ROUTE.to_vec(), OTHER.to_vec()));
     assert_eq!(twin.call(&read, 0), Answer::Done(6));
     twin.done(&Call::Delete(ROUTE.to_vec()));
-    twin.done(&Call::Create(ROUTE.to_vec()));
+    twin.done(&Call::Create(ROUTE.to_vec(), AT));
     assert_eq!(twin.call(&read, 0), Answer::Done(0));
 }

@@ -6,7 +6,7 @@ use testkit::cards::Card;
 use testkit::fixtures::furnished_card;
 use testkit::random::Random;
 use testkit::steps::random_call;
-use testkit::{ALL, ROUTE};
+use testkit::{ALL, AT, ROUTE};
 
 const THREADS: u64 = 4;
 
@@ -45,8 +45,8 @@ fn different_cards() {
 fn reads_of_one_card() {
     let mut card = Card::k();
     let data = Random::new(5).bytes(50_000);
-    Call::Create(ROUTE.to_vec()).on_library(&mut card.bytes, ALL, &mut []);
-    Call::Append(ROUTE.to_vec(), data.clone()).on_library(&mut card.bytes, ALL, &mut []);
+    Call::Create(ROUTE.to_vec(), AT).on_library(&mut card.bytes, ALL, &mut []);
+    Call::Append(ROUTE.to_vec(), data.clone(), AT).on_library(&mut card.bytes, ALL, &mut []);
     let card = &card.bytes;
     thread::scope(|scope| {
         for seed in 0..THREADS {

@@ -6,12 +6,13 @@ use lfat_card::calls::{recover, Answer};
 use std::collections::BTreeMap;
 use testkit::call::Call;
 use testkit::characters::{bytes_of, letters, root_with_long_name};
+use testkit::dates::dates_after;
 use testkit::fixtures::{furnished_card, largest_fragmented_card, share_cluster};
 use testkit::judge::{has_pending, judge, Judged};
 use testkit::long_names::{ended_slot, root_after};
 use testkit::random::Random;
 use testkit::steps::{random_call, random_long_name, random_mark};
-use testkit::{cases, ALL};
+use testkit::{cases, ALL, AT};
 
 fn run(call: &Call, card: &mut [u8], limit: u32) -> Answer {
     call.on_library(card, limit, &mut [])
@@ -92,7 +93,7 @@ fn has_cuts(call: &Call) -> bool {
         Call::Recover | Call::Read(..) | Call::List(..) | Call::Fits(..) | Call::LongName(..) => {
             false
         }
-        Call::Append(_, data) | Call::Replace(_, data) => data.len() < 20_000,
+        Call::Append(_, data, _) | Call::Replace(_, data, _) => data.len() < 20_000,
         _ => true,
     }
 }
@@ -128,11 +129,16 @@ fn history(seed: u64, tally: &mut Tally) {
         let sound = judge(&card.bytes).files.is_some();
         let (ended, root) = (ended_slot(&card, &call), root_after(&card, &call));
         let named = root_with_long_name(&card, &call);
+        let dates = dates_after(&card, &call);
         let count = ended.map_or(0, |slot| card.long_entries(slot));
         let answer = every_cut(&mut card.bytes, &call, 2, &mut random);
         let accepted = matches!(answer, Answer::Done(_));
         let key = (call.word(), accepted, sound);
         *tally.calls.entry(key).or_default() += 1;
+        if let (true, Some(dates), Some(name)) = (accepted, dates, call.name()) {
+            let slot = card.slot_named(name).expect("the file");
+            assert_eq!(card.slot(slot)[12..26], dates, "{call:?}");
+        }
         if let (true, Some(root)) = (accepted, named) {
             assert!(judge(&card.bytes).root == root, "{call:?}");
         }
@@ -182,12 +188,12 @@ fn cuts_on_a_large_card() {
     let name = b"ROUTE   CUT".to_vec();
     let data = random.bytes(9 * 512 + 5);
     for call in [
-        Call::CreateLong(name.clone(), bytes_of(&letters(208))),
-        Call::Append(name.clone(), data.clone()),
-        Call::Replace(name.clone(), data[..4 * 512].to_vec()),
-        Call::Replace(name.clone(), Vec::new()),
-        Call::Replace(name.clone(), data),
-        Call::Truncate(name.clone(), 3 * 512),
+        Call::CreateLong(name.clone(), bytes_of(&letters(208)), AT),
+        Call::Append(name.clone(), data.clone(), AT),
+        Call::Replace(name.clone(), data[..4 * 512].to_vec(), AT),
+        Call::Replace(name.clone(), Vec::new(), AT),
+        Call::Replace(name.clone(), data, AT),
+        Call::Truncate(name.clone(), 3 * 512, AT),
         Call::Delete(name),
     ] {
         let answer = every_cut(&mut card.bytes, &call, 1, &mut random);

@@ -4,11 +4,17 @@
 use lfat_card::raw::*;
 use reference::card_k;
 use std::ptr::null;
+use testkit::dates::LAST_SECOND;
 use testkit::random::Random;
-use testkit::{ALL, PANEL, ROUTE};
+use testkit::{ALL, AT, PANEL, ROUTE};
 
 /// What all twelve calls answer, one after the other.
 fn answers(card: &mut [u8], name: &[u8], limit: u32) -> [u64; 12] {
+    answers_at(card, name, AT, limit)
+}
+
+/// The same at a number of seconds.
+fn answers_at(card: &mut [u8], name: &[u8], seconds: u32, limit: u32) -> [u64; 12] {
     let (at, length) = (card.as_mut_ptr(), card.len());
     let (name, name_length) = (name.as_ptr(), name.len());
     let (data, chars) = ([7u8; 600], *b"a\0b\0");
@@ -17,10 +23,28 @@ fn answers(card: &mut [u8], name: &[u8], limit: u32) -> [u64; 12] {
     // Each slice is valid for its length, and none overlaps another.
     unsafe {
         [
-            lfat_create(at, length, name, name_length, limit),
-            lfat_append(at, length, name, name_length, data.as_ptr(), 600, limit),
-            lfat_replace(at, length, name, name_length, data.as_ptr(), 600, limit),
-            lfat_truncate(at, length, name, name_length, 5, limit),
+            lfat_create(at, length, name, name_length, seconds, limit),
+            lfat_append(
+                at,
+                length,
+                name,
+                name_length,
+                data.as_ptr(),
+                600,
+                seconds,
+                limit,
+            ),
+            lfat_replace(
+                at,
+                length,
+                name,
+                name_length,
+                data.as_ptr(),
+                600,
+                seconds,
+                limit,
+            ),
+            lfat_truncate(at, length, name, name_length, 5, seconds, limit),
             lfat_delete(at, length, name, name_length, limit),
             lfat_rename(at, length, name, name_length, PANEL.as_ptr(), 11, limit),
             lfat_recover(at, length, limit),
@@ -28,7 +52,16 @@ fn answers(card: &mut [u8], name: &[u8], limit: u32) -> [u64; 12] {
             lfat_list(at, length, out, 600),
             lfat_fits(at, length, 600),
             lfat_long_name(at, length, name, name_length, out, 600),
-            lfat_create_long(at, length, name, name_length, chars.as_ptr(), 4, limit),
+            lfat_create_long(
+                at,
+                length,
+                name,
+                name_length,
+                chars.as_ptr(),
+                4,
+                seconds,
+                limit,
+            ),
         ]
     }
 }
@@ -84,6 +117,31 @@ fn locked_file() {
     }
 }
 
+/// CLOCK has the number 18 and no count. The calls that take no seconds go on.
+#[test]
+fn seconds_past_the_calendar() {
+    let clock = ground(18);
+    for seconds in [LAST_SECOND + 1, u32::MAX] {
+        for limit in [0, 3, ALL] {
+            for name in [&b"ROUTE.CUT"[..], PANEL] {
+                let refused = match name.len() {
+                    11 => ground(9),
+                    _ => ground(8),
+                };
+                let mut card = card_with(ROUTE);
+                let before = card.clone();
+                let expected = [
+                    clock, clock, clock, clock, refused, refused, 0, refused, 1, 11, refused, clock,
+                ];
+                assert_eq!(answers_at(&mut card, name, seconds, limit), expected);
+                assert!(card == before);
+            }
+        }
+    }
+    let mut card = card_k();
+    assert_eq!(answers_at(&mut card, ROUTE, LAST_SECOND, ALL)[0], 3);
+}
+
 #[test]
 fn counts_of_finished_and_stopped_calls() {
     let mut card = card_k();
@@ -130,12 +188,12 @@ fn long_names() {
     let (at, length, name) = (card.as_mut_ptr(), card.len(), ROUTE.as_ptr());
     let chars = *b"a\0b\0c\0";
     let create =
-        |count| unsafe { lfat_create_long(at, length, name, 11, chars.as_ptr(), count, ALL) };
+        |count| unsafe { lfat_create_long(at, length, name, 11, chars.as_ptr(), count, AT, ALL) };
     for count in [0, 1, 3, 5] {
         assert_eq!(create(count), ground(17));
     }
     assert_eq!(
-        unsafe { lfat_create_long(at, length, name, 11, null(), 0, ALL) },
+        unsafe { lfat_create_long(at, length, name, 11, null(), 0, AT, ALL) },
         ground(17)
     );
     assert_eq!(create(6), 3);
@@ -174,8 +232,9 @@ fn what_is_no_card() {
     }
 }
 
-/// A call on the card and two other slices.
-type OnTwo = unsafe extern "C" fn(*mut u8, usize, *const u8, usize, *const u8, usize, u32) -> u64;
+/// A call on the card, a name and another slice, which sets dates.
+type OnTwo =
+    unsafe extern "C" fn(*mut u8, usize, *const u8, usize, *const u8, usize, u32, u32) -> u64;
 
 /// Makes a call on slices that overlap and on copies of them: both make so many stores and leave the same card.
 fn as_on_copies(call: OnTwo, start: &[u8], first: &[u8], second: &[u8], stores: u64) -> Vec<u8> {
@@ -183,7 +242,7 @@ fn as_on_copies(call: OnTwo, start: &[u8], first: &[u8], second: &[u8], stores: 
         let mut card = start.to_vec();
         let (at, length) = (card.as_mut_ptr(), card.len());
         let (one, other) = (first.as_ptr(), second.as_ptr());
-        let answer = unsafe { call(at, length, one, first.len(), other, second.len(), ALL) };
+        let answer = unsafe { call(at, length, one, first.len(), other, second.len(), AT, ALL) };
         assert_eq!(answer, stores);
         card
     };
@@ -193,13 +252,27 @@ fn as_on_copies(call: OnTwo, start: &[u8], first: &[u8], second: &[u8], stores: 
     card
 }
 
+/// A rename as a call of this kind; it takes no seconds.
+unsafe extern "C" fn renamed(
+    card: *mut u8,
+    card_len: usize,
+    old: *const u8,
+    old_len: usize,
+    new: *const u8,
+    new_len: usize,
+    _seconds: u32,
+    limit: u32,
+) -> u64 {
+    lfat_rename(card, card_len, old, old_len, new, new_len, limit)
+}
+
 /// Two parts that overlap but are only read give what copies of them give.
 #[test]
 fn parts_that_are_only_read_may_overlap() {
     let text = b"PATHS_1CUTNEW_PART1CUT";
     let (old, new) = (&text[..11], &text[6..17]);
     let start = card_with(old);
-    as_on_copies(lfat_rename, &start, old, new, 3);
+    as_on_copies(renamed, &start, old, new, 3);
     // The name is the data's beginning.
     for call in [lfat_append as OnTwo, lfat_replace] {
         let card = as_on_copies(call, &start, old, text, 6);
@@ -222,6 +295,7 @@ fn card_with(name: &[u8]) -> Vec<u8> {
             card.len(),
             name.as_ptr(),
             name.len(),
+            AT,
             ALL,
         )
     };

@@ -5,8 +5,9 @@ use crate::support::twin::Twin;
 use reference::{Answer, Ground};
 use testkit::call::Call;
 use testkit::cards::Card;
+use testkit::dates::{stamp_record, stamp_written};
 use testkit::random::Random;
-use testkit::{cases, ALL, OTHER, PANEL, ROUTE};
+use testkit::{cases, ALL, AT, OTHER, PANEL, ROUTE};
 
 const DELETE: u8 = 3;
 const RENAME: u8 = 5;
@@ -41,11 +42,15 @@ fn group(operation: u8) -> [u8; 512] {
     sector[22] = 22;
     sector[26] = 21;
     sector[28..30].copy_from_slice(&1_500u16.to_le_bytes());
-    if operation == RENAME {
-        sector.copy_within(..32, 32);
-        sector[32..43].copy_from_slice(PANEL);
-        sector[45] = 0;
-        sector[50..52].copy_from_slice(&LIVE.to_le_bytes());
+    match operation {
+        RENAME => {
+            sector.copy_within(..32, 32);
+            sector[32..43].copy_from_slice(PANEL);
+            sector[45] = 0;
+            sector[50..52].copy_from_slice(&LIVE.to_le_bytes());
+        }
+        DELETE => (),
+        _ => sector[32..64].copy_from_slice(&stamp_record(AT)),
     }
     sector
 }
@@ -107,7 +112,7 @@ fn fields_of_record_0() {
             expect(operation, &[(13, unknown)], false);
         }
         expect(operation, &[(13, 0)], false);
-        let end = if operation == RENAME { 64 } else { 32 };
+        let end = if operation == DELETE { 32 } else { 64 };
         for after in [end, end + 31, 480, 511] {
             expect(operation, &[(after, 1)], false);
             expect(operation, &[(after, 0xE5)], false);
@@ -228,7 +233,9 @@ fn odd_fields_of_a_replace() {
         // FAT1 sectors 0, 1 and 15, the root sector and the commit.
         assert_eq!(twin.call(&Call::Recover, ALL), Answer::Done(5));
         let slot = twin.card.slot(3);
-        assert_eq!(slot[..26], before[..26]);
+        let mut expected = before;
+        stamp_written(&mut expected, AT);
+        assert_eq!(slot[..26], expected[..26]);
         assert_eq!(slot[26..28], u16::to_le_bytes(dir_cluster));
         assert_eq!(slot[28..], u32::to_le_bytes(size));
     }
@@ -258,7 +265,9 @@ fn random_groups() {
         let mut sector = group(1 + random.below(6) as u8);
         for at in [11, 26, 27, 28, 29, 30, 31] {
             sector[at] = random.byte();
-            sector[at + 32] = if sector[13] == RENAME { sector[at] } else { 0 };
+            if sector[13] == RENAME {
+                sector[at + 32] = sector[at];
+            }
         }
         let slots = usize::from(LIVE) + 3;
         sector[18] = random.below(slots) as u8;
@@ -274,6 +283,10 @@ fn random_groups() {
             let end = random.pick(&[64, 64, 64, 512]);
             let at = random.below(end);
             sector[at] = random.pick(&[0, 1, 3, 0x20, 0xE5, sector[18] ^ 1]);
+        }
+        if !matches!(sector[13], DELETE | RENAME) && random.one_in(2) {
+            // Words of any kind in the stamp.
+            sector[46..50].copy_from_slice(&random.bytes(4));
         }
         let mut card = card();
         card.put_slot(9, OTHER, random.byte(), 60, random.byte().into());

@@ -4,7 +4,7 @@
 use lfat_card::calls;
 use reference::{Answer, CardSpec};
 use testkit::call::Call;
-use testkit::{ALL, PANEL, ROUTE};
+use testkit::{ALL, AT, PANEL, ROUTE};
 
 const LARGEST: CardSpec = CardSpec {
     reserved: 1,
@@ -51,29 +51,32 @@ fn largest_card() {
         (Call::Fits(1), Answer::No),
         (Call::Read(route(), 0, 40_000), Answer::Done(40_000)),
         (Call::Read(route(), size - 9, 40), Answer::Done(9)),
-        (Call::Append(route(), vec![3; 5]), Answer::Done(4)),
-        (Call::Truncate(route(), size - 70_000), Answer::Done(5)),
+        (Call::Append(route(), vec![3; 5], AT), Answer::Done(4)),
+        (Call::Truncate(route(), size - 70_000, AT), Answer::Done(5)),
         (
-            Call::Append(route(), vec![4; 65_536]),
+            Call::Append(route(), vec![4; 65_536], AT),
             Answer::Done(129 + 5),
         ),
-        (Call::Truncate(route(), 32_769), Answer::Done(2 * 256 + 3)),
-        (Call::Create(PANEL.to_vec()), Answer::Done(3)),
         (
-            Call::Append(PANEL.to_vec(), vec![5; 32_769]),
+            Call::Truncate(route(), 32_769, AT),
+            Answer::Done(2 * 256 + 3),
+        ),
+        (Call::Create(PANEL.to_vec(), AT), Answer::Done(3)),
+        (
+            Call::Append(PANEL.to_vec(), vec![5; 32_769], AT),
             Answer::Done(65 + 5),
         ),
         // From clusters 2 and 3 to 4, 5 and 6, and back.
         (
-            Call::Replace(PANEL.to_vec(), vec![8; 65_537]),
+            Call::Replace(PANEL.to_vec(), vec![8; 65_537], AT),
             Answer::Done(129 + 5),
         ),
         (
-            Call::Replace(PANEL.to_vec(), vec![5; 32_769]),
+            Call::Replace(PANEL.to_vec(), vec![5; 32_769], AT),
             Answer::Done(65 + 5),
         ),
         (
-            Call::Append(route(), vec![6; 65_536]),
+            Call::Append(route(), vec![6; 65_536], AT),
             Answer::Done(129 + 7),
         ),
         (Call::Read(route(), 32_760, 40), Answer::Done(40)),
@@ -105,26 +108,29 @@ fn lengths_past_32_bits() {
     const LENGTH: usize = (1 << 32) + 600;
     let mut card = reference::card_k();
     let mut long = vec![0u8; LENGTH];
-    assert_eq!(calls::create(&mut card, ROUTE, ALL).encode(), 3);
+    assert_eq!(calls::create(&mut card, ROUTE, AT, ALL).encode(), 3);
     let before = card.clone();
     // Cut to 32 bits it would be 600 bytes, which fit.
     assert_eq!(
-        calls::append(&mut card, ROUTE, &long, ALL).encode(),
+        calls::append(&mut card, ROUTE, &long, AT, ALL).encode(),
         15 << 32
     );
     assert_eq!(
-        calls::replace(&mut card, ROUTE, &long, ALL).encode(),
+        calls::replace(&mut card, ROUTE, &long, AT, ALL).encode(),
         15 << 32
     );
-    assert_eq!(calls::create(&mut card, &long, ALL).encode(), 8 << 32);
+    assert_eq!(calls::create(&mut card, &long, AT, ALL).encode(), 8 << 32);
     // Cut to 32 bits it would be 300 characters, and with one more byte an odd number; cut to 33 it would be taken for none.
     for length in [LENGTH, LENGTH - 1, 1 << 32, (1 << 32) + 2] {
         let characters = &long[..length];
-        let answer = calls::create_long(&mut card, b"PANEL   CUT", characters, ALL);
+        let answer = calls::create_long(&mut card, b"PANEL   CUT", characters, AT, ALL);
         assert_eq!(answer.encode(), 17 << 32);
     }
     assert!(card == before);
-    assert_eq!(calls::append(&mut card, ROUTE, &[9; 700], ALL).encode(), 7);
+    assert_eq!(
+        calls::append(&mut card, ROUTE, &[9; 700], AT, ALL).encode(),
+        7
+    );
     // As a buffer it has room for all of the file.
     assert_eq!(calls::read(&card, ROUTE, 0, &mut long).encode(), 700);
     assert!(long[..700] == [9; 700] && long[700..9_000] == [0; 8_300]);

@@ -1,7 +1,7 @@
 //! Card K worked through: the rows M3 to M10 and the sectors that each stores, as the requirements have them.
 
 use lfat_card::calls::{self, Answer};
-use testkit::{ALL, ROUTE};
+use testkit::{ALL, AT, ROUTE};
 
 const NAME: &[u8] = ROUTE;
 
@@ -42,10 +42,12 @@ fn path(length: usize) -> Vec<u8> {
 fn rows_of_the_worked_card() {
     let mut card = reference::card_k();
     let append = |length: usize| {
-        move |card: &mut [u8], limit| calls::append(card, NAME, &path(length), limit)
+        move |card: &mut [u8], limit| calls::append(card, NAME, &path(length), AT, limit)
     };
 
-    let m3 = stored(&mut card, |card, limit| calls::create(card, NAME, limit));
+    let m3 = stored(&mut card, |card, limit| {
+        calls::create(card, NAME, AT, limit)
+    });
     assert_eq!(m3, [65, 33, 65]);
 
     for (limit, size) in [(4, 0), (5, 1_300)] {
@@ -73,7 +75,7 @@ fn rows_of_the_worked_card() {
     assert_eq!(card[67 * 512 + 22..][..4], [0; 4], "DIR_Cluster");
 
     let m8 = stored(&mut card, |card, limit| {
-        calls::truncate(card, NAME, 512, limit)
+        calls::truncate(card, NAME, 512, AT, limit)
     });
     assert_eq!(m8, [17, 68, 1, 33, 68]);
     assert_eq!(card[68 * 512 + 22..][..4], [11, 0, 0, 0], "DIR_Cluster");
@@ -82,10 +84,12 @@ fn rows_of_the_worked_card() {
     assert_eq!(m9, [17, 69, 1, 33, 69]);
 
     for group in 70..73 {
-        let create = |card: &mut [u8], limit| calls::create(card, &name(group), limit);
+        let create = |card: &mut [u8], limit| calls::create(card, &name(group), AT, limit);
         assert_eq!(stored(&mut card, create), [group, 33, group]);
     }
-    let m10 = stored(&mut card, |card, limit| calls::create(card, NAME, limit));
+    let m10 = stored(&mut card, |card, limit| {
+        calls::create(card, NAME, AT, limit)
+    });
     assert_eq!(m10, [72, 71, 70, 69, 68, 67, 66, 65, 65, 33, 65]);
 }
 
@@ -101,11 +105,11 @@ fn record(card: &[u8], sector: usize) -> (u8, u32, u16, u32) {
 #[test]
 fn replace_on_the_worked_card() {
     let mut card = reference::card_k();
-    assert_eq!(calls::create(&mut card, NAME, ALL), Answer::Done(3));
-    let m4 = calls::append(&mut card, NAME, &path(1_300), ALL);
+    assert_eq!(calls::create(&mut card, NAME, AT, ALL), Answer::Done(3));
+    let m4 = calls::append(&mut card, NAME, &path(1_300), AT, ALL);
     assert_eq!(m4, Answer::Done(8));
     let new: Vec<u8> = path(600).iter().map(|byte| byte ^ 0x80).collect();
-    let replace = |card: &mut [u8], limit| calls::replace(card, NAME, &new, limit);
+    let replace = |card: &mut [u8], limit| calls::replace(card, NAME, &new, AT, limit);
 
     for (limit, slot_after) in [(3, (10, 1_300)), (4, (13, 600))] {
         let mut cut = card.clone();
@@ -128,7 +132,7 @@ fn replace_on_the_worked_card() {
     assert_eq!(stored(&mut card, replace), [73, 74, 17, 68, 1, 33, 68]);
     assert_eq!(record(&card, 68), (6, 10, 13, 600));
 
-    let none = |card: &mut [u8], limit| calls::replace(card, NAME, &[], limit);
+    let none = |card: &mut [u8], limit| calls::replace(card, NAME, &[], AT, limit);
     assert_eq!(stored(&mut card, none), [17, 69, 1, 33, 69]);
     assert_eq!(slot(&card), (0, 0));
     assert_eq!(record(&card, 69), (6, 0, 10, 0));

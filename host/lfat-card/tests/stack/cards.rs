@@ -8,7 +8,7 @@ use testkit::characters::{bytes_of, letters};
 use testkit::fixtures::furnished_card;
 use testkit::random::Random;
 use testkit::steps::{random_call, random_long_name};
-use testkit::{cases, ALL, OTHER, PANEL, ROUTE};
+use testkit::{cases, ALL, AT, OTHER, PANEL, ROUTE};
 
 const DONE: u64 = 0;
 const STOPPED: u64 = 255;
@@ -58,17 +58,17 @@ pub fn drive_large_cards(measure: &mut Measure) {
 fn storing_calls() -> Vec<Call> {
     let (route, other) = (ROUTE.to_vec(), OTHER.to_vec());
     vec![
-        Call::Create(PANEL.to_vec()),
-        Call::CreateLong(PANEL.to_vec(), bytes_of(&letters(208))),
-        Call::CreateLong(PANEL.to_vec(), bytes_of(&letters(5))),
+        Call::Create(PANEL.to_vec(), AT),
+        Call::CreateLong(PANEL.to_vec(), bytes_of(&letters(208)), AT),
+        Call::CreateLong(PANEL.to_vec(), bytes_of(&letters(5)), AT),
         Call::Rename(route.clone(), PANEL.to_vec()),
-        Call::Append(other.clone(), vec![7; 1 << 20]),
-        Call::Append(route.clone(), vec![7; 500_000]),
-        Call::Replace(other.clone(), vec![7; 1 << 20]),
-        Call::Replace(route.clone(), vec![7; 500_000]),
-        Call::Replace(route.clone(), Vec::new()),
-        Call::Truncate(route.clone(), 1),
-        Call::Truncate(route.clone(), 700_000),
+        Call::Append(other.clone(), vec![7; 1 << 20], AT),
+        Call::Append(route.clone(), vec![7; 500_000], AT),
+        Call::Replace(other.clone(), vec![7; 1 << 20], AT),
+        Call::Replace(route.clone(), vec![7; 500_000], AT),
+        Call::Replace(route.clone(), Vec::new(), AT),
+        Call::Truncate(route.clone(), 1, AT),
+        Call::Truncate(route.clone(), 700_000, AT),
         Call::Delete(route),
         Call::Delete(other),
     ]

@@ -13,22 +13,23 @@ impl Stack {
         Stack(vec![0; BYTES / size_of::<u128>()])
     }
 
-    /// Calls a C function of up to seven numbers on the freshly painted stack. Gives what it returns, and how many bytes below the
+    /// Calls a C function of up to eight numbers on the freshly painted stack. Gives what it returns, and how many bytes below the
     /// caller's stack pointer it has touched: return address, all frames under it, red zone.
     ///
     /// # Safety
     ///
     /// The function takes these arguments.
-    pub unsafe fn call(&mut self, function: *const (), arguments: [u64; 7]) -> (u64, usize) {
+    pub unsafe fn call(&mut self, function: *const (), arguments: [u64; 8]) -> (u64, usize) {
         let bottom = self.0.as_mut_ptr().cast::<u8>();
         bottom.write_bytes(PAINT, BYTES);
-        let [rdi, rsi, rdx, rcx, r8, r9, seventh] = arguments;
+        let [rdi, rsi, rdx, rcx, r8, r9, seventh, eighth] = arguments;
         let answer: u64;
-        // Eight bytes below the top, so that the stack is aligned once the seventh argument lies on it.
-        let top = bottom.add(BYTES - 8);
+        // The stack is aligned again once the last two arguments lie on it.
+        let top = bottom.add(BYTES);
         asm!(
             "mov r12, rsp",
             "mov rsp, r13",
+            "push r11",
             "push r10",
             "call rax",
             "mov rsp, r12",
@@ -40,6 +41,7 @@ impl Stack {
             in("r8") r8,
             in("r9") r9,
             in("r10") seventh,
+            in("r11") eighth,
             in("r13") top,
             out("r12") _,
             clobber_abi("C"),

@@ -2,11 +2,12 @@
 //! `host/lfat/tests/host/wrapper.rs` has a card's whole life.
 
 mod answers;
+mod dates;
 mod files;
 mod library_folder;
 mod names;
 
-use lfat_card::{Card, Name};
+use lfat_card::{Card, DateTime, Name};
 use reference::card_k;
 
 /// A path whose lines and bytes differ, cut off at a length.
@@ -19,12 +20,17 @@ fn name(text: &str) -> Name {
     Name::parse(text).expect("a name")
 }
 
+/// A time with an odd second.
+fn at() -> DateTime {
+    DateTime::new(2026, 6, 17, 13, 45, 31).expect("a date and a time")
+}
+
 /// Card K with the file ROUTE.CUT of so many bytes.
 fn card_with_route(length: usize) -> Vec<u8> {
     let mut window = card_k();
     let mut card = Card::new(&mut window);
-    card.create(name("ROUTE.CUT")).expect("created");
-    card.append(name("ROUTE.CUT"), &points(length))
+    card.create(name("ROUTE.CUT"), at()).expect("created");
+    card.append(name("ROUTE.CUT"), &points(length), at())
         .expect("appended");
     window
 }

@@ -1,9 +1,10 @@
 //! Names from an entry's bytes.
 
-use crate::{card_with_route, name};
+use crate::{at, card_with_route, name};
 use lfat_card::{calls, printed, Answer, Card, CardView, Entry, LongName, Name, Refusal};
 use reference::card_k;
 use testkit::random::Random;
+use testkit::AT;
 
 /// Bytes make a name where the library takes them for one.
 #[test]
@@ -83,7 +84,7 @@ fn long_names_as_the_library_has_them() {
             characters[at] = round % 260;
         }
         let bytes = testkit::characters::bytes_of(&characters);
-        let answer = calls::create_long(&mut card, b"ROUTE   CUT", &bytes, 0);
+        let answer = calls::create_long(&mut card, b"ROUTE   CUT", &bytes, AT, 0);
         match LongName::from_characters(&characters) {
             Ok(name) => {
                 assert_eq!(answer, Answer::Stopped(0), "{characters:?}");
@@ -121,13 +122,16 @@ fn long_names_as_text() {
     let mut window = card_with_route(5);
     let mut card = Card::new(&mut window);
     let panel = name("PANEL.CUT");
-    assert_eq!(card.create_long(panel, &boat), Ok(3));
+    assert_eq!(card.create_long(panel, &boat, at()), Ok(3));
     assert_eq!(card.long_name(panel), Ok(boat.characters()));
     assert_eq!(card.long_name(name("ROUTE.CUT")), Ok(Vec::new()));
     assert_eq!(card.long_name(name("KEEL")), Err(Refusal::Absent));
-    assert_eq!(card.create_long(name("KEEL"), &boat), Err(Refusal::Exists));
     assert_eq!(
-        card.create_long(panel, &LongName::parse("other").unwrap()),
+        card.create_long(name("KEEL"), &boat, at()),
+        Err(Refusal::Exists)
+    );
+    assert_eq!(
+        card.create_long(panel, &LongName::parse("other").unwrap(), at()),
         Err(Refusal::Exists)
     );
     let half = LongName::from_characters(&[0xD800]).expect("allowed");

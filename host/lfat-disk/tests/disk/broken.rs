@@ -7,6 +7,7 @@ use crate::support::lying::Lying;
 use lfat_disk::lists::{Lists, Planned};
 use lfat_disk::{Operation, Program};
 use reference::Ground;
+use testkit::AT;
 
 const DEPTH: Depth = Depth {
     all_below: 4,
@@ -181,12 +182,12 @@ fn the_next_call_is_right() {
         lfat_disk::DiskCard::on(&mut disk, lists, lfat_disk::Access::Write).expect("opened");
     let before = card.window().to_vec();
     assert!(matches!(
-        card.append(ROUTE, &[1; 900]),
+        card.append(ROUTE, &[1; 900], AT),
         Err(lfat_disk::Error::Disagree)
     ));
     assert!(card.window() == before);
     assert!(matches!(
-        card.create(ROUTE),
+        card.create(ROUTE, AT),
         Err(lfat_disk::Error::Refused(_))
     ));
     assert!(card.window() == before);

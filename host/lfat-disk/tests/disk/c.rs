@@ -4,6 +4,8 @@ use crate::files::Temporary;
 use crate::support::cards::{card_over, points, state, two_files, PANEL, ROUTE};
 use std::path::{Path, PathBuf};
 use std::process::{Command, Output};
+use std::time::{SystemTime, UNIX_EPOCH};
+use testkit::AT;
 
 /// The top of the repository.
 fn top() -> PathBuf {
@@ -83,7 +85,7 @@ fn the_example() {
 
     // A card that was cut is recovered first.
     let mut cut = two_files();
-    reference::append(&mut cut, ROUTE, &points(1_300), 6);
+    reference::append(&mut cut, ROUTE, &points(1_300), AT, 6);
     let card = Temporary::new(&cut);
     assert!(run(&save, &[path(&card), "PANEL.CUT", path(&data)])
         .status
@@ -145,6 +147,32 @@ fn the_example() {
     assert!(card.bytes() == before, "nothing is changed");
 }
 
+/// The example dates by the local time of this machine.
+#[test]
+fn the_date_of_the_example() {
+    let save = build("gcc", "c99", &top().join("examples/save.c"));
+    let data = Temporary::new(&points(300));
+    for (zone, minutes) in [("AAA-14", 14 * 60), ("BBB+9:30", -570), ("UTC0", 0)] {
+        let card = Temporary::new(&two_files());
+        // The seconds since 1980 began there.
+        let now = || {
+            let since = SystemTime::now().duration_since(UNIX_EPOCH);
+            since.expect("after 1970").as_secs() as i64 - 315_532_800 + minutes * 60
+        };
+        for (name, slot) in [("ROUTE.CUT", 0), ("NEW.CUT", 2)] {
+            let before = now();
+            let words = [path(&card), name, path(&data)];
+            let output = Command::new(&save.0).args(words).env("TZ", zone).output();
+            assert!(output.expect("the program runs").status.success());
+            let bytes = card_over(&card.bytes()).slot(slot).try_into();
+            let entry = lfat_card::Entry(bytes.expect("a slot"));
+            let written = entry.written().expect("a date").seconds();
+            let written = i64::from(written.expect("within 2107"));
+            assert!((before - 1..=now()).contains(&written), "{zone} {name}");
+        }
+    }
+}
+
 /// A card in a partition, by its number and found.
 #[test]
 fn the_example_in_a_partition() {
@@ -197,6 +225,7 @@ int main(int argc, char **argv)
     const uint8_t *panel = (const uint8_t *)"PANEL   CUT", *hull = (const uint8_t *)"HULL7S~1CUT";
     const uint8_t chars[] = {'H', 0, 'u', 0, 0xFF, 0xFF};
     uint8_t entries[3 * 32], bytes[2000];
+    const uint32_t now = lfat_seconds(2026, 11, 17, 19, 30, 59), late = LFAT_LAST_SECOND + 1;
     lfat_disk *disk, *other;
     memset(bytes, 'x', sizeof bytes);
     if (argc != 2)
@@ -224,30 +253,37 @@ int main(int argc, char **argv)
     DUE(lfat_disk_fits(disk, UINT64_C(1) << 32), LFAT_NO, 0);
     DUE(lfat_disk_fits(disk, UINT64_MAX), LFAT_NO, 0);
     DUE(lfat_disk_fits(NULL, 0), LFAT_DISK_ARGUMENT, 0);
-    DUE(lfat_disk_create(disk, keel, 11), LFAT_DISK_READ_ONLY, 0);
+    DUE(lfat_disk_create(disk, keel, 11, now), LFAT_DISK_READ_ONLY, 0);
     lfat_disk_close(disk);
 
     DUE(lfat_disk_open(argv[1], 0, LFAT_DISK_WAIT, &disk), LFAT_DONE, 0);
     DUE(lfat_disk_recover(disk), LFAT_DONE, 0);
-    DUE(lfat_disk_create(disk, keel, 11), LFAT_DONE, 3);
-    DUE(lfat_disk_create(disk, keel, 11), LFAT_EXISTS, 0);
-    DUE(lfat_disk_create(disk, keel, 10), LFAT_NAME, 0);
-    DUE(lfat_disk_create(disk, NULL, 11), LFAT_DISK_ARGUMENT, 0);
+    DUE(lfat_disk_create(disk, keel, 11, now), LFAT_DONE, 3);
+    DUE(lfat_disk_create(disk, keel, 11, now), LFAT_EXISTS, 0);
+    DUE(lfat_disk_create(disk, keel, 10, now), LFAT_NAME, 0);
+    DUE(lfat_disk_create(disk, keel, 10, late), LFAT_CLOCK, 0);
+    DUE(lfat_disk_create_long(disk, keel, 11, NULL, 0, late), LFAT_CLOCK, 0);
+    DUE(lfat_disk_append(disk, keel, 11, NULL, 0, UINT32_MAX), LFAT_CLOCK, 0);
+    DUE(lfat_disk_replace(disk, keel, 11, NULL, 0, late), LFAT_CLOCK, 0);
+    DUE(lfat_disk_truncate(disk, keel, 11, 0, lfat_seconds(1979, 12, 31, 23, 59, 59)), LFAT_CLOCK, 0);
+    if (strncmp(lfat_disk_message(), "CLOCK: ", 7) != 0 || lfat_disk_errno() != 0)
+        wrong = 1;
+    DUE(lfat_disk_create(disk, NULL, 11, now), LFAT_DISK_ARGUMENT, 0);
     DUE(lfat_disk_fits(disk, 1), LFAT_DONE, 23);
-    DUE(lfat_disk_append(disk, keel, 11, bytes, sizeof bytes), LFAT_DONE, 9);
+    DUE(lfat_disk_append(disk, keel, 11, bytes, sizeof bytes, now), LFAT_DONE, 9);
     DUE(lfat_disk_fits(disk, 1), LFAT_DONE, 27);
-    DUE(lfat_disk_append(disk, keel, 11, NULL, 0), LFAT_DONE, 0);
-    DUE(lfat_disk_append(disk, keel, 11, NULL, 1), LFAT_DISK_ARGUMENT, 0);
-    DUE(lfat_disk_replace(disk, keel, 11, bytes, 600), LFAT_DONE, 7);
-    DUE(lfat_disk_replace(disk, keel, 11, NULL, 0), LFAT_DONE, 5);
+    DUE(lfat_disk_append(disk, keel, 11, NULL, 0, now), LFAT_DONE, 0);
+    DUE(lfat_disk_append(disk, keel, 11, NULL, 1, now), LFAT_DISK_ARGUMENT, 0);
+    DUE(lfat_disk_replace(disk, keel, 11, bytes, 600, now), LFAT_DONE, 7);
+    DUE(lfat_disk_replace(disk, keel, 11, NULL, 0, now), LFAT_DONE, 5);
     /* Eight groups fill the log: it is cleared first. */
-    DUE(lfat_disk_replace(disk, keel, 11, NULL, 0), LFAT_DONE, 11);
-    DUE(lfat_disk_replace(disk, keel, 11, NULL, 1), LFAT_DISK_ARGUMENT, 0);
-    DUE(lfat_disk_replace(disk, NULL, 11, bytes, 1), LFAT_DISK_ARGUMENT, 0);
-    DUE(lfat_disk_replace(disk, (const uint8_t *)"NONE       ", 11, bytes, 1), LFAT_ABSENT, 0);
-    DUE(lfat_disk_replace(disk, keel, 11, bytes, sizeof bytes), LFAT_DONE, 9);
-    DUE(lfat_disk_truncate(disk, keel, 11, 2001), LFAT_LENGTH, 0);
-    DUE(lfat_disk_truncate(disk, keel, 11, 1000), LFAT_DONE, 5);
+    DUE(lfat_disk_replace(disk, keel, 11, NULL, 0, now), LFAT_DONE, 11);
+    DUE(lfat_disk_replace(disk, keel, 11, NULL, 1, now), LFAT_DISK_ARGUMENT, 0);
+    DUE(lfat_disk_replace(disk, NULL, 11, bytes, 1, now), LFAT_DISK_ARGUMENT, 0);
+    DUE(lfat_disk_replace(disk, (const uint8_t *)"NONE       ", 11, bytes, 1, now), LFAT_ABSENT, 0);
+    DUE(lfat_disk_replace(disk, keel, 11, bytes, sizeof bytes, now), LFAT_DONE, 9);
+    DUE(lfat_disk_truncate(disk, keel, 11, 2001, now), LFAT_LENGTH, 0);
+    DUE(lfat_disk_truncate(disk, keel, 11, 1000, now), LFAT_DONE, 5);
     memset(bytes, 0, sizeof bytes);
     DUE(lfat_disk_read(disk, keel, 11, 10, bytes, sizeof bytes), LFAT_DONE, 990);
     if (bytes[989] != 'x' || bytes[990] != 0)
@@ -257,11 +293,14 @@ int main(int argc, char **argv)
     DUE(lfat_disk_delete(disk, route, 11), LFAT_DONE, 6);
     DUE(lfat_disk_rename(disk, keel, 11, route, 11), LFAT_DONE, 3);
     DUE(lfat_disk_list(disk, entries, sizeof entries), LFAT_DONE, 2);
+    /* The entry of KEEL, now ROUTE.CUT, with its dates: 19:30:58 on 17 November 2026. */
+    if (memcmp(entries + 32 + 13, "\0\xDD\x9B\x71\x5D\x71\x5D\0\0\xDD\x9B\x71\x5D", 13) != 0)
+        wrong = 1;
     DUE(lfat_disk_delete(disk, keel, 11), LFAT_ABSENT, 0);
     /* PANEL.CUT is marked read-only. */
-    DUE(lfat_disk_append(disk, panel, 11, NULL, 0), LFAT_LOCKED, 0);
-    DUE(lfat_disk_replace(disk, panel, 11, bytes, 1), LFAT_LOCKED, 0);
-    DUE(lfat_disk_truncate(disk, panel, 11, 5001), LFAT_LOCKED, 0);
+    DUE(lfat_disk_append(disk, panel, 11, NULL, 0, now), LFAT_LOCKED, 0);
+    DUE(lfat_disk_replace(disk, panel, 11, bytes, 1, now), LFAT_LOCKED, 0);
+    DUE(lfat_disk_truncate(disk, panel, 11, 5001, now), LFAT_LOCKED, 0);
     DUE(lfat_disk_delete(disk, panel, 11), LFAT_LOCKED, 0);
     DUE(lfat_disk_rename(disk, panel, 11, route, 11), LFAT_LOCKED, 0);
     if (strcmp(lfat_disk_message(), "LOCKED: the file is marked read-only") != 0)
@@ -269,13 +308,13 @@ int main(int argc, char **argv)
     DUE(lfat_disk_rename(disk, route, 11, panel, 11), LFAT_EXISTS, 0);
     DUE(lfat_disk_read(disk, panel, 11, 4990, bytes, sizeof bytes), LFAT_DONE, 10);
     /* A long name of three characters, the last of them 0xFFFF. */
-    DUE(lfat_disk_create_long(disk, keel, 11, chars, 6), LFAT_DONE, 3);
-    DUE(lfat_disk_create_long(disk, hull, 11, chars, 6), LFAT_EXISTS, 0);
-    DUE(lfat_disk_create_long(disk, hull, 11, chars, 5), LFAT_LONGNAME, 0);
-    DUE(lfat_disk_create_long(disk, hull, 11, NULL, 0), LFAT_LONGNAME, 0);
-    DUE(lfat_disk_create_long(disk, hull, 11, NULL, 2), LFAT_DISK_ARGUMENT, 0);
-    DUE(lfat_disk_create_long(disk, NULL, 11, chars, 6), LFAT_DISK_ARGUMENT, 0);
-    DUE(lfat_disk_create_long(NULL, hull, 11, chars, 6), LFAT_DISK_ARGUMENT, 0);
+    DUE(lfat_disk_create_long(disk, keel, 11, chars, 6, now), LFAT_DONE, 3);
+    DUE(lfat_disk_create_long(disk, hull, 11, chars, 6, now), LFAT_EXISTS, 0);
+    DUE(lfat_disk_create_long(disk, hull, 11, chars, 5, now), LFAT_LONGNAME, 0);
+    DUE(lfat_disk_create_long(disk, hull, 11, NULL, 0, now), LFAT_LONGNAME, 0);
+    DUE(lfat_disk_create_long(disk, hull, 11, NULL, 2, now), LFAT_DISK_ARGUMENT, 0);
+    DUE(lfat_disk_create_long(disk, NULL, 11, chars, 6, now), LFAT_DISK_ARGUMENT, 0);
+    DUE(lfat_disk_create_long(NULL, hull, 11, chars, 6, now), LFAT_DISK_ARGUMENT, 0);
     memset(bytes, 'x', sizeof bytes);
     DUE(lfat_disk_long_name(disk, keel, 11, bytes, sizeof bytes), LFAT_DONE, 3);
     if (memcmp(bytes, chars, 6) != 0 || bytes[6] != 'x')

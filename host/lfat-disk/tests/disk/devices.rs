@@ -6,6 +6,7 @@ use lfat_disk::{Access, DiskCard, Error};
 use reference::CardSpec;
 use std::path::{Path, PathBuf};
 use std::process::Command;
+use testkit::AT;
 
 /// A loop device over a file; gone when the test ends.
 struct Loop(PathBuf);
@@ -37,8 +38,8 @@ fn card() -> Vec<u8> {
         ..CardSpec::K
     }
     .build();
-    reference::create(&mut card, ROUTE, u32::MAX);
-    reference::append(&mut card, ROUTE, &points(1_300), u32::MAX);
+    reference::create(&mut card, ROUTE, AT, u32::MAX);
+    reference::append(&mut card, ROUTE, &points(1_300), AT, u32::MAX);
     card
 }
 
@@ -55,12 +56,12 @@ fn a_save_on_a_device() {
             Err(Error::InUse)
         ));
         open.recover().expect("granted");
-        open.create(NEW).expect("granted");
-        open.append(NEW, &points(100_000)).expect("granted");
-        open.append(ROUTE, &points(777)).expect("granted");
+        open.create(NEW, AT).expect("granted");
+        open.append(NEW, &points(100_000), AT).expect("granted");
+        open.append(ROUTE, &points(777), AT).expect("granted");
         open.rename(NEW, PANEL).expect("granted");
-        open.truncate(PANEL, 50_001).expect("granted");
-        open.replace(ROUTE, &points(4_321)).expect("granted");
+        open.truncate(PANEL, 50_001, AT).expect("granted");
+        open.replace(ROUTE, &points(4_321), AT).expect("granted");
         let mut back = vec![0; 60_000];
         assert_eq!(open.read(PANEL, 0, &mut back).expect("read"), 50_001);
         assert!(back[..50_001] == points(100_000)[..50_001]);
@@ -69,12 +70,12 @@ fn a_save_on_a_device() {
         assert_eq!(open.fits(1 << 32).expect("clean"), None);
         drop(open);
         drop(device);
-        reference::create(&mut wanted, NEW, u32::MAX);
-        reference::append(&mut wanted, NEW, &points(100_000), u32::MAX);
-        reference::append(&mut wanted, ROUTE, &points(777), u32::MAX);
+        reference::create(&mut wanted, NEW, AT, u32::MAX);
+        reference::append(&mut wanted, NEW, &points(100_000), AT, u32::MAX);
+        reference::append(&mut wanted, ROUTE, &points(777), AT, u32::MAX);
         reference::rename(&mut wanted, NEW, PANEL, u32::MAX);
-        reference::truncate(&mut wanted, PANEL, 50_001, u32::MAX);
-        reference::replace(&mut wanted, ROUTE, &points(4_321), u32::MAX);
+        reference::truncate(&mut wanted, PANEL, 50_001, AT, u32::MAX);
+        reference::replace(&mut wanted, ROUTE, &points(4_321), AT, u32::MAX);
         assert!(file.bytes() == wanted, "{block}");
     }
 }
@@ -95,12 +96,12 @@ fn a_save_in_a_partition_of_a_device() {
     let device = Loop::new(&file.0, 512);
     let mut open = DiskCard::open(&device.0, Access::Write).expect("opened");
     assert_eq!(open.partition().map(|found| found.first), Some(101));
-    open.append(ROUTE, &points(5_000)).expect("granted");
-    open.replace(ROUTE, &points(999)).expect("granted");
+    open.append(ROUTE, &points(5_000), AT).expect("granted");
+    open.replace(ROUTE, &points(999), AT).expect("granted");
     drop(open);
     drop(device);
     let card = &mut disk[place];
-    reference::append(card, ROUTE, &points(5_000), u32::MAX);
-    reference::replace(card, ROUTE, &points(999), u32::MAX);
+    reference::append(card, ROUTE, &points(5_000), AT, u32::MAX);
+    reference::replace(card, ROUTE, &points(999), AT, u32::MAX);
     assert!(file.bytes() == disk);
 }

@@ -8,6 +8,7 @@ use lfat_card::Refusal;
 use lfat_disk::lists::Planned;
 use lfat_disk::{Access, Disk, DiskCard, Error};
 use std::io::{self, ErrorKind};
+use testkit::AT;
 
 /// Every verb, with an error at every disk operation: the call says so, the handle does nothing more, and what is left is
 /// recovered to old or new, whatever of the unflushed writes has arrived.
@@ -65,7 +66,7 @@ fn short_disks() {
     ] {
         let mut disk = Lying::new(&card[..length]);
         let mut open = DiskCard::on(&mut disk, Planned, Access::Write).expect("opened");
-        for answer in [open.recover(), open.create(ROUTE), open.delete(ROUTE)] {
+        for answer in [open.recover(), open.create(ROUTE, AT), open.delete(ROUTE)] {
             assert!(
                 matches!(answer, Err(Error::Refused(found)) if found == refusal),
                 "{length}: {answer:?}"
@@ -116,19 +117,23 @@ fn sectors_that_cannot_be_read() {
     }
     // The file's data begins after the log; a call that needs its last sector changes nothing.
     let mut open = DiskCard::on(disk(73), Planned, Access::Write).expect("opened");
-    assert!(matches!(open.append(ROUTE, b"more"), Err(Error::Disk(_))));
+    assert!(matches!(
+        open.append(ROUTE, b"more", AT),
+        Err(Error::Disk(_))
+    ));
     assert!(matches!(
         open.read(ROUTE, 0, &mut [0; 10]),
         Err(Error::Disk(_))
     ));
     assert_eq!(
-        open.replace(ROUTE, &[7; 1_024]).expect("looks at no data"),
+        open.replace(ROUTE, &[7; 1_024], AT)
+            .expect("looks at no data"),
         7
     );
     assert_eq!(open.delete(ROUTE).expect("looks at no data"), 5);
     // Of a file in two pieces the first is read, the second is not: what was read is forgotten, and the next call is right.
     let mut card = two_files();
-    reference::append(&mut card, ROUTE, &points(1_300), u32::MAX);
+    reference::append(&mut card, ROUTE, &points(1_300), AT, u32::MAX);
     let disk = Unreadable {
         disk: Lying::new(&card),
         from: 86,

@@ -7,6 +7,7 @@ use lfat_disk::{Access, Disk, DiskCard, Error, Opening, Wait};
 use std::fs::{self, File, OpenOptions};
 use std::path::PathBuf;
 use std::sync::atomic::{AtomicUsize, Ordering};
+use testkit::AT;
 
 /// A file that goes when the test ends.
 pub struct Temporary(pub PathBuf);
@@ -95,18 +96,18 @@ fn a_save_on_an_image() {
     let past = points(700);
     let file = Temporary::new(&[&card[..], &past].concat());
     let mut open = DiskCard::open(&file.0, Access::Write).expect("opened");
-    open.create(NEW).expect("granted");
-    open.append(NEW, &points(100_000)).expect("granted");
-    open.append(ROUTE, &points(777)).expect("granted");
-    open.append(ROUTE, &points(5)).expect("granted");
+    open.create(NEW, AT).expect("granted");
+    open.append(NEW, &points(100_000), AT).expect("granted");
+    open.append(ROUTE, &points(777), AT).expect("granted");
+    open.append(ROUTE, &points(5), AT).expect("granted");
     let mut back = vec![0; 200_000];
     assert_eq!(open.read(NEW, 0, &mut back).expect("read"), 100_000);
     assert!(back[..100_000] == points(100_000));
     drop(open);
-    reference::create(&mut card, NEW, u32::MAX);
-    reference::append(&mut card, NEW, &points(100_000), u32::MAX);
-    reference::append(&mut card, ROUTE, &points(777), u32::MAX);
-    reference::append(&mut card, ROUTE, &points(5), u32::MAX);
+    reference::create(&mut card, NEW, AT, u32::MAX);
+    reference::append(&mut card, NEW, &points(100_000), AT, u32::MAX);
+    reference::append(&mut card, ROUTE, &points(777), AT, u32::MAX);
+    reference::append(&mut card, ROUTE, &points(5), AT, u32::MAX);
     assert!(file.bytes() == [&card[..], &past].concat());
 }
 

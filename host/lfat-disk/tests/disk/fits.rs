@@ -11,6 +11,7 @@ use lfat_disk::disk::Part;
 use lfat_disk::lists::Planned;
 use lfat_disk::{Access, Disk, DiskCard, Error, Operation};
 use reference::Answer;
+use testkit::AT;
 
 /// What the plain implementation answers.
 fn expected(card: &[u8], bytes: u64) -> Result<Option<u32>, u32> {
@@ -87,9 +88,17 @@ fn after_every_save() {
             let name = random.pick(&[ROUTE, PANEL, NEW]);
             let data = &data[..random.below(data.len())];
             let call = match random.below(5) {
-                0 => Operation::Create { name },
-                1 => Operation::Append { name, data },
-                2 | 3 => Operation::Replace { name, data },
+                0 => Operation::Create { name, seconds: AT },
+                1 => Operation::Append {
+                    name,
+                    data,
+                    seconds: AT,
+                },
+                2 | 3 => Operation::Replace {
+                    name,
+                    data,
+                    seconds: AT,
+                },
                 _ => Operation::Delete { name },
             };
             let made = card.save(&[call], u32::MAX);
@@ -125,7 +134,7 @@ fn in_a_partition() {
 #[test]
 fn refused() {
     let mut cut = two_files();
-    reference::append(&mut cut, ROUTE, &points(1_300), 6);
+    reference::append(&mut cut, ROUTE, &points(1_300), AT, 6);
     let mut root = two_files();
     root[33 * 512 + 90 * 32] = b'X';
     for (bytes, refusal) in [

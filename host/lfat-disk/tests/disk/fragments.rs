@@ -5,6 +5,7 @@ use crate::support::cards::{points, ALL, ROUTE};
 use lfat_disk::Operation;
 use reference::CardSpec;
 use std::ops::Range;
+use testkit::AT;
 
 /// The sectors that a call writes within a part of card K.
 fn sectors(card: &[u8], operation: &Operation, part: Range<usize>) -> Vec<usize> {
@@ -22,8 +23,8 @@ fn file_in_fragments() {
         .map(|i| format!("F{i}         ").into_bytes())
         .collect();
     for name in &names {
-        reference::create(&mut card, name, ALL);
-        reference::append(&mut card, name, &data[..1_000], ALL);
+        reference::create(&mut card, name, AT, ALL);
+        reference::append(&mut card, name, &data[..1_000], AT, ALL);
     }
     for gone in [0, 2, 4] {
         reference::delete(&mut card, &names[gone], ALL);
@@ -31,6 +32,7 @@ fn file_in_fragments() {
     let operation = Operation::Append {
         name: b"F5         ",
         data: &data,
+        seconds: AT,
     };
     let sectors = sectors(&card, &operation, 73..4_150);
     assert_eq!(sectors.len(), 21);
@@ -49,12 +51,24 @@ fn many_fat_sectors() {
     }
     let name = ROUTE;
     let data = points(18 * 512);
-    let create = Operation::Create { name };
-    let append = Operation::Append { name, data: &data };
-    let truncate = Operation::Truncate { name, size: 4_000 };
+    let create = Operation::Create { name, seconds: AT };
+    let append = Operation::Append {
+        name,
+        data: &data,
+        seconds: AT,
+    };
+    let truncate = Operation::Truncate {
+        name,
+        size: 4_000,
+        seconds: AT,
+    };
     // Clusters 200 to 1,600 are freed and 1,800 to 2,600 taken; then those are freed, and 200 to 1,000 taken.
     let data = &data[..5 * 512];
-    let replace = Operation::Replace { name, data };
+    let replace = Operation::Replace {
+        name,
+        data,
+        seconds: AT,
+    };
     for (operation, fat_sectors) in [
         (create, 0),
         (append, 15),
@@ -76,7 +90,7 @@ fn many_fat_sectors() {
 fn rename_across_root_sectors() {
     let mut card = CardSpec::K.build();
     for slot in 0..40 {
-        reference::create(&mut card, format!("F{slot:07}   ").as_bytes(), ALL);
+        reference::create(&mut card, format!("F{slot:07}   ").as_bytes(), AT, ALL);
     }
     reference::delete(&mut card, b"F0000003   ", ALL);
     let (old, new) = (b"F0000030   ", b"KEEL    CUT");

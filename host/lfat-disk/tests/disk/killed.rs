@@ -7,6 +7,7 @@ use crate::support::lying::Lying;
 use crate::support::random::Random;
 use lfat_disk::lists::Planned;
 use lfat_disk::{Access, DiskCard, Operation};
+use testkit::AT;
 
 /// A build that flushes while it writes, but not before it reads.
 struct NoFlushAtOpening;
@@ -30,7 +31,10 @@ impl Build for NoFlushAtOpening {
 /// Kills a verb after every disk operation; the next program recovers the card and makes another call; cuts that everywhere.
 fn examine(build: &impl Build, verb: &Verb) -> Result<Tried, String> {
     let card = two_files();
-    let next = Operation::Create { name: NEW };
+    let next = Operation::Create {
+        name: NEW,
+        seconds: AT,
+    };
     let mut allowed = states(&card, verb)?;
     let mut random = Random::new(0x3C6E_F372_FE94_F82B);
     let mut tried = Tried::default();
@@ -79,7 +83,7 @@ fn with_new(
             reference::run(&mut now, call, u32::MAX);
         }
     }
-    reference::create(&mut now, NEW, u32::MAX);
+    reference::create(&mut now, NEW, AT, u32::MAX);
     state(&now)
 }
 

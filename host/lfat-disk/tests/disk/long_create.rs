@@ -8,6 +8,7 @@ use lfat_disk::lists::{Lists, Planned};
 use lfat_disk::{Access, DiskCard, Error, Operation, Program, Segment};
 use reference::Ground;
 use testkit::cards::Card;
+use testkit::AT;
 
 const DEPTH: Depth = Depth {
     all_below: 5,
@@ -18,6 +19,7 @@ fn create(count: usize) -> Verb {
     Verb::Calls(vec![Operation::CreateLong {
         name: NEW,
         characters: characters(count),
+        seconds: AT,
     }])
 }
 
@@ -43,10 +45,12 @@ fn cut_everywhere() {
         Operation::CreateLong {
             name: NEW,
             characters: characters(208),
+            seconds: AT,
         },
         Operation::Append {
             name: NEW,
             data: &[7; 700],
+            seconds: AT,
         },
     ]);
     let tried = examine(&Ships, &card(2).bytes, &long_put, DEPTH);
@@ -123,7 +127,7 @@ fn flushes() {
     };
     assert!(order(&disk).ends_with("l|r|r|l|"), "{}", order(&disk));
     let mut cut = card(2).bytes;
-    reference::create_long(&mut cut, NEW, characters(208), 1);
+    reference::create_long(&mut cut, NEW, characters(208), AT, 1);
     let recover = Verb::Calls(vec![Operation::Recover]);
     let (disk, answer) = run(&Ships, &Lying::new(&cut), &recover);
     assert_eq!(answer.expect("granted"), 3);
@@ -139,7 +143,10 @@ fn open(disk: &mut Lying) -> DiskCard<&mut Lying, Planned> {
 fn read_back() {
     let mut disk = Lying::new(&two_files());
     let mut card = open(&mut disk);
-    assert_eq!(card.create_long(NEW, characters(30)).expect("granted"), 3);
+    assert_eq!(
+        card.create_long(NEW, characters(30), AT).expect("granted"),
+        3
+    );
     let mut buffer = [0xA5; 80];
     assert_eq!(card.long_name(NEW, &mut buffer).expect("granted"), 30);
     assert_eq!(buffer[..60], *characters(30));
@@ -152,7 +159,7 @@ fn read_back() {
         (b"OTHER      ", 0, "LONGNAME"),
         (b"OTHER      ", 209, "LONGNAME"),
     ] {
-        match card.create_long(name, characters(long)) {
+        match card.create_long(name, characters(long), AT) {
             Err(Error::Refused(refusal)) => assert_eq!(refusal.name(), ground),
             other => panic!("{other:?}"),
         }
@@ -173,7 +180,7 @@ fn read_back() {
 fn listed_by_slot() {
     let mut card = card_over(&two_files());
     for (name, count) in [(NEW, 22), (b"KEEL       ", 40), (b"STEM       ", 5)] {
-        reference::create_long(&mut card.bytes, name, characters(count), ALL);
+        reference::create_long(&mut card.bytes, name, characters(count), AT, ALL);
     }
     // Slots 4 and 9 are NEW and KEEL, 11 is STEM.
     card.slot_mut(4)[0] = 0x80;

@@ -2,6 +2,7 @@
 
 mod broken;
 mod c;
+mod dates;
 mod devices;
 mod faults;
 mod files;

@@ -6,6 +6,7 @@ use lfat_disk::disk::Part;
 use lfat_disk::lists::Planned;
 use lfat_disk::partition::{find, Partition};
 use lfat_disk::{Access, DiskCard, Error};
+use testkit::AT;
 
 fn put32(bytes: &mut [u8], at: usize, value: u32) {
     bytes[at..at + 4].copy_from_slice(&value.to_le_bytes());
@@ -120,10 +121,10 @@ fn a_save_in_a_partition() {
     let mut lying = Lying::new(&disk);
     let part = Part::new(&mut lying, 7_000, 4_150);
     let mut card = DiskCard::on(part, Planned, Access::Write).expect("opened");
-    card.append(ROUTE, &[9; 2_000]).expect("granted");
+    card.append(ROUTE, &[9; 2_000], AT).expect("granted");
     drop(card);
     let mut wanted = two_files();
-    reference::append(&mut wanted, ROUTE, &[9; 2_000], u32::MAX);
+    reference::append(&mut wanted, ROUTE, &[9; 2_000], AT, u32::MAX);
     let kept = lying.kept.to_vec();
     assert!(kept[7_000 * 512..][..wanted.len()] == wanted);
     assert!(kept[..7_000 * 512] == disk[..7_000 * 512]);

@@ -1,12 +1,14 @@
 //! Pulling this machine's plug: after so many writes the image is what the library leaves with that limit, in the list's order.
 
-use crate::support::cards::{characters, points, state, PANEL, ROUTE};
+use crate::support::cards::{characters, points, state, EARLIER, PANEL, ROUTE};
 use crate::support::lying::{Event, Lying};
 use crate::support::random::Random;
 use lfat_card::{Answer, NO_LIMIT};
 use lfat_disk::lists::{call, Planned};
 use lfat_disk::{Access, DiskCard, Error, Operation};
 use reference::CardSpec;
+use testkit::dates::random_seconds;
+use testkit::AT;
 
 const SECTOR: usize = 512;
 
@@ -70,20 +72,35 @@ fn random_operation<'a>(random: &mut Random, data: &'a [u8]) -> Operation<'a> {
     let start = random.below(data.len());
     let length = [100, 512, 1_700, 4_000][random.below(4)];
     let data = &data[start..(start + length).min(data.len())];
+    let seconds = random_seconds(random);
     match random.below(12) {
-        0 => Operation::Create { name },
+        0 => Operation::Create { name, seconds },
         1 => Operation::CreateLong {
             name,
             characters: characters(random.pick(&[1, 22, 26, 150])),
+            seconds,
         },
-        2..=5 => Operation::Append { name, data },
+        2..=5 => Operation::Append {
+            name,
+            data,
+            seconds,
+        },
         6 => Operation::Truncate {
             name,
             size: random.below(3_000) as u64,
+            seconds,
         },
         7 => Operation::Delete { name },
-        8 | 9 => Operation::Replace { name, data },
-        10 => Operation::Replace { name, data: &[] },
+        8 | 9 => Operation::Replace {
+            name,
+            data,
+            seconds,
+        },
+        10 => Operation::Replace {
+            name,
+            data: &[],
+            seconds,
+        },
         _ => Operation::Rename { old: name, new },
     }
 }
@@ -116,10 +133,11 @@ fn spec(sectors_per_cluster: u8) -> CardSpec {
 #[test]
 fn nothing_to_replace() {
     let mut card = reference::card_k();
-    reference::create(&mut card, ROUTE, NO_LIMIT);
+    reference::create(&mut card, ROUTE, EARLIER, NO_LIMIT);
     let replace = Operation::Replace {
         name: ROUTE,
         data: &[],
+        seconds: AT,
     };
     let writes = writes(&card, &replace).expect("granted");
     let sectors: Vec<usize> = writes.iter().map(|(sector, _)| *sector).collect();
@@ -131,17 +149,19 @@ fn nothing_to_replace() {
 #[test]
 fn nothing_to_store() {
     let mut card = reference::card_k();
-    reference::create(&mut card, ROUTE, NO_LIMIT);
-    reference::append(&mut card, ROUTE, &points(700), NO_LIMIT);
+    reference::create(&mut card, ROUTE, EARLIER, NO_LIMIT);
+    reference::append(&mut card, ROUTE, &points(700), EARLIER, NO_LIMIT);
     assert_eq!(state(&card).expect("clean").len(), 1);
     for operation in [
         Operation::Append {
             name: ROUTE,
             data: &[],
+            seconds: AT,
         },
         Operation::Truncate {
             name: ROUTE,
             size: 700,
+            seconds: AT,
         },
         Operation::Recover,
     ] {

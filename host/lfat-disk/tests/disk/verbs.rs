@@ -10,6 +10,8 @@ use crate::support::random::Random;
 use lfat_card::Refusal;
 use lfat_disk::lists::Planned;
 use lfat_disk::{Access, DiskCard, Error, Operation};
+use testkit::dates::random_seconds;
+use testkit::AT;
 
 const THOROUGH: Depth = Depth {
     all_below: 5,
@@ -55,6 +57,7 @@ fn larger_clusters_and_scattered_files() {
 fn random_histories() {
     let data: &'static [u8] = points(6_000).leak();
     let mut random = Random::new(0xBB67_AE85_84CA_A73B);
+    let mut times = Random::new(0x510E_527F_ADE6_82D1);
     let mut card = two_files();
     let mut locked = 0;
     for _ in 0..60 {
@@ -69,16 +72,30 @@ fn random_histories() {
         );
         let data = &data[..random.pick(&[1, 100, 512, 1_700])];
         let size = random.below(2_000) as u64;
+        let seconds = random_seconds(&mut times);
         let operation = match random.below(11) {
-            0 => Operation::Create { name },
+            0 => Operation::Create { name, seconds },
             1 => Operation::CreateLong {
                 name,
                 characters: characters(random.pick(&[1, 13, 30, 208])),
+                seconds,
             },
-            2..=4 => Operation::Append { name, data },
-            5 => Operation::Truncate { name, size },
+            2..=4 => Operation::Append {
+                name,
+                data,
+                seconds,
+            },
+            5 => Operation::Truncate {
+                name,
+                size,
+                seconds,
+            },
             6 => Operation::Delete { name },
-            7..=9 => Operation::Replace { name, data },
+            7..=9 => Operation::Replace {
+                name,
+                data,
+                seconds,
+            },
             _ => Operation::Rename {
                 old: name,
                 new: other,
@@ -134,8 +151,8 @@ fn locked_files() {
     assert!(buffer[..5_000] == points(5_000));
     assert_eq!(card.read_slot(0, 0, &mut buffer).expect("read"), 1_300);
     assert!(buffer[..1_300] == points(1_300));
-    card.create(NEW).expect("granted");
-    card.append(NEW, &points(900)).expect("granted");
+    card.create(NEW, AT).expect("granted");
+    card.append(NEW, &points(900), AT).expect("granted");
     card.delete(NEW).expect("granted");
     assert_eq!(card.list().expect("clean"), entries);
 }
@@ -145,8 +162,16 @@ fn locked_files() {
 #[test]
 fn where_the_flushes_stand() {
     let (name, data) = (ROUTE, &points(1_300)[..]);
-    flushes_stand(&Operation::Append { name, data });
-    flushes_stand(&Operation::Replace { name, data });
+    flushes_stand(&Operation::Append {
+        name,
+        data,
+        seconds: AT,
+    });
+    flushes_stand(&Operation::Replace {
+        name,
+        data,
+        seconds: AT,
+    });
 }
 
 /// Of a call whose list ends with the log record, FAT1, root directory and commit mark.

@@ -12,6 +12,7 @@ pub use report::{Cut, Report};
 pub use run::{run, Settings, Swap};
 
 use crate::args::{number, Args};
+use crate::at::At;
 use crate::failure::Failure;
 use crate::json;
 use crate::naming::{self, Known};
@@ -96,29 +97,66 @@ impl Asked {
         size.map_or(Ok(0), |size| number(&size.to_string_lossy(), "SIZE"))
     }
 
+    /// Whether the operation dates the file.
+    fn is_dated(&self) -> bool {
+        !matches!(self.verb, "rm" | "mv")
+    }
+
+    /// The time that is given, which must be of use.
+    fn at(&self, args: &Args) -> Result<At, Failure> {
+        let at = At::of(args)?;
+        if at.is_given() && !self.is_dated() {
+            let what = format!("--at: {} dates no file", self.verb);
+            return Err(Failure::Usage(what));
+        }
+        Ok(at)
+    }
+
     /// The calls: one, or two for a put.
     fn calls<'a>(
         &self,
         name: &'a [u8],
         long: Option<&'a LongName>,
-        new: &'a [u8],
-        data: &'a [u8],
-        size: u64,
+        given: &Given<'a>,
     ) -> Vec<Operation<'a>> {
-        let create = long.map_or(Operation::Create { name }, |long| Operation::CreateLong {
+        let &Given {
+            new,
+            data,
+            size,
+            seconds,
+        } = given;
+        let create = naming::create(name, long, seconds);
+        let append = Operation::Append {
             name,
-            characters: long.bytes(),
-        });
+            data,
+            seconds,
+        };
         match self.verb {
             "create" => vec![create],
             "rm" => vec![Operation::Delete { name }],
-            "truncate" => vec![Operation::Truncate { name, size }],
+            "truncate" => vec![Operation::Truncate {
+                name,
+                size,
+                seconds,
+            }],
             "mv" => vec![Operation::Rename { old: name, new }],
-            "append" => vec![Operation::Append { name, data }],
-            "replace" => vec![Operation::Replace { name, data }],
-            _ => vec![create, Operation::Append { name, data }],
+            "append" => vec![append],
+            "replace" => vec![Operation::Replace {
+                name,
+                data,
+                seconds,
+            }],
+            _ => vec![create, append],
         }
     }
+}
+
+/// What an operation is given beside the name, as far as it takes it. All cuts are of calls with the same seconds.
+struct Given<'a> {
+    new: &'a [u8],
+    data: &'a [u8],
+    size: u64,
+    seconds: u32,
 }
 
 /// `--break` alone, or with two numbers of stores.
@@ -145,12 +183,22 @@ pub fn rack(mut args: Args) -> Result<(), Failure> {
     };
     let new = asked.new_name()?;
     let size = asked.size()?;
+    let at = asked.at(&args)?;
     let mut card = target.open(&args, Access::Read)?;
-    let (name, long) = asked.names(&Known::on(&target, &mut card)?)?;
+    let known = Known::on(&target, &mut card)?;
+    let seconds = match asked.is_dated() {
+        true => at.seconds()?,
+        false => 0,
+    };
+    let (name, long) = asked.names(&known)?;
     let source = asked.source(&card, &target)?;
-    let data = source.as_ref().map_or(&[][..], Source::bytes);
-    let new_bytes = new.as_ref().map_or(&[][..], |new| new.bytes());
-    let calls = asked.calls(name.bytes(), long.as_ref(), new_bytes, data, size);
+    let given = Given {
+        new: new.as_ref().map_or(&[][..], |new| new.bytes()),
+        data: source.as_ref().map_or(&[][..], Source::bytes),
+        size,
+        seconds,
+    };
+    let calls = asked.calls(name.bytes(), long.as_ref(), &given);
     // A create makes a name, any other call is about a file.
     let explain = |card: &DiskCard, error: Error| {
         let failure = target.failure(error);

@@ -3,7 +3,7 @@
 use super::stage::Stage;
 use crate::json;
 use crate::naming::one_line;
-use lfat_card::printed;
+use lfat_card::{printed, DateTime};
 use lfat_disk::Operation;
 
 /// One cut and all that followed it.
@@ -67,17 +67,19 @@ impl Report<'_> {
     /// The operation in words.
     pub fn title(&self) -> String {
         let words = match self.operation {
-            Operation::Create { name } => format!("create {}", printed(name)),
-            Operation::CreateLong { name, characters } => {
+            Operation::Create { name, .. } => format!("create {}", printed(name)),
+            Operation::CreateLong {
+                name, characters, ..
+            } => {
                 format!("create '{}' as {}", text(characters), printed(name))
             }
-            Operation::Append { name, data } => {
+            Operation::Append { name, data, .. } => {
                 format!("append {} bytes to {}", data.len(), printed(name))
             }
-            Operation::Replace { name, data } => {
+            Operation::Replace { name, data, .. } => {
                 format!("replace {} by {} bytes", printed(name), data.len())
             }
-            Operation::Truncate { name, size } => {
+            Operation::Truncate { name, size, .. } => {
                 format!("truncate {} to {size} bytes", printed(name))
             }
             Operation::Delete { name } => format!("rm {}", printed(name)),
@@ -90,6 +92,18 @@ impl Report<'_> {
             count => format!(" with {count} long entries"),
         };
         format!("{words}{long}: {} stores", self.stores)
+    }
+
+    /// The time that the operation is given; none for those that date nothing.
+    fn at(&self) -> Option<DateTime> {
+        match self.operation {
+            Operation::Create { seconds, .. }
+            | Operation::CreateLong { seconds, .. }
+            | Operation::Append { seconds, .. }
+            | Operation::Replace { seconds, .. }
+            | Operation::Truncate { seconds, .. } => DateTime::from_seconds(seconds).ok(),
+            Operation::Delete { .. } | Operation::Rename { .. } | Operation::Recover => None,
+        }
     }
 
     /// The stages, each with its cuts.
@@ -147,6 +161,7 @@ impl Report<'_> {
         });
         json::object(&[
             ("operation", &json::text(&self.title())),
+            ("at", &json::time(self.at())),
             ("stores", &self.stores),
             ("long_entries", &self.long_entries),
             ("sound", &self.sound),

@@ -200,12 +200,36 @@ fn help_everywhere() {
     }
     let put = folder.lfat("put --help").done().text();
     for words in [
-        "[--replace] [--limit N]",
+        "[--replace] [--at TIME] [--limit N]",
         "\n  --replace   ",
         "\n  -f ",
+        "\n  --at TIME   ",
+        "in local time (TZ)",
         "\n  --limit N ",
     ] {
         assert!(put.contains(words), "{words}: {put}");
+    }
+    for (command, words) in [
+        ("append", "[--at TIME] [--limit N]\n"),
+        ("truncate", "[--at TIME] [--limit N]\n"),
+        ("rack", "\n  --at TIME "),
+        ("ls", "[-l] [--json]\n"),
+        ("ls", "\n  -l  "),
+        (
+            "ls",
+            "created, written (as 2026-11-17T19:30:58) and accessed",
+        ),
+        ("log", "stamp"),
+    ] {
+        let help = folder.lfat(&format!("{command} --help")).done().text();
+        assert!(help.contains(words), "{words}: {help}");
+    }
+    for command in ["rm", "mv", "recover"] {
+        let help = folder.lfat(&format!("{command} --help")).done().text();
+        assert!(
+            !help.contains("--at") && help.contains("--limit N"),
+            "{help}"
+        );
     }
     let fits = folder.lfat("fits --help").done().text();
     for words in [

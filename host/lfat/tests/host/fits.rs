@@ -11,6 +11,7 @@ use std::os::unix::ffi::OsStrExt;
 use std::os::unix::fs::symlink;
 use std::process::Command;
 use testkit::mtools::free_bytes;
+use testkit::AT;
 
 /// It says no: status 1, one line on standard output, and nothing went wrong.
 fn said_no(run: Run) -> String {
@@ -130,7 +131,7 @@ fn numbers_and_files() {
 #[test]
 fn refusals_are_no_answers() {
     let mut cut = card_with_route(1_300);
-    reference::append(&mut cut, b"ROUTE   CUT", &points(1_300), 6);
+    reference::append(&mut cut, b"ROUTE   CUT", &points(1_300), AT, 6);
     let folder = folder_with("fits-refused", &cut);
     for word in ["0", "1", "99999999999", "path"] {
         let run = folder.lfat(&format!("fits card {word}"));
@@ -157,7 +158,7 @@ fn as_put_does() {
                 false => set_fats(&mut card, number, 0xFFF7),
             }
         }
-        reference::create(&mut card, PANEL, ALL);
+        reference::create(&mut card, PANEL, AT, ALL);
         let folder = folder_with("fits-put", &card);
         for clusters in [1, free.len() / 2, free.len(), free.len() + 1] {
             for bytes in [(clusters - 1) * cluster + 1, clusters * cluster] {

@@ -4,6 +4,7 @@ use crate::support::c::{build, top};
 use crate::support::cli::Folder;
 use crate::support::{card_with_route, points};
 use lfat_card::Refusal;
+use testkit::AT;
 
 fn refusals() -> impl Iterator<Item = Refusal> {
     (1..).map_while(Refusal::with_number)
@@ -18,11 +19,12 @@ fn constants_source() -> String {
         source +=
             &format!("printf(\"%d %s\\n\", (int)LFAT_{code}, lfat_code_name(LFAT_{code}));\n");
     }
-    source += "printf(\"%s %s\\n\", lfat_code_name(18), lfat_code_name(0xFFFFFFFFu));\n\
+    source += "printf(\"%s %s\\n\", lfat_code_name(19), lfat_code_name(0xFFFFFFFFu));\n\
                printf(\"%lu %lu\\n\", (unsigned long)LFAT_CODE(UINT64_C(255) << 32 | 7), \
                (unsigned long)LFAT_COUNT(UINT64_C(255) << 32 | 7));\n\
                printf(\"%lx %d %d %d %d %d\\n\", (unsigned long)LFAT_NO_LIMIT, LFAT_SECTOR_BYTES, \
-               LFAT_NAME_BYTES, LFAT_ENTRY_BYTES, LFAT_NEW_CHARACTERS, LFAT_LONG_CHARACTERS);\nreturn 0;\n}\n";
+               LFAT_NAME_BYTES, LFAT_ENTRY_BYTES, LFAT_NEW_CHARACTERS, LFAT_LONG_CHARACTERS);\n\
+               printf(\"%lu\\n\", (unsigned long)LFAT_LAST_SECOND);\nreturn 0;\n}\n";
     source
 }
 
@@ -30,12 +32,12 @@ fn constants_expected() -> String {
     let mut text: String = refusals()
         .map(|refusal| format!("{} {}\n", refusal.number(), refusal.name()))
         .collect();
-    text += "0 DONE\n254 NO\n255 STOPPED\nunknown unknown\n255 7\nffffffff 512 11 32 208 260\n";
+    text += "0 DONE\n254 NO\n255 STOPPED\nunknown unknown\n255 7\nffffffff 512 11 32 208 260\n4039286399\n";
     text
 }
 
 /// The lines of code in the header's comment that follow these words.
-fn example(words: &str) -> String {
+pub fn example(words: &str) -> String {
     let header = std::fs::read_to_string(top().join("include/lfat.h")).expect("the header");
     let (_, rest) = header.split_once(words).expect("the header has the words");
     let is_code = |line: &&str| line.starts_with(" *     ");
@@ -45,16 +47,20 @@ fn example(words: &str) -> String {
         .collect()
 }
 
-/// The example that saves, run on an empty card; prints what it left.
+/// The example that saves, run on an empty card; prints what it left, and the dates of slot 0 as they stand.
 fn saving_source() -> String {
     let example = example("Example: save");
-    assert!(example.contains("lfat_append"));
+    assert!(
+        example.contains("lfat_append")
+            && example.contains("lfat_seconds(2026, 11, 17, 19, 30, 58)")
+    );
     format!(
         "#include \"lfat.h\"\n#include <stdio.h>\nstatic uint8_t card[4150 * 512];\n\
          int main(void) {{\nsize_t card_len = sizeof card;\nuint8_t back[9];\nuint64_t read;\n\
          if (fread(card, 1, card_len, stdin) != card_len) return 1;\n{{\n{example}\n\
          read = lfat_read(card, card_len, name, 11, 0, back, sizeof back);\n}}\n\
-         printf(\"%lu %.3s\", (unsigned long)LFAT_COUNT(read), (const char *)back);\nreturn 0;\n}}\n"
+         printf(\"%lu %.3s\", (unsigned long)LFAT_COUNT(read), (const char *)back);\n\
+         fwrite(card + 33 * 512 + 13, 1, 13, stdout);\nreturn 0;\n}}\n"
     )
 }
 
@@ -64,7 +70,7 @@ fn replacing_source() -> String {
     assert!(example.contains("lfat_replace") && example.contains("LFAT_ABSENT"));
     format!(
         "#include \"lfat.h\"\n#include <stdio.h>\nstatic uint8_t card[4150 * 512];\n\
-         static const uint8_t name[] = \"ROUTE   CUT\", data[] = \"G1 X9\\n\";\n\
+         static const uint8_t name[] = \"ROUTE   CUT\", data[] = \"G1 X9\\n\";\nstatic const uint32_t seconds = 0;\n\
          int main(void) {{\nsize_t card_len = sizeof card, data_len = 6;\nuint8_t back[2000];\nuint64_t read;\n\
          if (fread(card, 1, card_len, stdin) != card_len) return 1;\n{{\n{example}\n\
          printf(\"%s \", lfat_code_name(LFAT_CODE(answer)));\n}}\n\
@@ -92,7 +98,7 @@ fn naming_source() -> String {
     assert!(example.contains("lfat_create_long") && example.contains("lfat_long_name"));
     format!(
         "#include \"lfat.h\"\n#include <stdio.h>\nstatic uint8_t card[4150 * 512];\n\
-         static const uint8_t name[] = \"PORT7   CUT\";\n\
+         static const uint8_t name[] = \"PORT7   CUT\";\nstatic const uint32_t seconds = LFAT_LAST_SECOND;\n\
          int main(void) {{\nsize_t card_len = sizeof card;\n\
          if (fread(card, 1, card_len, stdin) != card_len) return 1;\n{{\n{example}\n\
          printf(\"%s %lu \", lfat_code_name(LFAT_CODE(answer)), (unsigned long)LFAT_COUNT(answer));\n\
@@ -114,10 +120,10 @@ fn reading_source(words: &str) -> String {
 }
 
 /// A program in a folder of its own, built from a source.
-struct Program(Folder);
+pub struct Program(pub Folder);
 
 impl Program {
-    fn build(compiler: &str, standard: &str, what: &str, source: &str) -> Option<Program> {
+    pub fn build(compiler: &str, standard: &str, what: &str, source: &str) -> Option<Program> {
         let folder = Folder::new(&format!("header-{standard}-{what}"));
         let suffix = if standard.starts_with("c++") {
             "cpp"
@@ -131,7 +137,7 @@ impl Program {
     }
 
     /// What it prints with a card as standard input.
-    fn printed(&self, card: &[u8]) -> Vec<u8> {
+    pub fn printed(&self, card: &[u8]) -> Vec<u8> {
         self.0.write("card", card);
         let card = std::fs::File::open(self.0.path().join("card")).expect("the card");
         let program = self.0.path().join("program");
@@ -145,7 +151,10 @@ fn check(compiler: &str, standard: &str) -> Option<()> {
     let constants = program("constants", constants_source())?;
     assert_eq!(constants.printed(&[]), constants_expected().into_bytes());
     let saving = program("saving", saving_source())?;
-    assert_eq!(saving.printed(&reference::card_k()), b"3 G0\n");
+    let mut slot = [0; 32];
+    testkit::dates::stamp_created(&mut slot, 1_479_411_058);
+    let wanted = [b"3 G0\n", &slot[13..26]].concat();
+    assert_eq!(saving.printed(&reference::card_k()), wanted);
 
     let replacing = program("replacing", replacing_source())?;
     for card in [
@@ -156,7 +165,7 @@ fn check(compiler: &str, standard: &str) -> Option<()> {
         assert_eq!(replacing.printed(&card), b"DONE G1 X9\n");
     }
     let mut cut = card_with_route(1_300);
-    reference::append(&mut cut, b"ROUTE   CUT", &points(1_300), 6);
+    reference::append(&mut cut, b"ROUTE   CUT", &points(1_300), AT, 6);
     assert_eq!(replacing.printed(&cut), b"UNCLEAN ");
 
     let naming = program("naming", naming_source())?;

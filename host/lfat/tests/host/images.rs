@@ -4,10 +4,11 @@ use crate::support::cli::Folder;
 use crate::support::random::Random;
 use crate::support::{points, spec};
 use lfat::blank::Blank;
-use lfat_card::{Answer, Card, Name, Refusal};
+use lfat_card::{Answer, Card, DateTime, Name, Refusal};
 use std::fs::{self, OpenOptions};
+use testkit::dates::{random_seconds, LAST_SECOND};
 
-/// A history through the command line and through the wrapper on a copy in memory: the same answers and bytes.
+/// A history through the command line and through the wrapper on a copy in memory: the same answers and bytes, dates included.
 #[test]
 fn same_as_in_memory() {
     let folder = Folder::new("images");
@@ -30,35 +31,37 @@ fn same_as_in_memory() {
             let parsed = Name::parse(name).expect("a name");
             let length = random.below(data.len());
             folder.write("data", &data[..length]);
+            let seconds = random_seconds(&mut random).min(LAST_SECOND);
+            let time = DateTime::from_seconds(seconds).expect("within 2107");
             let mut card = Card::new(&mut window);
             let (line, answer) = match random.below(10) {
                 0 | 1 => {
-                    let created = card.create(parsed).map(drop);
-                    let both = created.and_then(|()| card.append(parsed, &data[..length]));
-                    (format!("put card {name} data"), both)
+                    let created = card.create(parsed, time).map(drop);
+                    let both = created.and_then(|()| card.append(parsed, &data[..length], time));
+                    (format!("put card {name} data --at {time}"), both)
                 }
                 2 | 3 => (
-                    format!("append card {name} data"),
-                    card.append(parsed, &data[..length]),
+                    format!("append card {name} data --at {time}"),
+                    card.append(parsed, &data[..length], time),
                 ),
                 4 => {
                     let size = length as u64 / 2;
                     (
-                        format!("truncate card {name} {size}"),
-                        card.truncate(parsed, size),
+                        format!("truncate --at={time} card {name} {size}"),
+                        card.truncate(parsed, size, time),
                     )
                 }
                 5 => (format!("rm card {name}"), card.delete(parsed)),
                 6..=8 => {
                     // Where there is no such file, it is made.
-                    let saved = match card.replace(parsed, &data[..length]) {
+                    let saved = match card.replace(parsed, &data[..length], time) {
                         Err(Refusal::Absent) => {
-                            let created = card.create(parsed).map(drop);
-                            created.and_then(|()| card.append(parsed, &data[..length]))
+                            let created = card.create(parsed, time).map(drop);
+                            created.and_then(|()| card.append(parsed, &data[..length], time))
                         }
                         other => other,
                     };
-                    (format!("put --replace card {name} data"), saved)
+                    (format!("put --replace card {name} data --at {time}"), saved)
                 }
                 _ => {
                     let new = Name::parse("D.NEW").expect("a name");

@@ -4,6 +4,7 @@ use crate::refusals::folder_with;
 use crate::support::cli::Folder;
 use crate::support::{card_with_route, points, ALL, ROUTE};
 use std::process::Stdio;
+use testkit::AT;
 
 /// Has python read the output of a command and look at it.
 pub fn check(folder: &Folder, output: &[u8], expression: &str) {
@@ -16,8 +17,8 @@ pub fn check(folder: &Folder, output: &[u8], expression: &str) {
 #[test]
 fn every_command_that_has_it() {
     let mut card = card_with_route(1_300);
-    reference::create(&mut card, b"A\"\\B       ", ALL);
-    reference::create(&mut card, b"SUB        ", ALL);
+    reference::create(&mut card, b"A\"\\B       ", AT, ALL);
+    reference::create(&mut card, b"SUB        ", AT, ALL);
     card[33 * 512 + 32..][..4].copy_from_slice(b"A\"\\B");
     card[33 * 512 + 32 + 11] = 0x10;
     let folder = folder_with("json", &card);
@@ -52,12 +53,12 @@ fn every_command_that_has_it() {
     check(
         &folder,
         run.bytes(),
-        "v['sectors'] == 8 and len(v['records']) == 3 and v['records'][1]['operation'] == 'update'",
+        "v['sectors'] == 8 and [r['operation'] for r in v['records']] == ['create', 'part', 'update', 'part', 'create', 'part']",
     );
     check(
         &folder,
         run.bytes(),
-        "v['records'][1]['size'] == 1300 and v['records'][1]['state'] == 'committed'",
+        "v['records'][2]['size'] == 1300 and v['records'][2]['state'] == 'committed'",
     );
 
     let run = folder
@@ -88,10 +89,10 @@ fn every_command_that_has_it() {
     check(
         &folder,
         run.bytes(),
-        "[v['records'][3][k] for k in ('operation', 'first', 'from', 'size')] == ['replace', 10, 13, 1300]",
+        "[v['records'][6][k] for k in ('operation', 'first', 'from', 'size')] == ['replace', 10, 13, 1300]",
     );
 
-    reference::append(&mut card, ROUTE, &points(1_300), 6);
+    reference::append(&mut card, ROUTE, &points(1_300), AT, 6);
     folder.write("card", &card);
     let run = folder.lfat("info card --json").failed(1, "UNCLEAN");
     check(&folder, run.bytes(), "v['state'] == 'UNCLEAN'");

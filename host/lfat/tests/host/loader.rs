@@ -5,6 +5,8 @@ use crate::support::cli::{Folder, Run};
 use crate::support::{card_with_route, mark_read_only, points, set_fats, ALL, PANEL, ROUTE};
 use reference::{card_k, CardSpec};
 use std::process::Stdio;
+use testkit::dates::LAST_SECOND;
+use testkit::AT;
 
 struct Loader(Folder);
 
@@ -42,8 +44,8 @@ fn good_cards() {
     assert_eq!(empty.text(), "recovered, 0 stores\n0 entries\n");
 
     let mut card = card_with_route(1_300);
-    reference::create(&mut card, PANEL, ALL);
-    let head = "recovered, 0 stores\n2 entries\nROUTE.CUT 1300\nPANEL.CUT 0\n";
+    reference::create(&mut card, PANEL, 0, ALL);
+    let head = "recovered, 0 stores\n2 entries\nROUTE.CUT 1300 2026-06-17 13:45:30\nPANEL.CUT 0 1980-01-01 00:00:00\n";
     assert_eq!(loader.run_on(&card, "").done().text(), head);
     let mut wanted = format!("{head}path ROUTE.CUT, 1300 bytes\n").into_bytes();
     wanted.extend(points(1_300));
@@ -63,15 +65,45 @@ fn long_names() {
         (PANEL, "half"),
     ] {
         let characters = testkit::characters::bytes_of_text(text);
-        let done = reference::create_long(&mut card, name, &characters, ALL);
+        let done = reference::create_long(&mut card, name, &characters, AT, ALL);
         assert_eq!(done, reference::Answer::Done(3));
     }
     // The first characters of the last one, in slot 7: half of a pair, DEL.
     card[33 * 512 + 7 * 32 + 1..][..4].copy_from_slice(&[0x3D, 0xD8, 0x7F, 0]);
     let text = loader.run_on(&card, "PANEL.CUT").done().text();
-    let wanted = "4 entries\nROUTE.CUT 1300\nHULL7S~1.CUT 0 \"Hull 7 sheer panel.cut\"\n\
-                  _.CUT 0 \"\u{1F6F6} σχέδιο 航路.cut\"\nPANEL.CUT 0 \"??lf\"\npath PANEL.CUT, 0 bytes\n";
+    let wanted = "4 entries\nROUTE.CUT 1300 AT\nHULL7S~1.CUT 0 AT \"Hull 7 sheer panel.cut\"\n\
+                  _.CUT 0 AT \"\u{1F6F6} σχέδιο 航路.cut\"\nPANEL.CUT 0 AT \"??lf\"\npath PANEL.CUT, 0 bytes\n";
+    let wanted = &wanted.replace("AT", "2026-06-17 13:45:30");
     assert!(text.ends_with(wanted), "{text}");
+}
+
+/// Dates that are none, as other systems write them.
+#[test]
+fn no_dates() {
+    let loader = Loader::new("loader-dates");
+    // Of the write time and date in bytes 22 to 25.
+    for (time, date, shown) in [
+        (0, 0x0021, "1980-01-01 00:00:00"),
+        (0xBF7D, 0xFF9F, "2107-12-31 23:59:58"),
+        (0, 0x285D, "2000-02-29 00:00:00"),
+        (0, 0, "-"),
+        (0, 0x0001, "-"),
+        (0, 0x0020, "-"),
+        (0, 0x01A1, "-"),
+        (0, 0xF05D, "-"),
+        (0xC000, 0x0021, "-"),
+        (0x0780, 0x0021, "-"),
+        (0x001E, 0x0021, "-"),
+        (0xFFFF, 0xFFFF, "-"),
+    ] {
+        let mut card = card_with_route(5);
+        let words: [u16; 2] = [time, date];
+        let bytes: Vec<u8> = words.into_iter().flat_map(u16::to_le_bytes).collect();
+        card[33 * 512 + 22..][..4].copy_from_slice(&bytes);
+        let text = loader.run_on(&card, "").done().text();
+        let wanted = format!("\nROUTE.CUT 5 {shown}\n");
+        assert!(text.ends_with(&wanted), "{date:04x} {time:04x}: {text}");
+    }
 }
 
 /// A path marked read-only is listed and read as any other.
@@ -85,19 +117,22 @@ fn read_only_path() {
     assert!(wanted.ends_with(&points(1_300)));
 }
 
-/// M5 and M6: before the log record's store the old size, from it on the new one.
+/// M5 and M6: before the log record's store the old size and date, from it on the new ones.
 #[test]
 fn cut_cards() {
     let loader = Loader::new("loader-cut");
     let mut start = card_k();
-    reference::create(&mut start, ROUTE, ALL);
+    reference::create(&mut start, ROUTE, LAST_SECOND, ALL);
     for limit in 0..=8 {
         let mut card = start.clone();
-        reference::append(&mut card, ROUTE, &points(1_300), limit);
+        reference::append(&mut card, ROUTE, &points(1_300), AT, limit);
         let stores = reference::plan(&card, &reference::Operation::Recover).expect("recoverable");
-        let size = if limit < 5 { 0 } else { 1_300 };
+        let (size, date) = match limit {
+            0..5 => (0, "2107-12-31 23:59:58"),
+            _ => (1_300, "2026-06-17 13:45:30"),
+        };
         let head = format!(
-            "recovered, {} stores\n1 entries\nROUTE.CUT {size}\npath ROUTE.CUT, {size} bytes\n",
+            "recovered, {} stores\n1 entries\nROUTE.CUT {size} {date}\npath ROUTE.CUT, {size} bytes\n",
             stores.len()
         );
         let mut wanted = head.into_bytes();
@@ -162,10 +197,10 @@ fn path_longer_than_the_buffer() {
         ..CardSpec::K
     }
     .build();
-    reference::create(&mut card, ROUTE, ALL);
-    reference::append(&mut card, ROUTE, &points(1 << 20), ALL);
+    reference::create(&mut card, ROUTE, AT, ALL);
+    reference::append(&mut card, ROUTE, &points(1 << 20), AT, ALL);
     loader.run_on(&card, "ROUTE.CUT").done();
-    reference::append(&mut card, ROUTE, b"!", ALL);
+    reference::append(&mut card, ROUTE, b"!", AT, ALL);
     let run = loader
         .run_on(&card, "ROUTE.CUT")
         .failed(65, "longer than the buffer");

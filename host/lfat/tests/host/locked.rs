@@ -8,6 +8,7 @@ use lfat::blank::Blank;
 use lfat::failure::Failure;
 use lfat_card::Refusal;
 use std::process::Command;
+use testkit::AT;
 
 /// A blank card, laid out as card K and known to mtools, with ROUTE.CUT of 1,300 bytes, marked, and PANEL.CUT of 700.
 fn card() -> Vec<u8> {
@@ -20,8 +21,8 @@ fn card() -> Vec<u8> {
     let (mut card, sectors) = blank.front().expect("a card");
     card.resize(sectors * 512, 0);
     for (name, length) in [(ROUTE, 1_300), (PANEL, 700)] {
-        reference::create(&mut card, name, ALL);
-        reference::append(&mut card, name, &points(length), ALL);
+        reference::create(&mut card, name, AT, ALL);
+        reference::append(&mut card, name, &points(length), AT, ALL);
     }
     mark_read_only(&mut card, 0);
     card
@@ -143,7 +144,7 @@ fn listed() {
         b"SECOND     ",
         b"BITS       ",
     ] {
-        reference::create(&mut card, name, ALL);
+        reference::create(&mut card, name, AT, ALL);
     }
     let slot = |slot: usize| 33 * 512 + slot * 32;
     card[slot(2) + 11] = 0x11;
@@ -159,10 +160,10 @@ fn listed() {
     let marks: Vec<bool> = text
         .split("\"read_only\": ")
         .skip(1)
-        .map(|rest| rest.starts_with("true}"))
+        .map(|rest| rest.starts_with("true,"))
         .collect();
     assert_eq!(marks, [true, false, true, true, false, true], "{text}");
-    assert_eq!(text.matches("\"read_only\": false}").count(), 2, "{text}");
+    assert_eq!(text.matches("\"read_only\": false,").count(), 2, "{text}");
     let help = folder.lfat("ls --help").done().text();
     assert!(
         help.contains("(read-only)") && help.contains("read_only"),
@@ -267,9 +268,9 @@ fn a_name_that_is_taken() {
     }
     // An empty one, and a directory whose mark means nothing.
     let mut made = card();
-    reference::truncate(&mut made, PANEL, 0, ALL);
+    reference::truncate(&mut made, PANEL, 0, AT, ALL);
     mark_read_only(&mut made, 1);
-    reference::create(&mut made, b"SUB        ", ALL);
+    reference::create(&mut made, b"SUB        ", AT, ALL);
     made[33 * 512 + 2 * 32 + 11] = 0x11;
     folder.write("card", &made);
     folder
@@ -297,7 +298,7 @@ fn by_slot() {
     let mut made = card();
     made[33 * 512 + 32..][..11].copy_from_slice(b"ROUTE   CUT");
     mark_read_only(&mut made, 1);
-    reference::create(&mut made, b"ODD        ", ALL);
+    reference::create(&mut made, b"ODD        ", AT, ALL);
     made[33 * 512 + 2 * 32] = b'o';
     mark_read_only(&mut made, 2);
     let folder = folder("locked-slot", &made);
@@ -352,11 +353,14 @@ fn a_broken_file() {
 #[test]
 fn recovered() {
     let mut made = card_with_route(700);
-    reference::append(&mut made, ROUTE, &points(100), 2);
+    reference::append(&mut made, ROUTE, &points(100), AT, 2);
     mark_read_only(&mut made, 0);
     let folder = folder("locked-recover", &made);
     let told = folder.lfat("recover card").done().text();
-    assert!(told.contains("is finished (update ROUTE.CUT)"), "{told}");
+    assert!(
+        told.contains("is finished (update ROUTE.CUT, dated 2026-06-17 13:45:30)"),
+        "{told}"
+    );
     assert_eq!(
         folder.lfat("ls card").done().text(),
         "       800  ROUTE.CUT  (read-only)\n"

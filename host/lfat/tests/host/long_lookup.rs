@@ -6,13 +6,26 @@ use crate::support::long::{assert_clean, blank_folder, lfat, HULL};
 use crate::support::{card_with_route, mark_read_only, points, ALL};
 use testkit::cards::Card;
 use testkit::characters::bytes_of_text;
+use testkit::AT;
 
 /// Two files with one long name, as other programs can leave them: every verb says so in a line, and takes the short names.
 #[test]
 fn more_than_one() {
     let mut card = reference::card_k();
-    reference::create_long(&mut card, b"TWIN~1     ", &bytes_of_text("the twin"), ALL);
-    reference::create_long(&mut card, b"TWIN~2     ", &bytes_of_text("the twix"), ALL);
+    reference::create_long(
+        &mut card,
+        b"TWIN~1     ",
+        &bytes_of_text("the twin"),
+        AT,
+        ALL,
+    );
+    reference::create_long(
+        &mut card,
+        b"TWIN~2     ",
+        &bytes_of_text("the twix"),
+        AT,
+        ALL,
+    );
     // Slot 2 has the entry of the second one; its last character becomes that of the first.
     card[33 * 512 + 64 + 18] = b'n';
     let folder = folder_with("twins", &card);
@@ -54,9 +67,10 @@ fn odd_short_names() {
         &mut card.bytes,
         b"ODD     CUT",
         &bytes_of_text("Übergröße.cut"),
+        AT,
         ALL,
     );
-    reference::append(&mut card.bytes, b"ODD     CUT", &points(700), ALL);
+    reference::append(&mut card.bytes, b"ODD     CUT", &points(700), AT, ALL);
     // As another system has it: the first byte is a letter of its code page.
     card.slot_mut(1)[0] = 0x9A;
     card.put_long_sum(1);
@@ -91,8 +105,8 @@ fn second_of_a_short_name() {
         ..Card::k()
     };
     let long = bytes_of_text("the second");
-    reference::create_long(&mut card.bytes, b"SECOND     ", &long, ALL);
-    reference::append(&mut card.bytes, b"SECOND     ", &points(50), ALL);
+    reference::create_long(&mut card.bytes, b"SECOND     ", &long, AT, ALL);
+    reference::append(&mut card.bytes, b"SECOND     ", &points(50), AT, ALL);
     card.slot_mut(2)[..11].copy_from_slice(b"ROUTE   CUT");
     card.put_long_sum(2);
     let folder = folder_with("second", &card.bytes);
@@ -115,12 +129,14 @@ fn marks_and_directories() {
         &mut card,
         b"LOCKED~1   ",
         &bytes_of_text("locked path"),
+        AT,
         ALL,
     );
     reference::create_long(
         &mut card,
         b"FOLDER~1   ",
         &bytes_of_text("a folder of paths"),
+        AT,
         ALL,
     );
     mark_read_only(&mut card, 1);

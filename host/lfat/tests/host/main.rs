@@ -1,8 +1,12 @@
 //! The host side: header and loader in C, the wrapper, the command line, the rack.
 
+mod clock;
 mod commands;
+mod date_tools;
+mod dates;
 mod fits;
 mod header;
+mod header_dates;
 mod images;
 mod json;
 mod layouts;

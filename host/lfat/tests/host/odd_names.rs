@@ -4,13 +4,14 @@ use crate::refusals::folder_with;
 use crate::support::{card_with_route, points, ALL, PANEL};
 use std::ffi::OsStr;
 use std::os::unix::ffi::OsStrExt;
+use testkit::AT;
 
 /// ROUTE.CUT in slot 0, a name that no rule allows in slot 1, ROUTE.CUT once more in slot 2.
 fn card() -> Vec<u8> {
     let mut card = card_with_route(1_300);
     for (name, length) in [(PANEL, 2_000), (b"SECOND     ", 50)] {
-        reference::create(&mut card, name, ALL);
-        reference::append(&mut card, name, &points(length), ALL);
+        reference::create(&mut card, name, AT, ALL);
+        reference::append(&mut card, name, &points(length), AT, ALL);
     }
     card[33 * 512 + 32..][..5].copy_from_slice(&[0x80, 0x81, b'a', b' ', b'.']);
     card[33 * 512 + 64..][..11].copy_from_slice(b"ROUTE   CUT");

@@ -7,6 +7,7 @@ use lfat::rack::stage::Stage;
 use lfat::rack::{run, Settings};
 use lfat_disk::lists::Planned;
 use lfat_disk::{Access, DiskCard, Operation};
+use testkit::AT;
 
 const OPERATIONS: [&str; 7] = [
     "create NEW.CUT",
@@ -21,8 +22,8 @@ const OPERATIONS: [&str; 7] = [
 fn start(name: &str) -> (Folder, Vec<u8>) {
     let folder = Folder::new(name);
     let mut card = card_with_route(1_300);
-    reference::create(&mut card, PANEL, ALL);
-    reference::append(&mut card, PANEL, &points(5_000), ALL);
+    reference::create(&mut card, PANEL, AT, ALL);
+    reference::append(&mut card, PANEL, &points(5_000), AT, ALL);
     folder.write("card", &card);
     folder.write("path", &points(1_300));
     (folder, card)
@@ -213,7 +214,11 @@ fn full_log() {
     let data = &points(700)[..];
     for operation in [
         Operation::Delete { name },
-        Operation::Replace { name, data },
+        Operation::Replace {
+            name,
+            data,
+            seconds: AT,
+        },
     ] {
         let mut card = DiskCard::on(Ram(card.clone()), Planned, Access::Read).expect("opened");
         let report = run(&mut card, &operation, &settings).expect("granted");

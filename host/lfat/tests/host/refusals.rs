@@ -4,6 +4,7 @@ use crate::support::cli::Folder;
 use crate::support::{card_with_route, points, set_fats, ALL, ROUTE};
 use lfat_card::Refusal;
 use reference::card_k;
+use testkit::AT;
 
 pub fn folder_with(name: &str, card: &[u8]) -> Folder {
     let folder = Folder::new(name);
@@ -96,7 +97,7 @@ fn damaged_card() {
 #[test]
 fn unclean_card() {
     let mut card = card_with_route(1_300);
-    reference::append(&mut card, ROUTE, &points(1_300), 5);
+    reference::append(&mut card, ROUTE, &points(1_300), AT, 5);
     let others: Vec<&str> = ALL_COMMANDS
         .into_iter()
         .filter(|c| !["log card", "recover card"].contains(c))
@@ -107,7 +108,7 @@ fn unclean_card() {
 #[test]
 fn names_and_lengths() {
     let mut card = card_with_route(1_300);
-    reference::create(&mut card, b"SUB        ", ALL);
+    reference::create(&mut card, b"SUB        ", AT, ALL);
     card[33 * 512 + 32 + 11] = 0x10;
     let bad = [
         "append card slot:0 path",

@@ -1,11 +1,12 @@
 //! What a refusal or a recovery tells the user to do, and that it can be done.
 
 use crate::refusals::folder_with;
-use crate::support::{card_with_route, points, set_fats};
+use crate::support::{card_with_route, points, set_fats, ROUTE};
 use reference::card_k;
 use std::fs::OpenOptions;
 use std::io::{BufRead, BufReader};
 use std::process::{Command, Stdio};
+use testkit::AT;
 
 #[test]
 fn what_is_missing() {
@@ -13,7 +14,7 @@ fn what_is_missing() {
     for (line, words) in [
         (
             "put card NOTES.TXT",
-            "lfat: FILE is missing; usage: lfat put IMAGE NAME FILE [--replace] [--limit N]\n",
+            "lfat: FILE is missing; usage: lfat put IMAGE NAME FILE [--replace] [--at TIME] [--limit N]\n",
         ),
         ("put card notes.txt", "lfat: FILE is missing; "),
         ("put card", "lfat: NAME and FILE are missing; "),
@@ -54,7 +55,7 @@ fn a_put_that_was_cut() {
 #[test]
 fn a_name_that_is_taken() {
     let mut card = card_with_route(700);
-    reference::create(&mut card, b"SUB        ", u32::MAX);
+    reference::create(&mut card, b"SUB        ", AT, u32::MAX);
     card[33 * 512 + 32 + 11] = 0x10;
     let folder = folder_with("taken", &card);
     folder.lfat("put card ROUTE.CUT path").failed(
@@ -74,8 +75,8 @@ fn a_name_that_is_taken() {
 #[test]
 fn no_room_beside_the_old_bytes() {
     let mut card = card_with_route(1_300);
-    reference::create(&mut card, b"OTHER      ", u32::MAX);
-    reference::append(&mut card, b"OTHER      ", &points(1_300), u32::MAX);
+    reference::create(&mut card, b"OTHER      ", AT, u32::MAX);
+    reference::append(&mut card, b"OTHER      ", &points(1_300), AT, u32::MAX);
     (16..4_087).for_each(|cluster| set_fats(&mut card, cluster, 0xFFF7));
     let folder = folder_with("beside", &card);
     folder.lfat("put -f card ROUTE.CUT path").failed(
@@ -132,7 +133,7 @@ fn a_card_without_a_log() {
 fn what_recovery_did() {
     let folder = folder_with("recovered", &[]);
     for (command, data, word) in [("append", 4, "update"), ("put -f", 3, "replace")] {
-        let finished = format!("recovered: the save that was cut is finished ({word} ROUTE.CUT)");
+        let finished = format!("recovered: the save that was cut is finished ({word} ROUTE.CUT, dated 2026-11-17 19:30:58)");
         for (limit, words) in [
             (data, "nothing to recover\n".to_string()),
             (
@@ -144,11 +145,51 @@ fn what_recovery_did() {
         ] {
             folder.write("card", &card_with_route(1_300));
             folder
-                .lfat(&format!("{command} card ROUTE.CUT path --limit {limit}"))
+                .lfat(&format!("{command} card ROUTE.CUT path --at 2026-11-17T19:30:59 --limit {limit}"))
                 .failed(1, "STOPPED");
             assert_eq!(folder.lfat("recover card").done().text(), words, "{limit}");
         }
     }
+}
+
+/// A save that is pending from before groups had a date: the line says what to recover it with. With a date that is none it is
+/// recovered all the same.
+#[test]
+fn a_save_from_before_the_update() {
+    let mut cut = card_with_route(700);
+    reference::append(&mut cut, ROUTE, &points(100), AT, 2);
+    let folder = folder_with("before-update", &cut);
+    cut[67 * 512 + 32 + 14..][..4].fill(0);
+    folder.write("card", &cut);
+    let told = folder.lfat("recover card").done().text();
+    assert!(
+        told.contains("is finished (update ROUTE.CUT), 2 sectors"),
+        "{told}"
+    );
+    assert_eq!(
+        folder.lfat("ls -l card").done().text(),
+        "       800  -                    ROUTE.CUT\n"
+    );
+
+    cut[67 * 512 + 32..][..32].fill(0);
+    folder.write("card", &cut);
+    for line in [
+        "recover card",
+        "put card A path",
+        "ls card",
+        "get card ROUTE.CUT",
+    ] {
+        let words = "lfat: RECORD: the pending log records are not one group. If the card was cut before lfat was updated to one that dates files, \
+                     recover it with the lfat of then. ";
+        let run = folder.lfat(line).failed(1, words);
+        assert_eq!(run.errors().lines().count(), 1);
+    }
+    assert!(folder.read("card") == cut);
+    let help = folder.lfat("recover --help").done().text();
+    assert!(
+        help.contains("Before an update from an lfat that does not date files"),
+        "{help}"
+    );
 }
 
 #[test]

@@ -11,7 +11,7 @@ fn all_twelve_calls() {
     build("gcc", "c99", &top().join("examples/worked.c"), &program).expect("gcc is there");
     let run = folder.run(&program, "", Stdio::null()).done();
     let text = run.text();
-    assert_eq!(text.lines().count(), 55);
+    assert_eq!(text.lines().count(), 58);
     for line in [
         "    fits, no bytes: DONE 0",
         "    fits 1300, in clusters 10 to 12: DONE 12",
@@ -32,6 +32,9 @@ fn all_twelve_calls() {
         "    its first five characters: DONE 22",
         "    the same once more: EXISTS 0",
         "    a star in it: LONGNAME 0",
+        "    append nothing: DONE 0",
+        "    append nothing, a second past 2107: CLOCK 0",
+        "    truncate to 0, at no date: CLOCK 0",
         "    truncate to 1401: LENGTH 0",
         "M10 rename, the ninth group: DONE 11",
         "    list, with room for two: DONE 3",

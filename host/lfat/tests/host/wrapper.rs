@@ -2,11 +2,15 @@
 
 use crate::support::random::Random;
 use crate::support::{points, ALL};
-use lfat_card::{calls, Answer, Card, Name, Operation, Refusal};
+use lfat_card::{calls, Answer, Card, DateTime, Name, Operation, Refusal};
 use reference::card_k;
 
 fn name(text: &str) -> Name {
     Name::parse(text).expect("a name")
+}
+
+fn at() -> DateTime {
+    "2026-06-17T13:45:31".parse().expect("a date and a time")
 }
 
 #[test]
@@ -100,7 +104,7 @@ fn names_as_the_library_has_them() {
 
 #[test]
 fn refusals_are_errors() {
-    for number in 1..=17 {
+    for number in 1..=18 {
         let refusal = Refusal::with_number(number).expect("a ground");
         assert_eq!(refusal.number(), number);
         let error: Box<dyn std::error::Error> = Box::new(refusal);
@@ -108,7 +112,7 @@ fn refusals_are_errors() {
         assert!(text.starts_with(refusal.name()) && text.ends_with(refusal.meaning()));
     }
     assert_eq!(Refusal::with_number(0), None);
-    assert_eq!(Refusal::with_number(18), None);
+    assert_eq!(Refusal::with_number(19), None);
 }
 
 #[test]
@@ -119,18 +123,18 @@ fn a_locked_file() {
     let mut card = Card::new(&mut window);
     let (route, panel) = (name("ROUTE.CUT"), name("PANEL"));
     let locked = Err(Refusal::Locked);
-    assert_eq!(card.append(route, b""), locked);
-    assert_eq!(card.append(route, b"G0"), locked);
-    assert_eq!(card.replace(route, b"G0"), locked);
-    assert_eq!(card.truncate(route, 1_301), locked);
+    assert_eq!(card.append(route, b"", at()), locked);
+    assert_eq!(card.append(route, b"G0", at()), locked);
+    assert_eq!(card.replace(route, b"G0", at()), locked);
+    assert_eq!(card.truncate(route, 1_301, at()), locked);
     assert_eq!(card.rename(route, panel), locked);
     assert_eq!(card.delete(route), locked);
-    assert_eq!(card.create(route), Err(Refusal::Exists));
+    assert_eq!(card.create(route, at()), Err(Refusal::Exists));
     assert_eq!(card.recover(), Ok(0));
     assert_eq!(card.read_whole(route), Ok(points(1_300)));
     assert!(card.list().expect("clean")[0].is_read_only());
     assert!(card.bytes() == before);
-    card.create(panel).expect("another file");
+    card.create(panel, at()).expect("another file");
     assert!(!card.list().expect("clean")[1].is_read_only());
 }
 
@@ -140,25 +144,29 @@ fn a_whole_life() {
     let mut card = Card::new(&mut window);
     let (route, panel) = (name("ROUTE.CUT"), name("PANEL"));
     assert_eq!(card.recover(), Ok(0));
-    assert_eq!(card.create(route), Ok(3));
-    assert_eq!(card.create(route), Err(Refusal::Exists));
-    assert_eq!(card.append(route, &points(1_300)), Ok(8));
+    assert_eq!(card.create(route, at()), Ok(3));
+    assert_eq!(card.create(route, at()), Err(Refusal::Exists));
+    assert_eq!(card.append(route, &points(1_300), at()), Ok(8));
     assert_eq!(card.read_whole(route), Ok(points(1_300)));
     let mut part = [0; 10];
     assert_eq!(card.read(route, 1_295, &mut part), Ok(5));
     assert_eq!(part[..5], points(1_300)[1_295..]);
     assert_eq!(part[5..], [0; 5]);
-    assert_eq!(card.replace(route, &points(700)), Ok(7));
+    assert_eq!(card.replace(route, &points(700), at()), Ok(7));
     assert_eq!(card.read_whole(route), Ok(points(700)));
-    assert_eq!(card.replace(panel, &points(700)), Err(Refusal::Absent));
+    assert_eq!(
+        card.replace(panel, &points(700), at()),
+        Err(Refusal::Absent)
+    );
     let operation = Operation::Replace {
         name: route,
         data: &points(1_300),
+        at: at(),
     };
     assert_eq!(card.run(&operation, ALL), Answer::Done(8));
     assert_eq!(card.read_whole(route), Ok(points(1_300)));
-    assert_eq!(card.truncate(route, 512), Ok(5));
-    assert_eq!(card.truncate(route, 513), Err(Refusal::Length));
+    assert_eq!(card.truncate(route, 512, at()), Ok(5));
+    assert_eq!(card.truncate(route, 513, at()), Err(Refusal::Length));
     assert_eq!(card.rename(route, panel), Ok(3));
     assert_eq!(card.read_whole(route), Err(Refusal::Absent));
 

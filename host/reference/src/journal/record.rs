@@ -1,6 +1,7 @@
 //! The 32 bytes of a log record, and groups of them.
 
-use crate::bytes::{put16, put32};
+use crate::bytes::{get16, put16, put32};
+use crate::calendar::Stamp;
 use crate::name::Name;
 use crate::root::{DELETED, UNUSED};
 use crate::root_change::ARCHIVE;
@@ -60,37 +61,74 @@ impl Record {
     }
 }
 
+/// First byte of a stamp record.
+const STAMPED: u8 = 0x54;
+
+/// The record with a group's stamp: the time at 14, the date at 16, zero elsewhere but for the first byte.
+fn stamp_record(stamp: Stamp) -> [u8; RECORD_BYTES] {
+    let mut bytes = [0; RECORD_BYTES];
+    bytes[0] = STAMPED;
+    put16(&mut bytes, 14, stamp.time);
+    put16(&mut bytes, 16, stamp.date);
+    bytes
+}
+
+/// What a stamp record holds, if it is one. Time and date are not judged.
+pub fn stamp_in(record: &[u8]) -> Option<Stamp> {
+    let stamp = Stamp {
+        time: get16(record, 14),
+        date: get16(record, 16),
+    };
+    (record == stamp_record(stamp)).then_some(stamp)
+}
+
 /// The records of one operation.
 pub struct Group {
     pub records: Vec<Record>,
-    /// A new long name, in records of its own after the others.
+    /// In a record of its own after the others; delete and rename have none.
+    pub stamp: Option<Stamp>,
+    /// A new long name, in records of its own after the stamp's.
     pub characters: Vec<u16>,
 }
 
 impl Group {
-    /// A group without a new long name.
+    /// A group without a stamp.
     pub fn of(records: impl Into<Vec<Record>>) -> Group {
         Group {
             records: records.into(),
+            stamp: None,
             characters: Vec::new(),
         }
     }
 
-    /// How many records there are, those of characters too.
+    /// A record and its stamp.
+    pub fn stamped(record: Record, stamp: Stamp) -> Group {
+        Group {
+            stamp: Some(stamp),
+            ..Group::of([record])
+        }
+    }
+
+    /// How many records there are, those of stamp and characters too.
     pub fn count(&self) -> usize {
-        self.records.len() + character_records(self.characters.len())
+        let stamps = usize::from(self.stamp.is_some());
+        self.records.len() + stamps + character_records(self.characters.len())
     }
 
     /// A log sector with the group at its start and zeros after it.
     pub fn sector(&self) -> Sector {
+        let mut bytes = Vec::with_capacity(SECTOR_BYTES);
+        for record in &self.records {
+            bytes.extend(record.encode());
+        }
+        if let Some(stamp) = self.stamp {
+            bytes.extend(stamp_record(stamp));
+        }
+        for character in &self.characters {
+            bytes.extend(character.to_le_bytes());
+        }
         let mut sector = [0; SECTOR_BYTES];
-        let (main, rest) = sector.split_at_mut(self.records.len() * RECORD_BYTES);
-        for (place, record) in main.chunks_exact_mut(RECORD_BYTES).zip(&self.records) {
-            place.copy_from_slice(&record.encode());
-        }
-        for (index, &character) in self.characters.iter().enumerate() {
-            put16(rest, index * 2, character);
-        }
+        sector[..bytes.len()].copy_from_slice(&bytes);
         sector
     }
 }

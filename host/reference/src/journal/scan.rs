@@ -1,10 +1,12 @@
 //! The search for a pending group, and the judging of what is found.
 
 use super::record::{
-    character_records, is_led, CREATE, DELETE, RECORD_BYTES, RENAME, REPLACE, TRUNCATE, UPDATE,
+    character_records, is_led, stamp_in, CREATE, DELETE, RECORD_BYTES, RENAME, REPLACE, TRUNCATE,
+    UPDATE,
 };
 use crate::answer::Ground;
 use crate::bytes::{get16, get32};
+use crate::calendar::Stamp;
 use crate::long_entries;
 use crate::long_name;
 use crate::name::name_at_start;
@@ -82,17 +84,26 @@ fn judge(sector: &[u8], root: &[u8]) -> Option<(usize, RootChange)> {
             new_name: name_at_start(part),
         };
         (2, change)
-    } else if is_led(sector) {
-        let characters = long_name_of(rest, long_entries)?;
-        let change = RootChange::CreateLong {
-            slot,
-            name: name_at_start(record),
-            characters: characters.clone(),
-        };
-        (1 + character_records(characters.len()), change)
-    } else {
-        let change = single_change(record, slot)?;
+    } else if record[13] == DELETE {
+        let change = RootChange::Delete { slot, long_entries };
         is_zero(rest).then_some((1, change))?
+    } else {
+        let (stamp, rest) = rest.split_at(RECORD_BYTES);
+        let stamp = stamp_in(stamp)?;
+        if is_led(sector) {
+            let characters = long_name_of(rest, long_entries)?;
+            let records = 2 + character_records(characters.len());
+            let change = RootChange::CreateLong {
+                slot,
+                name: name_at_start(record),
+                characters,
+                stamp,
+            };
+            (records, change)
+        } else {
+            let change = stamped_change(record, slot, stamp)?;
+            is_zero(rest).then_some((2, change))?
+        }
     };
     are_in_reach(root, &named).then_some((records, change))
 }
@@ -144,8 +155,8 @@ fn is_zero(bytes: &[u8]) -> bool {
     bytes.iter().all(|&byte| byte == 0)
 }
 
-/// The change that a group of one record stands for.
-fn single_change(record: &[u8], slot: usize) -> Option<RootChange> {
+/// The change that a record and its stamp stand for.
+fn stamped_change(record: &[u8], slot: usize, stamp: Stamp) -> Option<RootChange> {
     let size = get32(record, 28);
     // The low word is all of DIR_Cluster: it is below 65,536.
     let dir_cluster = get16(record, 22);
@@ -153,6 +164,7 @@ fn single_change(record: &[u8], slot: usize) -> Option<RootChange> {
         CREATE => Some(RootChange::Create {
             slot,
             name: name_at_start(record),
+            stamp,
         }),
         UPDATE => {
             let was_empty = get16(record, 26) == 0;
@@ -160,17 +172,15 @@ fn single_change(record: &[u8], slot: usize) -> Option<RootChange> {
                 slot,
                 size,
                 first_cluster: was_empty.then_some(dir_cluster),
+                stamp,
             })
         }
-        DELETE => Some(RootChange::Delete {
-            slot,
-            long_entries: usize::from(record[12]),
-        }),
-        TRUNCATE => Some(RootChange::Truncate { slot, size }),
+        TRUNCATE => Some(RootChange::Truncate { slot, size, stamp }),
         REPLACE => Some(RootChange::Replace {
             slot,
             first_cluster: dir_cluster,
             size,
+            stamp,
         }),
         _ => None,
     }

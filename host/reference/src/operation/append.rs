@@ -13,12 +13,14 @@ pub fn plan<'a, 'd>(
     card: &'a [u8],
     name: &[u8],
     data: &'d [u8],
+    seconds: u32,
 ) -> Result<Planned<'a, 'd>, Ground> {
+    let (opened, stamp) = open_to_write(card, name, seconds)?;
     let Opened {
         card,
         file,
         mut chain,
-    } = open_to_write(card, name)?;
+    } = opened;
     let volume = &card.volume;
     let new = new_clusters(volume, &file, chain.len(), data.len())?;
     if data.is_empty() {
@@ -35,12 +37,14 @@ pub fn plan<'a, 'd>(
         slot: file.slot,
         size,
         first_cluster: old_last.is_none().then_some(dir_cluster),
+        stamp,
     };
+    let record = file.record(UPDATE, old_last.unwrap_or(0), dir_cluster, size);
     chain.extend(new);
     let transaction = Transaction {
         data: data::extents(volume, &chain, file.size as usize, data),
         fat,
-        group: Group::of([file.record(UPDATE, old_last.unwrap_or(0), dir_cluster, size)]),
+        group: Group::stamped(record, stamp),
         root,
     };
     Ok(transaction.on(card))

@@ -10,8 +10,8 @@ use crate::root;
 use crate::root_change::RootChange;
 use crate::transaction::{Planned, Transaction};
 
-pub fn plan<'a>(card: &'a [u8], name: &[u8]) -> Result<Planned<'a, 'static>, Ground> {
-    let card = check::clean(card)?;
+pub fn plan<'a>(card: &'a [u8], name: &[u8], seconds: u32) -> Result<Planned<'a, 'static>, Ground> {
+    let (card, stamp) = check::clean_at(card, seconds)?;
     let name = name::parse(name)?;
     if Found::by_name(&card.volume, &name).is_taken() {
         return Err(Ground::Exists);
@@ -20,8 +20,8 @@ pub fn plan<'a>(card: &'a [u8], name: &[u8]) -> Result<Planned<'a, 'static>, Gro
     let transaction = Transaction {
         data: Vec::new(),
         fat: FatDraft::new(card.volume.fat1()),
-        group: Group::of([Record::create(name, slot, 0)]),
-        root: RootChange::Create { slot, name },
+        group: Group::stamped(Record::create(name, slot, 0), stamp),
+        root: RootChange::Create { slot, name, stamp },
     };
     Ok(transaction.on(card))
 }

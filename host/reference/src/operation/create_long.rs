@@ -15,8 +15,9 @@ pub fn plan<'a>(
     card: &'a [u8],
     name: &[u8],
     characters: &[u8],
+    seconds: u32,
 ) -> Result<Planned<'a, 'static>, Ground> {
-    let card = check::clean(card)?;
+    let (card, stamp) = check::clean_at(card, seconds)?;
     let name = name::parse(name)?;
     let characters = long_name::parse(characters)?;
     let root = card.volume.root();
@@ -30,13 +31,14 @@ pub fn plan<'a>(
         data: Vec::new(),
         fat: FatDraft::new(card.volume.fat1()),
         group: Group {
-            records: vec![Record::create(name, slot, long_entries)],
             characters: characters.clone(),
+            ..Group::stamped(Record::create(name, slot, long_entries), stamp)
         },
         root: RootChange::CreateLong {
             slot,
             name,
             characters,
+            stamp,
         },
     };
     Ok(transaction.on(card))

@@ -14,28 +14,33 @@ use crate::recovery;
 use crate::store::{self, Store};
 use crate::transaction::Planned;
 
-/// A writing call with what it was given.
+/// A writing call with what it was given. Seconds are those since 1980 began.
 #[derive(Clone, Copy, Debug, PartialEq, Eq)]
 pub enum Operation<'a> {
     Create {
         name: &'a [u8],
+        seconds: u32,
     },
     /// The characters as bytes, two each.
     CreateLong {
         name: &'a [u8],
         characters: &'a [u8],
+        seconds: u32,
     },
     Append {
         name: &'a [u8],
         data: &'a [u8],
+        seconds: u32,
     },
     Replace {
         name: &'a [u8],
         data: &'a [u8],
+        seconds: u32,
     },
     Truncate {
         name: &'a [u8],
         size: u64,
+        seconds: u32,
     },
     Delete {
         name: &'a [u8],
@@ -53,11 +58,27 @@ fn planned<'a, 'd>(
     operation: &Operation<'d>,
 ) -> Option<Result<Planned<'a, 'd>, Ground>> {
     Some(match *operation {
-        Operation::Create { name } => create::plan(card, name),
-        Operation::CreateLong { name, characters } => create_long::plan(card, name, characters),
-        Operation::Append { name, data } => append::plan(card, name, data),
-        Operation::Replace { name, data } => replace::plan(card, name, data),
-        Operation::Truncate { name, size } => truncate::plan(card, name, size),
+        Operation::Create { name, seconds } => create::plan(card, name, seconds),
+        Operation::CreateLong {
+            name,
+            characters,
+            seconds,
+        } => create_long::plan(card, name, characters, seconds),
+        Operation::Append {
+            name,
+            data,
+            seconds,
+        } => append::plan(card, name, data, seconds),
+        Operation::Replace {
+            name,
+            data,
+            seconds,
+        } => replace::plan(card, name, data, seconds),
+        Operation::Truncate {
+            name,
+            size,
+            seconds,
+        } => truncate::plan(card, name, size, seconds),
         Operation::Delete { name } => delete::plan(card, name),
         Operation::Rename { old, new } => rename::plan(card, old, new),
         Operation::Recover => return None,
@@ -90,28 +111,66 @@ pub fn run(card: &mut [u8], operation: &Operation, limit: u32) -> Answer {
 }
 
 /// Makes an empty file.
-pub fn create(card: &mut [u8], name: &[u8], limit: u32) -> Answer {
-    run(card, &Operation::Create { name }, limit)
+pub fn create(card: &mut [u8], name: &[u8], seconds: u32, limit: u32) -> Answer {
+    run(card, &Operation::Create { name, seconds }, limit)
 }
 
 /// Makes an empty file with a short name and a long one, of 16-bit characters as bytes.
-pub fn create_long(card: &mut [u8], name: &[u8], characters: &[u8], limit: u32) -> Answer {
-    run(card, &Operation::CreateLong { name, characters }, limit)
+pub fn create_long(
+    card: &mut [u8],
+    name: &[u8],
+    characters: &[u8],
+    seconds: u32,
+    limit: u32,
+) -> Answer {
+    run(
+        card,
+        &Operation::CreateLong {
+            name,
+            characters,
+            seconds,
+        },
+        limit,
+    )
 }
 
 /// Adds bytes at the end of a file.
-pub fn append(card: &mut [u8], name: &[u8], data: &[u8], limit: u32) -> Answer {
-    run(card, &Operation::Append { name, data }, limit)
+pub fn append(card: &mut [u8], name: &[u8], data: &[u8], seconds: u32, limit: u32) -> Answer {
+    run(
+        card,
+        &Operation::Append {
+            name,
+            data,
+            seconds,
+        },
+        limit,
+    )
 }
 
 /// Saves over a file: it has these bytes and no others.
-pub fn replace(card: &mut [u8], name: &[u8], data: &[u8], limit: u32) -> Answer {
-    run(card, &Operation::Replace { name, data }, limit)
+pub fn replace(card: &mut [u8], name: &[u8], data: &[u8], seconds: u32, limit: u32) -> Answer {
+    run(
+        card,
+        &Operation::Replace {
+            name,
+            data,
+            seconds,
+        },
+        limit,
+    )
 }
 
 /// Shortens a file.
-pub fn truncate(card: &mut [u8], name: &[u8], size: u64, limit: u32) -> Answer {
-    run(card, &Operation::Truncate { name, size }, limit)
+pub fn truncate(card: &mut [u8], name: &[u8], size: u64, seconds: u32, limit: u32) -> Answer {
+    run(
+        card,
+        &Operation::Truncate {
+            name,
+            size,
+            seconds,
+        },
+        limit,
+    )
 }
 
 /// Removes a file with its long entries and frees its clusters.

@@ -12,8 +12,10 @@ pub fn plan<'a, 'd>(
     card: &'a [u8],
     name: &[u8],
     data: &'d [u8],
+    seconds: u32,
 ) -> Result<Planned<'a, 'd>, Ground> {
-    let Opened { card, file, chain } = open_to_write(card, name)?;
+    let (opened, stamp) = open_to_write(card, name, seconds)?;
+    let Opened { card, file, chain } = opened;
     let volume = &card.volume;
     // Ground 15, NOSPACE: old clusters are not free yet.
     let clusters = (data.len() as u64).div_ceil(u64::from(volume.geometry.cluster_bytes()));
@@ -26,14 +28,16 @@ pub fn plan<'a, 'd>(
     let first_cluster = new.first().copied().unwrap_or(0);
     // The clusters are there, so the size is below 2³¹.
     let size = data.len() as u32;
+    let record = file.record(REPLACE, file.first_cluster, first_cluster, size);
     let transaction = Transaction {
         data: data::extents(volume, &new, 0, data),
         fat,
-        group: Group::of([file.record(REPLACE, file.first_cluster, first_cluster, size)]),
+        group: Group::stamped(record, stamp),
         root: RootChange::Replace {
             slot: file.slot,
             first_cluster,
             size,
+            stamp,
         },
     };
     Ok(transaction.on(card))

@@ -2,7 +2,7 @@
 
 use reference::{Answer, Ground};
 
-const WORDS: [&str; 17] = [
+const WORDS: [&str; 18] = [
     "SHORT",
     "BOOT",
     "WINDOW",
@@ -20,6 +20,7 @@ const WORDS: [&str; 17] = [
     "NOSPACE",
     "LOCKED",
     "LONGNAME",
+    "CLOCK",
 ];
 
 #[test]
@@ -41,4 +42,5 @@ fn answers_encode_as_code_and_count() {
     assert_eq!(Answer::Refused(Ground::Nospace).encode(), 15 << 32);
     assert_eq!(Answer::Refused(Ground::Locked).encode(), 16 << 32);
     assert_eq!(Answer::Refused(Ground::Longname).encode(), 17 << 32);
+    assert_eq!(Answer::Refused(Ground::Clock).encode(), 18 << 32);
 }

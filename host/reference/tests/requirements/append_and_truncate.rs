@@ -4,14 +4,22 @@ use crate::support::worked::with_file;
 use crate::support::{pattern, planned_sectors, run_done, run_storing};
 use reference::*;
 use testkit::cards::Card;
-use testkit::{ALL, ROUTE};
+use testkit::{ALL, AT, ROUTE};
 
 fn append(data: &[u8]) -> Operation<'_> {
-    Operation::Append { name: ROUTE, data }
+    Operation::Append {
+        name: ROUTE,
+        data,
+        seconds: AT,
+    }
 }
 
 fn truncate(size: u64) -> Operation<'static> {
-    Operation::Truncate { name: ROUTE, size }
+    Operation::Truncate {
+        name: ROUTE,
+        size,
+        seconds: AT,
+    }
 }
 
 #[test]
@@ -45,7 +53,13 @@ fn only_sectors_with_new_bytes_are_stored() {
         total_sectors: 65 + 4 * 4_085,
         ..CardSpec::K
     });
-    run_done(&mut card.bytes, &Operation::Create { name: ROUTE });
+    run_done(
+        &mut card.bytes,
+        &Operation::Create {
+            name: ROUTE,
+            seconds: AT,
+        },
+    );
     // Cluster 10 starts at sector 65 + 32.
     let data = pattern(513, 1);
     run_storing(
@@ -155,7 +169,13 @@ fn nothing_to_do_still_asks_every_ground() {
 #[test]
 fn append_fills_the_card_to_the_last_cluster() {
     let mut card = Card::k();
-    run_done(&mut card.bytes, &Operation::Create { name: ROUTE });
+    run_done(
+        &mut card.bytes,
+        &Operation::Create {
+            name: ROUTE,
+            seconds: AT,
+        },
+    );
     let room = (4_085 - 8) * 512;
     let data = pattern(room + 1, 5);
     let refused = Answer::Refused(Ground::Nospace);
@@ -189,8 +209,16 @@ fn bad_and_odd_values_are_not_free() {
 /// The ground on which each call that follows a chain refuses.
 fn chain_grounds(card: &Card) -> [Option<Ground>; 6] {
     let name = ROUTE;
-    let replace = Operation::Replace { name, data: b"x" };
-    let empty = Operation::Replace { name, data: &[] };
+    let replace = Operation::Replace {
+        name,
+        data: b"x",
+        seconds: AT,
+    };
+    let empty = Operation::Replace {
+        name,
+        data: &[],
+        seconds: AT,
+    };
     let read = match read(&card.bytes, ROUTE, 0, &mut []) {
         Answer::Refused(ground) => Some(ground),
         _ => None,

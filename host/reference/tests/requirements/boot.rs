@@ -4,7 +4,7 @@
 use crate::support::run_done;
 use reference::*;
 use testkit::cards::Card;
-use testkit::{PANEL, ROUTE};
+use testkit::{AT, PANEL, ROUTE};
 
 fn ground_of(window: &[u8]) -> Option<Ground> {
     match list(window, &mut []) {
@@ -200,11 +200,18 @@ fn most_clusters_with_the_last_one_used() {
     card.fill();
     card.set_fats(0xFFF4, 0);
     card.set_fats(0xFFF5, 0);
-    run_done(&mut card.bytes, &Operation::Create { name: ROUTE });
+    run_done(
+        &mut card.bytes,
+        &Operation::Create {
+            name: ROUTE,
+            seconds: AT,
+        },
+    );
     let data = [7; 1_024];
     let append = Operation::Append {
         name: ROUTE,
         data: &data,
+        seconds: AT,
     };
     run_done(&mut card.bytes, &append);
     assert_eq!(file_chain(&card.bytes, 0), Some(vec![0xFFF4, 0xFFF5]));
@@ -220,8 +227,20 @@ fn bytes_after_the_card_are_left_alone() {
     let mut window = card_k();
     let end = window.len();
     window.extend([0xA5; 700]);
-    run_done(&mut window, &Operation::Create { name: ROUTE });
-    run_done(&mut window, &Operation::Create { name: PANEL });
+    run_done(
+        &mut window,
+        &Operation::Create {
+            name: ROUTE,
+            seconds: AT,
+        },
+    );
+    run_done(
+        &mut window,
+        &Operation::Create {
+            name: PANEL,
+            seconds: AT,
+        },
+    );
     assert_eq!(window[end..], [0xA5; 700]);
     assert_eq!(list(&window, &mut []), Answer::Done(2));
 }

@@ -3,7 +3,7 @@
 use crate::support::{pattern, run_done};
 use reference::*;
 use testkit::cards::Card;
-use testkit::{OTHER, PANEL, ROUTE};
+use testkit::{AT, OTHER, PANEL, ROUTE};
 
 const GUARD: u8 = 0x5A;
 
@@ -64,7 +64,13 @@ fn read_past_the_end() {
 #[test]
 fn read_an_empty_file() {
     let mut card = Card::k();
-    run_done(&mut card.bytes, &Operation::Create { name: ROUTE });
+    run_done(
+        &mut card.bytes,
+        &Operation::Create {
+            name: ROUTE,
+            seconds: AT,
+        },
+    );
     assert_eq!(read_guarded(&card.bytes, 0, 100), []);
 }
 

@@ -7,7 +7,7 @@ use reference::*;
 use std::collections::BTreeSet;
 use testkit::cards::{random_card, Card};
 use testkit::random::Random;
-use testkit::ALL;
+use testkit::{ALL, AT};
 
 const GUARD: [u8; 64] = [0xA5; 64];
 
@@ -144,8 +144,8 @@ fn short_windows() {
     let mut card = CardSpec::K.build();
     let end = card.len();
     let name = b"ROUTE   CUT";
-    create(&mut card, name, ALL);
-    append(&mut card, name, &[1; 3_000], ALL);
+    create(&mut card, name, AT, ALL);
+    append(&mut card, name, &[1; 3_000], AT, ALL);
     let whole = card.clone();
     for length in (0..600).chain((600..end).step_by(9_973)).chain([end - 1]) {
         let ground = if length < 512 {
@@ -155,10 +155,10 @@ fn short_windows() {
         };
         let refused = Answer::Refused(ground);
         let window = &mut card[..length];
-        assert_eq!(create(window, name, ALL), refused);
-        assert_eq!(append(window, name, &[1], ALL), refused);
-        assert_eq!(replace(window, name, &[1], ALL), refused);
-        assert_eq!(truncate(window, name, 0, ALL), refused);
+        assert_eq!(create(window, name, AT, ALL), refused);
+        assert_eq!(append(window, name, &[1], AT, ALL), refused);
+        assert_eq!(replace(window, name, &[1], AT, ALL), refused);
+        assert_eq!(truncate(window, name, 0, AT, ALL), refused);
         assert_eq!(delete(window, name, ALL), refused);
         assert_eq!(rename(window, name, b"PANEL   CUT", ALL), refused);
         assert_eq!(recover(window, ALL), refused);

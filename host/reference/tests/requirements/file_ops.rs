@@ -1,9 +1,10 @@
 //! Create, delete and rename.
 
+use crate::support::worked::created;
 use crate::support::{pattern, run_done, run_storing};
 use reference::*;
 use testkit::cards::Card;
-use testkit::{Name, ALL, OTHER, PANEL, ROUTE};
+use testkit::{Name, ALL, AT, OTHER, PANEL, ROUTE};
 
 const RENAME: Operation = Operation::Rename {
     old: ROUTE,
@@ -24,11 +25,12 @@ fn create_takes_the_lowest_slot() {
     card.put_slot(0, OTHER, 0x20, 0, 0);
     card.slot_mut(1).fill(0xE5);
     card.put_slot(2, PANEL, 0x20, 0, 0);
-    let create = Operation::Create { name: ROUTE };
+    let create = Operation::Create {
+        name: ROUTE,
+        seconds: AT,
+    };
     run_storing(&mut card.bytes, &create, &[65, 33, 65]);
-    let mut expected = ROUTE.to_vec();
-    expected.extend([0x20, 0, 0, 0, 0, 0x21, 0, 0x21, 0, 0, 0]);
-    expected.extend([0, 0, 0x21, 0, 0, 0, 0, 0, 0, 0]);
+    let expected = created(ROUTE);
     assert_eq!(card.slot(1), expected, "nothing stays of the old slot");
     assert_eq!(card.log_sector_mut(0)[18], 1);
 }
@@ -38,11 +40,14 @@ fn create_in_the_last_slot() {
     let mut card = Card::k();
     card.fill_root(0);
     card.slot_mut(511).fill(0);
-    let create = Operation::Create { name: ROUTE };
+    let create = Operation::Create {
+        name: ROUTE,
+        seconds: AT,
+    };
     run_storing(&mut card.bytes, &create, &[65, 64, 65]);
     assert_eq!(card.log_sector_mut(0)[18..20], [0xFF, 1]);
     let refused = Answer::Refused(Ground::Rootfull);
-    assert_eq!(reference::create(&mut card.bytes, PANEL, ALL), refused);
+    assert_eq!(reference::create(&mut card.bytes, PANEL, AT, ALL), refused);
 }
 
 #[test]

@@ -4,7 +4,7 @@ use reference::*;
 use testkit::cards::{random_card, Card};
 use testkit::fixtures::furnished_card;
 use testkit::random::Random;
-use testkit::{ALL, OTHER, ROUTE};
+use testkit::{ALL, AT, OTHER, ROUTE};
 
 /// A number of bytes, and the cluster of a yes, or `None` for a no.
 type Row = (u64, Option<u32>);
@@ -309,10 +309,26 @@ fn as_append_and_replace_do() {
         card.put_slot(0, name, 0x20, 0, 0);
         for length in lengths(&card, &mut random) {
             let data = vec![7; length];
-            let fits = assert_tied(&card, &Operation::Append { name, data: &data }, length);
+            let fits = assert_tied(
+                &card,
+                &Operation::Append {
+                    name,
+                    data: &data,
+                    seconds: AT,
+                },
+                length,
+            );
             assert_eq!(
                 fits,
-                assert_tied(&card, &Operation::Replace { name, data: &data }, length)
+                assert_tied(
+                    &card,
+                    &Operation::Replace {
+                        name,
+                        data: &data,
+                        seconds: AT
+                    },
+                    length
+                )
             );
             yes += usize::from(fits);
             no += usize::from(!fits);
@@ -321,11 +337,19 @@ fn as_append_and_replace_do() {
         let free = free_clusters(&card.bytes).len();
         let cluster_bytes = usize::from(card.spec.sectors_per_cluster) * 512;
         let data = vec![9; random.below(free.max(1)) * cluster_bytes];
-        append(&mut card.bytes, name, &data, ALL);
+        append(&mut card.bytes, name, &data, AT, ALL);
         assert_eq!(card.size(0) as usize, data.len());
         for length in lengths(&card, &mut random) {
             let data = vec![8; length];
-            assert_tied(&card, &Operation::Replace { name, data: &data }, length);
+            assert_tied(
+                &card,
+                &Operation::Replace {
+                    name,
+                    data: &data,
+                    seconds: AT,
+                },
+                length,
+            );
         }
     }
     assert!(yes > 500 && no > 100, "{yes} {no}");

@@ -5,11 +5,13 @@
 use crate::support::pattern;
 use reference::*;
 use testkit::cards::Card;
-use testkit::{Name, OTHER, PANEL, ROUTE};
+use testkit::{Name, AT, OTHER, PANEL, ROUTE};
 
 const FOLDER: &Name = b"FOLDER     ";
 const BROKEN: &Name = b"BROKEN     ";
 const BAD_NAME: &[u8] = b"lower case ";
+/// Seconds past the last of 2107.
+const LATE: u32 = 4_039_286_400;
 /// A file with the mark that breaks the chain rule, too: LOCKED is asked before CHAIN.
 const LOCKED: &Name = b"LOCKED     ";
 
@@ -84,72 +86,87 @@ impl Ladder {
 
 #[test]
 fn create_ladder() {
-    let call = |name| Operation::Create { name };
+    let call = |name, seconds| Operation::Create { name, seconds };
     let mut ladder = Ladder::new();
-    ladder.climb(&call(BAD_NAME), Ground::Unclean);
+    ladder.climb(&call(BAD_NAME, LATE), Ground::Unclean);
     ladder.card.fill_root(5);
     ladder.expect_all(&[
-        (call(BAD_NAME), Ground::Name),
-        (call(ROUTE), Ground::Exists),
-        (call(LOCKED), Ground::Exists),
-        (call(PANEL), Ground::Rootfull),
+        (call(BAD_NAME, LATE), Ground::Clock),
+        (call(PANEL, LATE), Ground::Clock),
+        (call(BAD_NAME, AT), Ground::Name),
+        (call(ROUTE, AT), Ground::Exists),
+        (call(LOCKED, AT), Ground::Exists),
+        (call(PANEL, AT), Ground::Rootfull),
     ]);
     ladder.card.slot_mut(9)[0] = 0xE5;
-    assert!(plan(&ladder.card.bytes, &call(PANEL)).is_ok());
+    assert!(plan(&ladder.card.bytes, &call(PANEL, AT)).is_ok());
 }
 
-/// Append and replace have the same grounds. The file has two clusters; one more byte than `free` clusters hold is too much.
-fn saving_ladder<'a>(call: impl Fn(&'a [u8]) -> Operation<'a>, free: u16) {
+/// Append, replace and truncate have the same grounds up to CHAIN.
+fn changing_ladder<'a>(call: impl Fn(&'a [u8], u32) -> Operation<'a>) -> Ladder {
     let mut ladder = Ladder::new();
-    ladder.climb(&call(BAD_NAME), Ground::Unclean);
+    ladder.climb(&call(BAD_NAME, LATE), Ground::Unclean);
     ladder.expect_all(&[
-        (call(BAD_NAME), Ground::Name),
-        (call(PANEL), Ground::Absent),
-        (call(FOLDER), Ground::Directory),
-        (call(LOCKED), Ground::Locked),
-        (call(BROKEN), Ground::Chain),
-        (call(ROUTE), Ground::Nospace),
+        (call(BAD_NAME, LATE), Ground::Clock),
+        (call(BROKEN, LATE), Ground::Clock),
+        (call(ROUTE, LATE), Ground::Clock),
+        (call(BAD_NAME, AT), Ground::Name),
+        (call(PANEL, AT), Ground::Absent),
+        (call(FOLDER, AT), Ground::Directory),
+        (call(LOCKED, AT), Ground::Locked),
+        (call(BROKEN, AT), Ground::Chain),
     ]);
+    ladder
+}
+
+/// Append and replace have the same last ground. The file has two clusters; one more byte than `free` clusters hold is too much.
+fn saving_ladder<'a>(call: impl Fn(&'a [u8], u32) -> Operation<'a>, free: u16) {
+    let mut ladder = changing_ladder(&call);
+    ladder.expect(&call(ROUTE, AT), Ground::Nospace);
     for cluster in 100..100 + free {
         ladder.card.set_fats(cluster, 0);
     }
-    ladder.expect(&call(ROUTE), Ground::Nospace);
+    ladder.expect(&call(ROUTE, AT), Ground::Nospace);
     ladder.card.set_fats(100 + free, 0);
-    assert!(plan(&ladder.card.bytes, &call(ROUTE)).is_ok());
+    assert!(plan(&ladder.card.bytes, &call(ROUTE, AT)).is_ok());
 }
 
 /// 700 and 5,000 bytes need 12 clusters, of which the file has two.
 #[test]
 fn append_ladder() {
-    let data = pattern(5_000, 0);
-    saving_ladder(|name| Operation::Append { name, data: &data }, 9);
+    let data = &pattern(5_000, 0)[..];
+    let call = |name, seconds| Operation::Append {
+        name,
+        data,
+        seconds,
+    };
+    saving_ladder(call, 9);
 }
 
 /// 5,000 bytes need 10 clusters, whatever the file has.
 #[test]
 fn replace_ladder() {
-    let data = pattern(5_000, 0);
-    saving_ladder(|name| Operation::Replace { name, data: &data }, 9);
+    let data = &pattern(5_000, 0)[..];
+    let call = |name, seconds| Operation::Replace {
+        name,
+        data,
+        seconds,
+    };
+    saving_ladder(call, 9);
 }
 
 #[test]
 fn truncate_ladder() {
-    let call = |name| Operation::Truncate { name, size: 701 };
-    let mut ladder = Ladder::new();
-    ladder.climb(&call(BAD_NAME), Ground::Unclean);
-    ladder.expect_all(&[
-        (call(BAD_NAME), Ground::Name),
-        (call(PANEL), Ground::Absent),
-        (call(FOLDER), Ground::Directory),
-        (call(LOCKED), Ground::Locked),
-        (call(BROKEN), Ground::Chain),
-        (call(ROUTE), Ground::Length),
-    ]);
-    let fits = Operation::Truncate {
-        name: ROUTE,
-        size: 699,
+    let to = |size| {
+        move |name, seconds| Operation::Truncate {
+            name,
+            size,
+            seconds,
+        }
     };
-    assert!(plan(&ladder.card.bytes, &fits).is_ok());
+    let mut ladder = changing_ladder(to(701));
+    ladder.expect(&to(701)(ROUTE, AT), Ground::Length);
+    assert!(plan(&ladder.card.bytes, &to(699)(ROUTE, AT)).is_ok());
 }
 
 #[test]

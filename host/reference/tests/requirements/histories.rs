@@ -1,4 +1,4 @@
-//! Random histories next to a model that knows only names and bytes.
+//! Random histories next to a model that knows only names, bytes and dates.
 
 use crate::support::history::random_step;
 use crate::support::operation;
@@ -6,12 +6,14 @@ use reference::*;
 use std::collections::{BTreeMap, BTreeSet};
 use testkit::call::Call;
 use testkit::cards::{random_card, Card};
+use testkit::dates::{stamp_created, stamp_written, LAST_SECOND};
 use testkit::random::Random;
-use testkit::ALL;
+use testkit::{ALL, AT};
 
-/// The files by name, those marked read-only, and how much room there is.
+/// The files by name, their dates as slots have them, those marked read-only, and how much room there is.
 struct Model {
     files: BTreeMap<Vec<u8>, Vec<u8>>,
+    dates: BTreeMap<Vec<u8>, [u8; 32]>,
     locked: BTreeSet<Vec<u8>>,
     root_entries: usize,
     cluster_bytes: usize,
@@ -22,6 +24,7 @@ impl Model {
     fn new(card: &Card) -> Self {
         Model {
             files: BTreeMap::new(),
+            dates: BTreeMap::new(),
             locked: BTreeSet::new(),
             root_entries: usize::from(card.spec.root_entries),
             cluster_bytes: usize::from(card.spec.sectors_per_cluster) * 512,
@@ -78,37 +81,52 @@ impl Model {
     }
 
     fn step(&mut self, step: &Call) -> Result<(), Ground> {
+        if step.seconds() > Some(LAST_SECOND) {
+            return Err(Ground::Clock);
+        }
         match step {
-            Call::Create(name) => {
+            Call::Create(name, seconds) => {
                 self.check_new(name)?;
                 self.files.insert(name.clone(), Vec::new());
+                let mut slot = [0; 32];
+                stamp_created(&mut slot, *seconds);
+                self.dates.insert(name.clone(), slot);
             }
-            Call::Append(name, data) => {
+            Call::Append(name, data, seconds) => {
                 let size = self.find(name)?.len();
                 let more = self.clusters(size + data.len()) - self.clusters(size);
                 if more > self.free() {
                     return Err(Ground::Nospace);
                 }
                 self.find(name)?.extend(data);
+                if !data.is_empty() {
+                    self.write(name, *seconds);
+                }
             }
-            Call::Replace(name, data) => {
+            Call::Replace(name, data, seconds) => {
                 self.find(name)?;
                 // The old bytes have their room until the new ones are saved.
                 if self.clusters(data.len()) > self.free() {
                     return Err(Ground::Nospace);
                 }
                 *self.find(name)? = data.clone();
+                self.write(name, *seconds);
             }
-            Call::Truncate(name, size) => {
+            Call::Truncate(name, size, seconds) => {
                 let file = self.find(name)?;
-                if *size as usize > file.len() {
+                let length = file.len();
+                if *size as usize > length {
                     return Err(Ground::Length);
                 }
                 file.truncate(*size as usize);
+                if (*size as usize) < length {
+                    self.write(name, *seconds);
+                }
             }
             Call::Delete(name) => {
                 self.find(name)?;
                 self.files.remove(name);
+                self.dates.remove(name);
             }
             Call::Rename(old, new) => {
                 if new.len() != 11 {
@@ -118,10 +136,28 @@ impl Model {
                 self.check_new(new)?;
                 let file = self.files.remove(old).unwrap();
                 self.files.insert(new.clone(), file);
+                let dates = self.dates.remove(old).unwrap();
+                self.dates.insert(new.clone(), dates);
             }
             other => panic!("{other:?} changes no file"),
         }
         Ok(())
+    }
+
+    fn write(&mut self, name: &[u8], seconds: u32) {
+        let slot = self.dates.get_mut(name).expect("the file's dates");
+        stamp_written(slot, seconds);
+    }
+
+    /// Every file has its dates, from the tenths of its creation to its write date; the high word is 0.
+    fn assert_dates(&self, card: &Card) {
+        let live = |slot: &usize| ![0, 0xE5].contains(&card.slot(*slot)[0]);
+        for slot in (0..self.root_entries)
+            .filter(live)
+            .map(|slot| card.slot(slot))
+        {
+            assert_eq!(slot[13..26], self.dates[&slot[..11]][13..26]);
+        }
     }
 
     /// The card holds exactly the model's files.
@@ -163,6 +199,7 @@ fn histories_agree_with_a_model() {
                 }
             }
             model.assert_on(&card.bytes);
+            model.assert_dates(&card);
         }
     }
     // The histories are worth something: all these refusals came up.
@@ -173,6 +210,7 @@ fn histories_agree_with_a_model() {
         Ground::Length,
         Ground::Nospace,
         Ground::Locked,
+        Ground::Clock,
     ] {
         assert!(refusals.get(&ground) > Some(&10), "{ground}");
     }
@@ -188,10 +226,10 @@ fn filling_and_emptying_the_root() {
     for round in 0..3 {
         for file in 0..32 {
             let name = format!("R{round}F{file:02}   CUT");
-            let answer = create(&mut card.bytes, name.as_bytes(), ALL);
+            let answer = create(&mut card.bytes, name.as_bytes(), AT, ALL);
             assert!(matches!(answer, Answer::Done(_)), "{name} {answer:?}");
         }
-        let refused = create(&mut card.bytes, b"ONEMORE    ", ALL);
+        let refused = create(&mut card.bytes, b"ONEMORE    ", AT, ALL);
         assert_eq!(refused, Answer::Refused(Ground::Rootfull));
         assert_eq!(list(&card.bytes, &mut []), Answer::Done(32));
         for file in (0..32).rev() {

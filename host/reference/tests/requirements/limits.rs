@@ -3,7 +3,7 @@
 use crate::support::{pattern, planned_sectors};
 use reference::*;
 use testkit::cards::Card;
-use testkit::{ALL, OTHER, PANEL, ROUTE};
+use testkit::{ALL, AT, OTHER, PANEL, ROUTE};
 
 /// Card K with a file and a full log.
 fn busy_card() -> Card {
@@ -48,18 +48,24 @@ fn every_operation() {
     let card = busy_card();
     let data = pattern(2_000, 0);
     for operation in [
-        Operation::Create { name: PANEL },
+        Operation::Create {
+            name: PANEL,
+            seconds: AT,
+        },
         Operation::Append {
             name: ROUTE,
             data: &data,
+            seconds: AT,
         },
         Operation::Replace {
             name: ROUTE,
             data: &data,
+            seconds: AT,
         },
         Operation::Truncate {
             name: ROUTE,
             size: 600,
+            seconds: AT,
         },
         Operation::Delete { name: ROUTE },
         Operation::Rename {
@@ -96,24 +102,35 @@ fn the_calls_are_the_operations() {
         assert!(matches!(answer, Answer::Done(1..) | Answer::Stopped(1..)));
         assert!(ran == called);
     };
-    let answer = create(&mut called, PANEL, ALL);
-    same(answer, &called, &Operation::Create { name: PANEL }, ALL);
-    let answer = append(&mut called, PANEL, &data, ALL);
+    let answer = create(&mut called, PANEL, AT, ALL);
+    same(
+        answer,
+        &called,
+        &Operation::Create {
+            name: PANEL,
+            seconds: AT,
+        },
+        ALL,
+    );
+    let answer = append(&mut called, PANEL, &data, AT, ALL);
     let operation = Operation::Append {
         name: PANEL,
         data: &data,
+        seconds: AT,
     };
     same(answer, &called, &operation, ALL);
-    let answer = replace(&mut called, PANEL, &data[..300], ALL);
+    let answer = replace(&mut called, PANEL, &data[..300], AT, ALL);
     let operation = Operation::Replace {
         name: PANEL,
         data: &data[..300],
+        seconds: AT,
     };
     same(answer, &called, &operation, ALL);
-    let answer = truncate(&mut called, PANEL, 9, ALL);
+    let answer = truncate(&mut called, PANEL, 9, AT, ALL);
     let operation = Operation::Truncate {
         name: PANEL,
         size: 9,
+        seconds: AT,
     };
     same(answer, &called, &operation, ALL);
     let answer = rename(&mut called, PANEL, OTHER, ALL);

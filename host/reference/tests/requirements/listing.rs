@@ -2,7 +2,7 @@
 
 use crate::support::sector;
 use reference::*;
-use testkit::{PANEL, ROUTE};
+use testkit::{AT, PANEL, ROUTE};
 
 const NOT_A_LOG: &str = "not a log\n";
 
@@ -27,30 +27,36 @@ fn record_named(name: &[u8; 11]) -> Vec<u8> {
 #[test]
 fn m3_first_store() {
     let mut card = card_k();
-    assert_eq!(create(&mut card, ROUTE, 1), Answer::Stopped(1));
+    assert_eq!(create(&mut card, ROUTE, AT, 1), Answer::Stopped(1));
     let expected = "log 1 sectors\n\
-        0 0 create pending ROUTE.CUT slot 0 first 0 from 0 size 0\n";
+        0 0 create pending ROUTE.CUT slot 0 first 0 from 0 size 0\n\
+        0 1 part pending T???????.??? slot 0 first 0 from 0 size 0\n";
     assert_eq!(listing(sector(&card, 65)), expected);
 }
 
 #[test]
 fn whole_log_of_card_k() {
     let mut card = card_k();
-    create(&mut card, ROUTE, u32::MAX);
-    append(&mut card, ROUTE, &[1; 1_300], u32::MAX);
-    append(&mut card, ROUTE, &[1; 100], u32::MAX);
-    truncate(&mut card, ROUTE, 512, u32::MAX);
+    create(&mut card, ROUTE, AT, u32::MAX);
+    append(&mut card, ROUTE, &[1; 1_300], AT, u32::MAX);
+    append(&mut card, ROUTE, &[1; 100], AT, u32::MAX);
+    truncate(&mut card, ROUTE, 512, AT, u32::MAX);
     rename(&mut card, ROUTE, PANEL, u32::MAX);
-    replace(&mut card, PANEL, &[1; 700], u32::MAX);
+    replace(&mut card, PANEL, &[1; 700], AT, u32::MAX);
     delete(&mut card, PANEL, 2);
     let expected = "log 8 sectors\n\
         0 0 create committed ?OUTE.CUT slot 0 first 0 from 0 size 0\n\
+        0 1 part committed ????????.??? slot 0 first 0 from 0 size 0\n\
         1 0 update committed ?OUTE.CUT slot 0 first 0 from 10 size 1300\n\
+        1 1 part committed ????????.??? slot 0 first 0 from 0 size 0\n\
         2 0 update committed ?OUTE.CUT slot 0 first 12 from 0 size 1400\n\
+        2 1 part committed ????????.??? slot 0 first 0 from 0 size 0\n\
         3 0 truncate committed ?OUTE.CUT slot 0 first 10 from 11 size 512\n\
+        3 1 part committed ????????.??? slot 0 first 0 from 0 size 0\n\
         4 0 rename committed ?OUTE.CUT slot 0 first 10 from 0 size 512\n\
         4 1 part committed ?ANEL.CUT slot 1 first 10 from 0 size 512\n\
         5 0 replace committed ?ANEL.CUT slot 1 first 10 from 11 size 700\n\
+        5 1 part committed ????????.??? slot 0 first 0 from 0 size 0\n\
         6 0 delete pending PANEL.CUT slot 1 first 11 from 0 size 700\n";
     assert_eq!(listing(&card[65 * 512..73 * 512]), expected);
 }

@@ -5,7 +5,7 @@ use crate::support::locked::{asking, granted, locked, refused, with_attributes};
 use crate::support::{pattern, run_done, run_storing};
 use reference::*;
 use testkit::cards::Card;
-use testkit::{Name, ALL, OTHER, PANEL, ROUTE};
+use testkit::{Name, ALL, AT, OTHER, PANEL, ROUTE};
 
 const BAD_NAME: &[u8] = b"lower case ";
 
@@ -22,9 +22,30 @@ fn the_five_calls() {
 fn calls_that_would_change_nothing() {
     let name = ROUTE;
     for (operation, stores) in [
-        (Operation::Append { name, data: &[] }, 0),
-        (Operation::Truncate { name, size: 700 }, 0),
-        (Operation::Replace { name, data: &[] }, 5),
+        (
+            Operation::Append {
+                name,
+                data: &[],
+                seconds: AT,
+            },
+            0,
+        ),
+        (
+            Operation::Truncate {
+                name,
+                size: 700,
+                seconds: AT,
+            },
+            0,
+        ),
+        (
+            Operation::Replace {
+                name,
+                data: &[],
+                seconds: AT,
+            },
+            5,
+        ),
     ] {
         let mut card = with_attributes(0x20);
         assert_eq!(run(&mut card.bytes, &operation, ALL), Answer::Done(stores));
@@ -38,9 +59,21 @@ fn an_empty_file() {
     let mut card = Card::k();
     card.put_slot(0, ROUTE, 0x01, 0, 0);
     for operation in [
-        Operation::Append { name, data: &[] },
-        Operation::Truncate { name, size: 0 },
-        Operation::Replace { name, data: &[] },
+        Operation::Append {
+            name,
+            data: &[],
+            seconds: AT,
+        },
+        Operation::Truncate {
+            name,
+            size: 0,
+            seconds: AT,
+        },
+        Operation::Replace {
+            name,
+            data: &[],
+            seconds: AT,
+        },
     ]
     .into_iter()
     .chain(asking(name))
@@ -79,9 +112,21 @@ fn grounds_before_it() {
 fn grounds_after_it() {
     let name = ROUTE;
     let rename = |new| Operation::Rename { old: name, new };
-    let truncate = |size| Operation::Truncate { name, size };
-    let append = |data| Operation::Append { name, data };
-    let replace = |data| Operation::Replace { name, data };
+    let truncate = |size| Operation::Truncate {
+        name,
+        size,
+        seconds: AT,
+    };
+    let append = |data| Operation::Append {
+        name,
+        data,
+        seconds: AT,
+    };
+    let replace = |data| Operation::Replace {
+        name,
+        data,
+        seconds: AT,
+    };
     let delete = Operation::Delete { name };
 
     let mut taken = locked();
@@ -134,7 +179,10 @@ fn its_name_is_taken() {
     refused(&mut card, &rename, Ground::Exists);
     refused(
         &mut card,
-        &Operation::Create { name: ROUTE },
+        &Operation::Create {
+            name: ROUTE,
+            seconds: AT,
+        },
         Ground::Exists,
     );
     card.slot_mut(1)[11] = 0x21;
@@ -158,21 +206,27 @@ fn calls_that_do_not_ask_it() {
 
     run_storing(
         &mut card.bytes,
-        &Operation::Create { name: OTHER },
+        &Operation::Create {
+            name: OTHER,
+            seconds: AT,
+        },
         &[65, 33, 65],
     );
     for operation in [
         Operation::Append {
             name: OTHER,
             data: b"path",
+            seconds: AT,
         },
         Operation::Replace {
             name: OTHER,
             data: b"other",
+            seconds: AT,
         },
         Operation::Truncate {
             name: OTHER,
             size: 1,
+            seconds: AT,
         },
         Operation::Rename {
             old: OTHER,
@@ -196,11 +250,15 @@ fn calls_that_do_not_ask_it() {
 fn set_and_cleared_between_calls() {
     let name: &Name = ROUTE;
     let mut card = Card::k();
-    run_done(&mut card.bytes, &Operation::Create { name });
+    run_done(&mut card.bytes, &Operation::Create { name, seconds: AT });
     let mut bytes = Vec::new();
     for round in 0..6_u8 {
         let data = pattern(400, round);
-        let append = Operation::Append { name, data: &data };
+        let append = Operation::Append {
+            name,
+            data: &data,
+            seconds: AT,
+        };
         card.slot_mut(0)[11] |= 0x01;
         refused(&mut card, &append, Ground::Locked);
         card.slot_mut(0)[11] &= !0x01;

@@ -4,7 +4,7 @@ use crate::support::locked::{asking, granted, locked, refused, with_attributes};
 use crate::support::{pattern, run_done, run_storing};
 use reference::*;
 use testkit::cards::Card;
-use testkit::{OTHER, ROUTE};
+use testkit::{AT, OTHER, ROUTE};
 
 /// Only the lowest slot of a name has a say, whichever of two has the mark.
 #[test]
@@ -103,12 +103,21 @@ fn every_attribute_byte() {
         assert_eq!(answer, expected, "{attributes:#x}");
         let listed = list(&card.bytes, &mut [0; 64]);
         assert_eq!(listed, Answer::Done(is_entry.into()), "{attributes:#x}");
-        let create = Operation::Create { name: ROUTE };
+        let create = Operation::Create {
+            name: ROUTE,
+            seconds: AT,
+        };
         match is_entry {
             true => refused(&mut card, &create, Ground::Exists),
             false => granted(&card, &create),
         }
-        granted(&card, &Operation::Create { name: OTHER });
+        granted(
+            &card,
+            &Operation::Create {
+                name: OTHER,
+                seconds: AT,
+            },
+        );
         assert_eq!(plan(&card.bytes, &Operation::Recover), Ok(vec![]));
     }
 }
@@ -170,6 +179,7 @@ fn recovery_drops_what_has_no_group() {
     let append = Operation::Append {
         name: ROUTE,
         data: &data,
+        seconds: AT,
     };
     let mut card = with_attributes(0x20);
     // One data sector that was there, a new one, FAT2.

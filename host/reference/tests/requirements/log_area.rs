@@ -1,9 +1,10 @@
 //! LOGAREA, and where groups go in the log.
 
 use crate::support::planned_sectors;
+use crate::support::worked::STAMP;
 use reference::*;
 use testkit::cards::Card;
-use testkit::ROUTE;
+use testkit::{AT, ROUTE};
 
 fn ground_of(card: &Card) -> Option<Ground> {
     match list(&card.bytes, &mut []) {
@@ -22,7 +23,10 @@ fn with_log(sectors_per_cluster: u8, log_first: u16, log_clusters: u16) -> Card 
     })
 }
 
-const CREATE: Operation = Operation::Create { name: ROUTE };
+const CREATE: Operation = Operation::Create {
+    name: ROUTE,
+    seconds: AT,
+};
 
 #[test]
 fn no_run() {
@@ -95,8 +99,10 @@ fn only_the_first_byte_of_a_log_sector_decides() {
     card.log_sector_mut(0)[500] = 0x77;
     let stores = plan(&card.bytes, &CREATE).unwrap();
     assert_eq!(stores[0].sector, 65);
-    assert!(stores[0].bytes[32..].iter().all(|&byte| byte == 0));
-    assert!(stores[2].bytes[32..].iter().all(|&byte| byte == 0));
+    for store in [0, 2] {
+        assert_eq!(stores[store].bytes[33..64], STAMP[1..]);
+        assert!(stores[store].bytes[64..].iter().all(|&byte| byte == 0));
+    }
 }
 
 #[test]
@@ -115,6 +121,7 @@ fn clearing_follows_fat2_and_precedes_the_group() {
     let append = Operation::Append {
         name: ROUTE,
         data: b"path",
+        seconds: AT,
     };
     let expected = [67, 17, 66, 65, 65, 1, 33, 65];
     assert_eq!(planned_sectors(&card.bytes, &append), expected);

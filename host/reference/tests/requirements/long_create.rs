@@ -4,7 +4,7 @@ use crate::support::long_create::*;
 use crate::support::{run_done, run_storing};
 use reference::*;
 use testkit::cards::Card;
-use testkit::{Name, ALL, OTHER, PANEL, ROUTE};
+use testkit::{Name, ALL, AT, OTHER, PANEL, ROUTE};
 
 const F: u16 = 0xFFFF;
 
@@ -22,9 +22,9 @@ fn hull_7_sheer_panel() {
     assert_eq!(card.slot(1), entry(0x01, first.try_into().unwrap()));
     assert_eq!(card.slot(2), created());
     assert!(card.slot(3) == [0; 32]);
-    // 22 characters are two records; with the main one three begin 0xE5.
+    // 22 characters are two records; with the main one and the stamp four begin 0xE5.
     let mut log = group(2, 2, &letters("Hull 7 sheer panel.cut"));
-    for at in [0, 32, 64] {
+    for at in [0, 32, 64, 96] {
         log[at] = 0xE5;
     }
     assert!(card.log_sector_mut(0) == log);
@@ -87,11 +87,11 @@ fn lengths() {
         }
         assert_eq!(card.slot(usize::from(slots)), created(), "{length}");
         let mut log = group(slots, u16::from(slots), &name);
-        for record in 0..=records {
+        for record in 0..=records + 1 {
             log[32 * record] = 0xE5;
         }
         assert!(card.log_sector_mut(0) == log, "{length}");
-        assert_eq!(card.log_sector_mut(0)[32 * (records + 1)], 0, "{length}");
+        assert_eq!(card.log_sector_mut(0)[32 * (records + 2)], 0, "{length}");
         assert_eq!(list(&card.bytes, &mut []), Answer::Done(1));
         assert_eq!(recover(&mut card.bytes, ALL), Answer::Done(0), "{length}");
     }
@@ -187,7 +187,13 @@ fn no_run_is_long_enough() {
         if needed > 2 {
             run_done(&mut card.bytes, &hull_named(&shorter));
         }
-        run_done(&mut card.bytes, &Operation::Create { name: OTHER });
+        run_done(
+            &mut card.bytes,
+            &Operation::Create {
+                name: OTHER,
+                seconds: AT,
+            },
+        );
     }
     // One slot is left, or none.
     for free in [0, 1] {
@@ -209,8 +215,8 @@ fn a_full_log() {
     let characters = bytes_of(&letters(208));
     let sectors = [72, 71, 70, 69, 68, 67, 66, 65, 65, 33, 34, 65];
     run_storing(&mut card.bytes, &hull_named(&characters), &sectors);
-    assert_eq!(card.log_sector_mut(0)[14 * 32], 0);
-    assert_eq!(card.log_sector_mut(0)[13 * 32], 0xE5);
+    assert_eq!(card.log_sector_mut(0)[15 * 32], 0);
+    assert_eq!(card.log_sector_mut(0)[14 * 32], 0xE5);
 }
 
 /// Delete and rename take all entries of such a file along; append, truncate and replace keep them.
@@ -218,7 +224,13 @@ fn a_full_log() {
 fn later_operations() {
     for length in [1, 13, 14, 26, 130, 208] {
         let mut card = Card::k();
-        run_done(&mut card.bytes, &Operation::Create { name: ROUTE });
+        run_done(
+            &mut card.bytes,
+            &Operation::Create {
+                name: ROUTE,
+                seconds: AT,
+            },
+        );
         let characters = bytes_of(&letters(length));
         run_done(&mut card.bytes, &hull_named(&characters));
         let slot = 1 + length.div_ceil(13);
@@ -226,14 +238,17 @@ fn later_operations() {
             Operation::Append {
                 name: HULL,
                 data: &[7; 900],
+                seconds: AT,
             },
             Operation::Truncate {
                 name: HULL,
                 size: 20,
+                seconds: AT,
             },
             Operation::Replace {
                 name: HULL,
                 data: &[8; 700],
+                seconds: AT,
             },
         ] {
             run_done(&mut card.bytes, &operation);
@@ -274,6 +289,7 @@ fn checksums() {
             &Operation::CreateLong {
                 name,
                 characters: &characters,
+                seconds: AT,
             },
         );
         for slot in 0..3 {

@@ -6,7 +6,7 @@ use crate::support::long::{
 use crate::support::{run_done, run_storing};
 use reference::*;
 use testkit::cards::Card;
-use testkit::{Name, ALL, OTHER, PANEL, ROUTE};
+use testkit::{Name, ALL, AT, OTHER, PANEL, ROUTE};
 
 /// Short names with the checksum that mtools 4.0.32 wrote into their long entries.
 const WRITTEN_BY_MTOOLS: [(&Name, u8); 10] = [
@@ -247,13 +247,25 @@ fn slots_between() {
 fn other_operations() {
     let data = &[7; 900][..];
     for operation in [
-        Operation::Create { name: OTHER },
-        Operation::Append { name: ROUTE, data },
+        Operation::Create {
+            name: OTHER,
+            seconds: AT,
+        },
+        Operation::Append {
+            name: ROUTE,
+            data,
+            seconds: AT,
+        },
         Operation::Truncate {
             name: ROUTE,
             size: 5,
+            seconds: AT,
         },
-        Operation::Replace { name: ROUTE, data },
+        Operation::Replace {
+            name: ROUTE,
+            data,
+            seconds: AT,
+        },
     ] {
         let before = card_with(17, 3);
         let mut card = before.clone();
@@ -285,9 +297,18 @@ fn marked_slots_as_new_ones() {
     assert_eq!(card.slot(500)[..11], *PANEL);
     for slot in [14, 15, 16, 17] {
         let name: Name = format!("N{slot:07}   ").as_bytes().try_into().unwrap();
-        run_done(&mut card.bytes, &Operation::Create { name: &name });
+        run_done(
+            &mut card.bytes,
+            &Operation::Create {
+                name: &name,
+                seconds: AT,
+            },
+        );
         assert_eq!(card.slot(slot)[..11], name);
     }
-    let another = Operation::Create { name: OTHER };
+    let another = Operation::Create {
+        name: OTHER,
+        seconds: AT,
+    };
     assert_eq!(run(&mut card.bytes, &another, ALL), rootfull);
 }

@@ -3,10 +3,11 @@
 
 use crate::support::long::every_cut;
 use crate::support::long_create::*;
+use crate::support::worked::put_stamp;
 use crate::support::{is_accepted, run_done, run_storing};
 use reference::*;
 use testkit::cards::Card;
-use testkit::{ALL, OTHER, PANEL, ROUTE};
+use testkit::{ALL, AT, OTHER, PANEL, ROUTE};
 
 const RECOVER: Operation = Operation::Recover;
 
@@ -20,7 +21,7 @@ fn accepts(count: u8, slot: u16, characters: &[u16]) -> bool {
 fn counts_and_characters() {
     for count in (1..=20).chain([0x40, 0x80, 0xFF]) {
         for length in [
-            1usize, 12, 13, 14, 26, 27, 194, 195, 196, 207, 208, 209, 221, 222, 240,
+            1usize, 12, 13, 14, 26, 27, 194, 195, 196, 207, 208, 209, 221, 222, 224,
         ] {
             let needs = usize::from(count) == length.div_ceil(13) && count <= 16;
             assert_eq!(
@@ -44,11 +45,11 @@ fn counts_and_characters() {
 #[test]
 fn every_byte_after_the_characters() {
     let sector = group(2, 30, &letters(20));
-    for at in 32 + 40..512 {
+    for at in 64 + 40..512 {
         let mut other = sector;
         other[at] = 1;
         // A byte right after the last character makes another one, 0x0001 or 0x0100: the second is allowed.
-        assert_eq!(is_accepted(pending(40, &other)), at == 73, "{at}");
+        assert_eq!(is_accepted(pending(40, &other)), at == 105, "{at}");
     }
     let forbidden = (1..32).chain("\"*/:<>?\\|".encode_utf16());
     for character in forbidden {
@@ -103,6 +104,8 @@ fn fields_of_the_main_record() {
         let mut other = sector;
         other[13] = operation;
         assert!(!is_accepted(pending(40, &other)), "{operation}");
+        other[64..].fill(0);
+        assert!(!is_accepted(pending(40, &other)), "{operation}");
         other[32..].fill(0);
         assert!(!is_accepted(pending(40, &other)), "{operation}");
     }
@@ -110,7 +113,7 @@ fn fields_of_the_main_record() {
     let mut plain = sector;
     plain[12] = 0;
     assert!(!is_accepted(pending(40, &plain)));
-    plain[32..].fill(0);
+    plain[64..].fill(0);
     assert!(is_accepted(pending(40, &plain)));
 }
 
@@ -144,6 +147,7 @@ fn slots_of_other_groups() {
         sector[12] = count;
         sector[13] = operation;
         sector[18] = slot;
+        put_stamp(&mut sector);
         sector
     };
     for (operation, most) in [(1, 0), (2, 0), (3, 5), (4, 0), (6, 0)] {
@@ -187,10 +191,10 @@ fn led_sectors() {
             &hull_named(&bytes_of(&name)),
             &[65, 33, 34, 65],
         );
-        for record in 0..14 {
+        for record in 0..15 {
             assert_eq!(card.log_sector_mut(0)[32 * record], 0xE5);
         }
-        assert_eq!(card.log_sector_mut(0)[33], 0x41);
+        assert_eq!(card.log_sector_mut(0)[65], 0x41);
     }
     // A committed record 0 hides whatever follows it, with any count above 0.
     for count in [1, 16, 17, 0xFF] {
@@ -252,7 +256,7 @@ fn recovery_from_the_record() {
             assert_eq!(card.slot(other), before.slot(other), "{slot} {other}");
         }
         let mut log = group(count as u8, slot as u16, &name);
-        for record in 0..=length.div_ceil(16) {
+        for record in 0..=1 + length.div_ceil(16) {
             log[32 * record] = 0xE5;
         }
         assert!(card.log_sector_mut(2) == log);
@@ -292,7 +296,7 @@ fn unclean_until_recovered() {
             Answer::Stopped(cut)
         );
         let unclean = Answer::Refused(Ground::Unclean);
-        assert_eq!(create(&mut card.bytes, PANEL, ALL), unclean);
+        assert_eq!(create(&mut card.bytes, PANEL, AT, ALL), unclean);
         assert_eq!(long_name(&card.bytes, HULL, &mut []), unclean);
         assert_eq!(recover(&mut card.bytes, ALL), Answer::Done(3));
         assert_eq!(long_name(&card.bytes, HULL, &mut []), Answer::Done(208));
@@ -307,7 +311,7 @@ fn listing() {
     let line = "log 1 sectors\n0 0 create pending HULL7S~1.CUT slot 30 first 0 from 0 size 0\n";
     assert_eq!(listed(&sector), line);
     let mut committed = sector;
-    for at in [0, 32, 64] {
+    for at in [0, 32, 64, 96] {
         committed[at] = 0xE5;
     }
     let line = "log 1 sectors\n0 0 create committed ?ULL7S~1.CUT slot 30 first 0 from 0 size 0\n";
@@ -315,12 +319,12 @@ fn listing() {
     for (at, byte) in [(12, 0), (13, 3)] {
         let mut other = sector;
         other[at] = byte;
-        // Characters 0x100 and on: the low bytes of every record but the first one are not 0.
-        assert_eq!(listed(&other).lines().count(), 3, "{at}");
+        // Characters 0x100 and on: the low bytes of every record of them but the first one are not 0. The stamp is listed too.
+        assert_eq!(listed(&other).lines().count(), 4, "{at}");
     }
     let mut unused = sector;
     unused[0] = 0;
-    assert_eq!(listed(&unused).lines().count(), 2);
+    assert_eq!(listed(&unused).lines().count(), 3);
     for count in [1, 17, 0xFF] {
         let mut other = sector;
         other[12] = count;
@@ -332,12 +336,19 @@ fn listing() {
 #[test]
 fn other_files() {
     let mut card = Card::k();
-    run_done(&mut card.bytes, &Operation::Create { name: ROUTE });
+    run_done(
+        &mut card.bytes,
+        &Operation::Create {
+            name: ROUTE,
+            seconds: AT,
+        },
+    );
     run_done(
         &mut card.bytes,
         &Operation::Append {
             name: ROUTE,
             data: &[9; 1_300],
+            seconds: AT,
         },
     );
     let free = free_clusters(&card.bytes);
@@ -349,9 +360,16 @@ fn other_files() {
         &Operation::Append {
             name: HULL,
             data: &[5; 600],
+            seconds: AT,
         },
     );
     assert_eq!(file_bytes(&card.bytes, 9), [5; 600]);
-    run_done(&mut card.bytes, &Operation::Create { name: OTHER });
+    run_done(
+        &mut card.bytes,
+        &Operation::Create {
+            name: OTHER,
+            seconds: AT,
+        },
+    );
     assert!(is_sound(&card.bytes));
 }

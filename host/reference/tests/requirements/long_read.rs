@@ -4,7 +4,7 @@ use crate::support::long_create::*;
 use crate::support::run_done;
 use reference::*;
 use testkit::cards::Card;
-use testkit::{ALL, OTHER, PANEL, ROUTE};
+use testkit::{ALL, AT, OTHER, PANEL, ROUTE};
 
 /// What is read with so much room: the answer, and that no byte after the characters is touched.
 fn read_back(card: &Card, name: &[u8], room: usize) -> (Answer, Vec<u8>) {
@@ -131,7 +131,7 @@ fn grounds_of_reading() {
     let mut card = Card::k();
     run_done(&mut card.bytes, &hull_named(&bytes_of(&letters(30))));
     let mut unclean = card.clone();
-    create(&mut unclean.bytes, PANEL, 1);
+    create(&mut unclean.bytes, PANEL, AT, 1);
     let short = Card {
         bytes: card.bytes[..511].to_vec(),
         ..card.clone()
@@ -155,7 +155,7 @@ fn grounds_of_reading() {
 fn answer_of(card: &Card, name: &[u8], characters: &[u16]) -> Answer {
     let mut card = card.clone();
     let before = card.bytes.clone();
-    let answer = reference::create_long(&mut card.bytes, name, &bytes_of(characters), ALL);
+    let answer = reference::create_long(&mut card.bytes, name, &bytes_of(characters), AT, ALL);
     assert!(matches!(answer, Answer::Done(_)) || card.bytes == before);
     answer
 }
@@ -174,7 +174,7 @@ fn which_long_names_are_refused() {
     }
     for bytes in [1, 3, 25, 415, 417] {
         let mut own = card.bytes.clone();
-        let answer = reference::create_long(&mut own, HULL, &vec![b'a'; bytes], ALL);
+        let answer = reference::create_long(&mut own, HULL, &vec![b'a'; bytes], AT, ALL);
         assert_eq!(answer, refused, "{bytes}");
         assert!(own == card.bytes);
     }
@@ -214,9 +214,9 @@ fn order_of_grounds() {
         answer_of(&card, PANEL, &letters(5)),
         Answer::Refused(Ground::Rootfull)
     );
-    create(&mut card.bytes, OTHER, 0);
+    create(&mut card.bytes, OTHER, AT, 0);
     let mut unclean = Card::k();
-    create(&mut unclean.bytes, OTHER, 1);
+    create(&mut unclean.bytes, OTHER, AT, 1);
     assert_eq!(
         answer_of(&unclean, b"hull", &bad),
         Answer::Refused(Ground::Unclean)
@@ -253,7 +253,13 @@ fn which_long_names_are_taken() {
     }
     // Plain create and rename do not ask for long names.
     let mut other = card.clone();
-    run_done(&mut other.bytes, &Operation::Create { name: PANEL });
+    run_done(
+        &mut other.bytes,
+        &Operation::Create {
+            name: PANEL,
+            seconds: AT,
+        },
+    );
     // A directory, a locked file and a name twice as long count.
     for attributes in [0x10, 0x21, 0x00] {
         let mut card = card.clone();

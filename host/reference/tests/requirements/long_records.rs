@@ -1,6 +1,7 @@
 //! The long-name count of pending records: what RECORD allows, what recovery makes of it, and power cuts. Groups are written by hand.
 
 use crate::support::long::{card_with, every_cut, DELETE, RENAME};
+use crate::support::worked::put_stamp;
 use crate::support::{is_accepted, pattern, run_done, run_storing};
 use reference::*;
 use testkit::cards::Card;
@@ -27,6 +28,7 @@ fn pending(operation: u8, slot: u8, count: u8) -> Card {
     log[12] = count;
     log[13] = operation;
     log[18] = slot;
+    put_stamp(log);
     card
 }
 

@@ -3,11 +3,11 @@
 use crate::support::run_done;
 use reference::*;
 use testkit::cards::Card;
-use testkit::{ALL, OTHER, PANEL, ROUTE};
+use testkit::{ALL, AT, OTHER, PANEL, ROUTE};
 
 /// Whether create takes the name; the card has room and no files.
 fn is_accepted(card: &mut [u8], name: &[u8]) -> bool {
-    match create(card, name, 0) {
+    match create(card, name, AT, 0) {
         Answer::Stopped(0) => true,
         Answer::Refused(Ground::Name) => false,
         other => panic!("{other:?}"),
@@ -85,7 +85,13 @@ fn labels_and_long_names_are_skipped() {
     card.put_slot(2, ROUTE, 0x18, 0, 0);
     let absent = Answer::Refused(Ground::Absent);
     assert_eq!(read(&card.bytes, ROUTE, 0, &mut []), absent);
-    run_done(&mut card.bytes, &Operation::Create { name: ROUTE });
+    run_done(
+        &mut card.bytes,
+        &Operation::Create {
+            name: ROUTE,
+            seconds: AT,
+        },
+    );
     assert_eq!(card.slot(3)[..12], *b"ROUTE   CUT\x20");
     assert_eq!(read(&card.bytes, ROUTE, 0, &mut []), Answer::Done(0));
 }
@@ -99,7 +105,13 @@ fn deleted_slots_bear_no_name() {
     card.put_slot(1, OTHER, 0x20, 0, 0);
     let absent = Answer::Refused(Ground::Absent);
     assert_eq!(read(&card.bytes, ROUTE, 0, &mut []), absent);
-    run_done(&mut card.bytes, &Operation::Create { name: ROUTE });
+    run_done(
+        &mut card.bytes,
+        &Operation::Create {
+            name: ROUTE,
+            seconds: AT,
+        },
+    );
     assert_eq!(card.slot(0)[..11], *ROUTE);
 }
 
@@ -111,7 +123,7 @@ fn a_directory_bears_a_name() {
     let directory = Answer::Refused(Ground::Directory);
     assert_eq!(read(&card.bytes, ROUTE, 0, &mut []), directory);
     let exists = Answer::Refused(Ground::Exists);
-    assert_eq!(create(&mut card.bytes, ROUTE, ALL), exists);
+    assert_eq!(create(&mut card.bytes, ROUTE, AT, ALL), exists);
 }
 
 #[test]
@@ -121,6 +133,7 @@ fn hidden_and_system_files_are_files() {
     let append = Operation::Append {
         name: ROUTE,
         data: b"x",
+        seconds: AT,
     };
     run_done(&mut card.bytes, &append);
     assert_eq!(card.size(0), 1);

@@ -6,7 +6,7 @@ use crate::support::{operation, pattern};
 use reference::*;
 use testkit::cards::{random_card, Card};
 use testkit::random::Random;
-use testkit::{ALL, OTHER, PANEL, ROUTE};
+use testkit::{ALL, AT, OTHER, PANEL, ROUTE};
 
 /// Both FATs, the root directory and, on a sound card, the files' bytes.
 #[derive(PartialEq)]
@@ -168,22 +168,29 @@ fn three_cut_recoveries_in_a_row() {
     }
     let data = pattern(1_000, 6);
     for operation in [
-        Operation::Create { name: PANEL },
+        Operation::Create {
+            name: PANEL,
+            seconds: AT,
+        },
         Operation::Append {
             name: ROUTE,
             data: &data,
+            seconds: AT,
         },
         Operation::Replace {
             name: ROUTE,
             data: &data,
+            seconds: AT,
         },
         Operation::Replace {
             name: ROUTE,
             data: &[],
+            seconds: AT,
         },
         Operation::Truncate {
             name: ROUTE,
             size: 100,
+            seconds: AT,
         },
         Operation::Delete { name: ROUTE },
         Operation::Rename {

@@ -1,10 +1,11 @@
 //! RECORD: each clause on its own. Groups are written into the log by hand.
 
+use crate::support::worked::put_stamp;
 use reference::*;
 use testkit::cards::Card;
-use testkit::{OTHER, PANEL, ROUTE};
+use testkit::{AT, OTHER, PANEL, ROUTE};
 
-/// Create, update, delete, truncate and replace: the groups of one record.
+/// Create, update, delete, truncate and replace: the groups of one record, with its stamp after it but for the delete's.
 const SINGLE: [u8; 5] = [1, 2, 3, 4, 6];
 
 /// A card with three slots in use; slot 3 is the lowest beginning 0.
@@ -26,6 +27,7 @@ fn pending(operation: u8) -> Card {
     log[13] = operation;
     log[26] = 20;
     log[28] = 100;
+    put_stamp(log);
     card
 }
 
@@ -51,10 +53,10 @@ fn is_accepted(card: &mut Card) -> bool {
         other => panic!("{other:?}"),
     };
     let bytes = &mut card.bytes;
-    assert_eq!(create(bytes, PANEL, 9), expected);
-    assert_eq!(append(bytes, ROUTE, b"x", 9), expected);
-    assert_eq!(replace(bytes, ROUTE, b"x", 9), expected);
-    assert_eq!(truncate(bytes, ROUTE, 0, 9), expected);
+    assert_eq!(create(bytes, PANEL, AT, 9), expected);
+    assert_eq!(append(bytes, ROUTE, b"x", AT, 9), expected);
+    assert_eq!(replace(bytes, ROUTE, b"x", AT, 9), expected);
+    assert_eq!(truncate(bytes, ROUTE, 0, AT, 9), expected);
     assert_eq!(delete(bytes, ROUTE, 9), expected);
     assert_eq!(rename(bytes, ROUTE, PANEL, 9), expected);
     assert_eq!(read(bytes, ROUTE, 0, &mut []), expected);
@@ -202,8 +204,9 @@ fn rest_of_the_sector_is_zero() {
     for at in 32..512 {
         // 0xE5 and 1 at the head of a record are committed and pending.
         for byte in [1, 0xE5] {
-            assert!(!accepts(pending(2), at, &[byte]), "{at}");
+            assert!(!accepts(pending(3), at, &[byte]), "{at}");
             if at >= 64 {
+                assert!(!accepts(pending(2), at, &[byte]), "{at}");
                 assert!(!accepts(pending_rename(), at, &[byte]), "{at}");
             }
         }

@@ -1,5 +1,6 @@
 //! What recovery makes of a pending group, also on damaged cards.
 
+use crate::support::worked::{created, put_stamp, put_written};
 use crate::support::{pattern, run_storing};
 use reference::*;
 use testkit::cards::Card;
@@ -7,7 +8,7 @@ use testkit::{ALL, OTHER, PANEL};
 
 const RECOVER: Operation = Operation::Recover;
 
-/// A card with odd bytes in the slots and a pending group of one record.
+/// A card with odd bytes in the slots and a pending group of one record, with its stamp.
 fn pending(operation: u8, slot: u8, fields: [u8; 10]) -> Card {
     let mut card = Card::k();
     for slot in 0..20 {
@@ -20,6 +21,7 @@ fn pending(operation: u8, slot: u8, fields: [u8; 10]) -> Card {
     log[13] = operation;
     log[18] = slot;
     log[22..32].copy_from_slice(&fields);
+    put_stamp(log);
     card
 }
 
@@ -36,7 +38,7 @@ fn recover_changing(mut card: Card, sectors: &[usize], slots: &[(usize, Vec<u8>)
         expected.slot_mut(*slot).copy_from_slice(bytes);
     }
     expected.log_sector_mut(2)[0] = 0xE5;
-    if card.log_sector_mut(2)[13] == 5 {
+    if card.log_sector_mut(2)[13] != 3 {
         expected.log_sector_mut(2)[32] = 0xE5;
     }
     run_storing(&mut card.bytes, &RECOVER, sectors);
@@ -47,10 +49,7 @@ fn recover_changing(mut card: Card, sectors: &[usize], slots: &[(usize, Vec<u8>)
 #[test]
 fn create_writes_a_new_slot_whatever_the_record_has() {
     let card = pending(1, 17, FIELDS);
-    let mut slot = PANEL.to_vec();
-    slot.extend([0x20, 0, 0, 0, 0, 0x21, 0, 0x21, 0, 0, 0]);
-    slot.extend([0, 0, 0x21, 0, 0, 0, 0, 0, 0, 0]);
-    recover_changing(card, &[34, 67], &[(17, slot)]);
+    recover_changing(card, &[34, 67], &[(17, created(PANEL))]);
 }
 
 #[test]
@@ -58,6 +57,7 @@ fn update_sets_the_size() {
     let card = pending(2, 3, FIELDS);
     let mut slot = card.slot(3).to_vec();
     slot[28..].copy_from_slice(&[4, 3, 2, 1]);
+    put_written(&mut slot);
     recover_changing(card, &[33, 67], &[(3, slot)]);
 }
 
@@ -66,6 +66,7 @@ fn update_of_an_empty_file_sets_the_first_cluster() {
     let card = pending(2, 3, FROM_EMPTY);
     let mut slot = card.slot(3).to_vec();
     slot[26..].copy_from_slice(&[0x34, 0x12, 4, 3, 2, 1]);
+    put_written(&mut slot);
     recover_changing(card, &[33, 67], &[(3, slot)]);
 }
 
@@ -82,6 +83,7 @@ fn truncate_sets_the_size() {
     let card = pending(4, 3, FIELDS);
     let mut slot = card.slot(3).to_vec();
     slot[28..].copy_from_slice(&[4, 3, 2, 1]);
+    put_written(&mut slot);
     recover_changing(card, &[33, 67], &[(3, slot)]);
 }
 
@@ -90,6 +92,7 @@ fn truncate_to_nothing_clears_the_first_cluster() {
     let card = pending(4, 3, [0x34, 0x12, 0, 0, 0x78, 0x56, 0, 0, 0, 0]);
     let mut slot = card.slot(3).to_vec();
     slot[26..].fill(0);
+    put_written(&mut slot);
     recover_changing(card, &[33, 67], &[(3, slot)]);
 }
 
@@ -110,6 +113,7 @@ fn replace_sets_first_cluster_and_size() {
         let mut slot = card.slot(3).to_vec();
         slot[26..28].copy_from_slice(&dir_cluster);
         slot[28..].copy_from_slice(&size);
+        put_written(&mut slot);
         recover_changing(card, &[33, 67], &[(3, slot)]);
     }
 }
@@ -120,6 +124,7 @@ fn replace_of_an_empty_file_too() {
     let card = pending(6, 3, FROM_EMPTY);
     let mut slot = card.slot(3).to_vec();
     slot[26..].copy_from_slice(&[0x34, 0x12, 4, 3, 2, 1]);
+    put_written(&mut slot);
     recover_changing(card, &[33, 67], &[(3, slot)]);
 }
 
@@ -158,6 +163,7 @@ fn update_of_the_slot_at_the_end_of_the_root() {
     let card = pending(2, 20, FIELDS);
     let mut slot = vec![0; 32];
     slot[28..].copy_from_slice(&[4, 3, 2, 1]);
+    put_written(&mut slot);
     recover_changing(card, &[34, 67], &[(20, slot)]);
 }
 

@@ -1,15 +1,21 @@
 //! Replace, worked through on card K as M1 to M10 are: sectors, chains, records and free clusters are numbers found by hand.
 
-use crate::support::worked::{after_m3, after_m4, assert_committed, record, with_file};
+use crate::support::worked::{
+    after_m3, after_m4, assert_committed, put_written, record, with_file, STAMP,
+};
 use crate::support::{pattern, planned_sectors, run_done, run_storing, sector};
 use reference::*;
 use testkit::cards::Card;
-use testkit::{ALL, OTHER, PANEL, ROUTE};
+use testkit::{ALL, AT, OTHER, PANEL, ROUTE};
 
 const RECOVER: Operation = Operation::Recover;
 
 fn replace(data: &[u8]) -> Operation<'_> {
-    Operation::Replace { name: ROUTE, data }
+    Operation::Replace {
+        name: ROUTE,
+        data,
+        seconds: AT,
+    }
 }
 
 /// The FAT1 entries of the clusters.
@@ -56,7 +62,8 @@ fn by_600_bytes() {
 fn the_group_as_it_is_stored() {
     let stores = plan(&after_m4().bytes, &replace(&pattern(600, 5))).unwrap();
     assert_eq!(stores[3].bytes[..32], record(ROUTE, 6, 0, 13, 10, 600));
-    assert!(stores[3].bytes[32..].iter().all(|&byte| byte == 0));
+    assert_eq!(stores[3].bytes[32..64], STAMP);
+    assert!(stores[3].bytes[64..].iter().all(|&byte| byte == 0));
     // New links and freed entries are in the one store of the FAT sector.
     assert_eq!(
         stores[2].bytes[20..30],
@@ -89,15 +96,17 @@ fn an_empty_file_by_some() {
     assert_eq!(file_bytes(&card.bytes, 0), data);
 }
 
-/// A replace always writes a group: nothing but the log changes here.
+/// A replace always writes a group: nothing but the log changes here, at the moment of the create.
 #[test]
 fn an_empty_file_by_no_bytes() {
     let mut card = after_m3();
     let mut expected = card.bytes.clone();
     run_storing(&mut card.bytes, &replace(&[]), &[66, 33, 66]);
     let mut committed = record(ROUTE, 6, 0, 0, 0, 0);
+    committed.extend(STAMP);
     committed[0] = 0xE5;
-    expected[66 * 512..][..32].copy_from_slice(&committed);
+    committed[32] = 0xE5;
+    expected[66 * 512..][..64].copy_from_slice(&committed);
     assert!(card.bytes == expected);
 }
 
@@ -232,7 +241,8 @@ fn sectors_of_an_empty(sector: usize) -> Vec<usize> {
     }
 }
 
-/// Of the slot only first cluster and size change: attributes, dates and the high word stay.
+/// Of the slot only first cluster, size, write time and the dates of writing and access change: attributes, the fields of its
+/// creation and the high word stay.
 #[test]
 fn other_fields_of_the_slot_stay() {
     let mut card = with_file(&[10], 0xFFF8, 100);
@@ -242,6 +252,7 @@ fn other_fields_of_the_slot_stay() {
     assert_ne!(slot[20..22], [0, 0]);
     run_done(&mut card.bytes, &replace(&pattern(600, 5)));
     slot[26..].copy_from_slice(&[11, 0, 0x58, 2, 0, 0]);
+    put_written(&mut slot);
     assert_eq!(card.slot(0), slot);
     assert_eq!(card.log_sector_mut(0)[11..14], [0x26, 0, 6]);
     assert_eq!(card.log_sector_mut(0)[20..22], [0, 0], "not the slot's");
@@ -267,9 +278,16 @@ fn the_lowest_slot_of_the_name() {
 fn other_files_keep_their_bytes() {
     let mut card = after_m4();
     for (name, length) in [(PANEL, 5_000), (OTHER, 1)] {
-        run_done(&mut card.bytes, &Operation::Create { name });
+        run_done(&mut card.bytes, &Operation::Create { name, seconds: AT });
         let data = &pattern(length, 9);
-        run_done(&mut card.bytes, &Operation::Append { name, data });
+        run_done(
+            &mut card.bytes,
+            &Operation::Append {
+                name,
+                data,
+                seconds: AT,
+            },
+        );
     }
     for length in [0, 1, 512, 1_300, 9_000, 513] {
         let data = pattern(length, length as u8);
@@ -295,7 +313,13 @@ fn a_chain_that_is_shared() {
 #[test]
 fn the_whole_card() {
     let mut card = Card::k();
-    run_done(&mut card.bytes, &Operation::Create { name: ROUTE });
+    run_done(
+        &mut card.bytes,
+        &Operation::Create {
+            name: ROUTE,
+            seconds: AT,
+        },
+    );
     let room = (4_085 - 8) * 512;
     let data = pattern(room + 1, 5);
     let refused = Answer::Refused(Ground::Nospace);

@@ -1,20 +1,33 @@
 //! Card K worked through: M1 to M10.
 
-use crate::support::worked::{after_m3, after_m4, assert_committed, record};
+use crate::support::worked::{
+    after_m3, after_m4, assert_committed, assert_committed_alone, created, record, STAMP,
+};
 use crate::support::{pattern, run_done, run_storing, sector};
 use reference::*;
 use testkit::cards::Card;
-use testkit::{ALL, PANEL, ROUTE};
+use testkit::{ALL, AT, PANEL, ROUTE};
 
-const CREATE: Operation = Operation::Create { name: ROUTE };
+const CREATE: Operation = Operation::Create {
+    name: ROUTE,
+    seconds: AT,
+};
 const DELETE: Operation = Operation::Delete { name: ROUTE };
 
 fn append(data: &[u8]) -> Operation<'_> {
-    Operation::Append { name: ROUTE, data }
+    Operation::Append {
+        name: ROUTE,
+        data,
+        seconds: AT,
+    }
 }
 
 fn truncate(size: u64) -> Operation<'static> {
-    Operation::Truncate { name: ROUTE, size }
+    Operation::Truncate {
+        name: ROUTE,
+        size,
+        seconds: AT,
+    }
 }
 
 fn after_m7() -> Card {
@@ -66,14 +79,12 @@ fn m3_create() {
     let mut expected = card.bytes.clone();
     run_storing(&mut card.bytes, &CREATE, &[65, 33, 65]);
 
-    let slot = &mut expected[33 * 512..][..32];
-    slot[..12].copy_from_slice(b"ROUTE   CUT\x20");
-    for date in [16, 18, 24] {
-        slot[date] = 0x21;
-    }
+    expected[33 * 512..][..32].copy_from_slice(&created(ROUTE));
     let mut committed = record(ROUTE, 1, 0, 0, 0, 0);
+    committed.extend(STAMP);
     committed[0] = 0xE5;
-    expected[65 * 512..][..32].copy_from_slice(&committed);
+    committed[32] = 0xE5;
+    expected[65 * 512..][..64].copy_from_slice(&committed);
     assert!(card.bytes == expected);
 }
 
@@ -81,7 +92,8 @@ fn m3_create() {
 fn m3_first_store_is_the_pending_record() {
     let stores = plan(&card_k(), &CREATE).unwrap();
     assert_eq!(stores[0].bytes[..32], record(ROUTE, 1, 0, 0, 0, 0));
-    assert!(stores[0].bytes[32..].iter().all(|&byte| byte == 0));
+    assert_eq!(stores[0].bytes[32..64], STAMP);
+    assert!(stores[0].bytes[64..].iter().all(|&byte| byte == 0));
 }
 
 #[test]
@@ -170,7 +182,7 @@ fn m9_delete() {
     let mut card = after_m8();
     let before = card.slot(0).to_vec();
     run_storing(&mut card.bytes, &DELETE, &[17, 69, 1, 33, 69]);
-    assert_committed(&card, 69, &record(ROUTE, 3, 0, 0, 10, 512));
+    assert_committed_alone(&card, 69, &record(ROUTE, 3, 0, 0, 10, 512));
     assert_eq!(card.fat1_entry(10), 0);
     assert_eq!(card.slot(0)[0], 0xE5);
     assert_eq!(card.slot(0)[1..], before[1..]);
@@ -185,7 +197,10 @@ fn m10_ninth_group() {
     run_storing(&mut card.bytes, &CREATE, &[70, 33, 70]);
     run_storing(&mut card.bytes, &DELETE, &[71, 33, 71]);
     run_storing(&mut card.bytes, &CREATE, &[72, 33, 72]);
-    let ninth = Operation::Create { name: PANEL };
+    let ninth = Operation::Create {
+        name: PANEL,
+        seconds: AT,
+    };
     let stores = plan(&card.bytes, &ninth).unwrap();
     assert!(stores[..8].iter().all(|store| store.bytes == [0; 512]));
     run_storing(

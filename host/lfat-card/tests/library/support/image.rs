@@ -18,6 +18,7 @@ fn run(program: &str, arguments: &[&str]) -> Output {
         .env("PATH", path)
         .env("MTOOLSRC", "/dev/null")
         .env("LC_ALL", "C.UTF-8")
+        .env("TZ", "UTC")
         .output()
         .unwrap_or_else(|error| panic!("{program} of dosfstools or mtools: {error}"))
 }

@@ -5,8 +5,11 @@ use lfat_disk::{Disk, DiskCard, Error, Operation};
 use reference::{card_k, CardSpec};
 use std::fmt;
 use testkit::cards::Card;
+use testkit::AT;
 
 pub const ALL: u32 = u32::MAX;
+/// When the files of cards were saved, before anything is tried on them.
+pub const EARLIER: u32 = AT - 1_000_001;
 pub const ROUTE: &[u8; 11] = b"ROUTE   CUT";
 pub const PANEL: &[u8; 11] = b"PANEL   CUT";
 pub const NEW: &[u8; 11] = b"NEW     CUT";
@@ -21,8 +24,8 @@ pub fn points(length: usize) -> Vec<u8> {
 pub fn two_files() -> Vec<u8> {
     let mut card = card_k();
     for (name, length) in [(ROUTE, 1_300), (PANEL, 5_000)] {
-        reference::create(&mut card, name, ALL);
-        reference::append(&mut card, name, &points(length), ALL);
+        reference::create(&mut card, name, EARLIER, ALL);
+        reference::append(&mut card, name, &points(length), EARLIER, ALL);
     }
     card
 }
@@ -57,8 +60,8 @@ pub fn wide() -> Vec<u8> {
     }
     .build();
     for (name, length) in [(ROUTE, 1_300), (PANEL, 5_000)] {
-        reference::create(&mut card, name, ALL);
-        reference::append(&mut card, name, &points(length), ALL);
+        reference::create(&mut card, name, EARLIER, ALL);
+        reference::append(&mut card, name, &points(length), EARLIER, ALL);
     }
     card
 }
@@ -146,51 +149,65 @@ pub fn characters(count: usize) -> &'static [u8] {
 pub fn verbs() -> Vec<Verb> {
     let data = |length: usize| -> &'static [u8] { points(length).leak() };
     let single = [
-        Operation::Create { name: NEW },
+        Operation::Create {
+            name: NEW,
+            seconds: AT,
+        },
         Operation::CreateLong {
             name: NEW,
             characters: characters(22),
+            seconds: AT,
         },
         // Seventeen slots: two root sectors at least.
         Operation::CreateLong {
             name: NEW,
             characters: characters(208),
+            seconds: AT,
         },
         Operation::Append {
             name: ROUTE,
             data: data(100),
+            seconds: AT,
         },
         Operation::Append {
             name: ROUTE,
             data: data(1_300),
+            seconds: AT,
         },
         Operation::Append {
             name: PANEL,
             data: data(9_000),
+            seconds: AT,
         },
         Operation::Replace {
             name: ROUTE,
             data: data(700),
+            seconds: AT,
         },
         Operation::Replace {
             name: PANEL,
             data: data(9_000),
+            seconds: AT,
         },
         Operation::Replace {
             name: PANEL,
             data: &[],
+            seconds: AT,
         },
         Operation::Truncate {
             name: PANEL,
             size: 600,
+            seconds: AT,
         },
         Operation::Truncate {
             name: ROUTE,
             size: 1_299,
+            seconds: AT,
         },
         Operation::Truncate {
             name: PANEL,
             size: 0,
+            seconds: AT,
         },
         Operation::Delete { name: PANEL },
         Operation::Rename {
@@ -203,10 +220,14 @@ pub fn verbs() -> Vec<Verb> {
         .map(|one| Verb::Calls(vec![one]))
         .collect();
     verbs.push(Verb::Calls(vec![
-        Operation::Create { name: NEW },
+        Operation::Create {
+            name: NEW,
+            seconds: AT,
+        },
         Operation::Append {
             name: NEW,
             data: data(1_700),
+            seconds: AT,
         },
     ]));
     verbs.push(Verb::DeleteSlot(1));
@@ -214,9 +235,9 @@ pub fn verbs() -> Vec<Verb> {
     verbs
 }
 
-/// What is on a card by the reference's reading: every entry's slot, name, attributes and bytes. An error in words if the card is
-/// not clean, or a file cannot be read.
-pub type State = Vec<(usize, Vec<u8>, u8, Vec<u8>)>;
+/// What is on a card by the reference's reading: every entry's slot, name, attributes with dates, and bytes. An error in words if
+/// the card is not clean, or a file cannot be read.
+pub type State = Vec<(usize, Vec<u8>, Vec<u8>, Vec<u8>)>;
 
 pub fn state(card: &[u8]) -> Result<State, String> {
     if let reference::Answer::Refused(ground) = reference::list(card, &mut []) {
@@ -238,7 +259,7 @@ pub fn state(card: &[u8]) -> Result<State, String> {
                 // A label or a long entry has no bytes but these.
                 _ => slot.to_vec(),
             };
-            (index, slot[..11].to_vec(), slot[11], bytes)
+            (index, slot[..11].to_vec(), slot[11..26].to_vec(), bytes)
         })
         .collect())
 }

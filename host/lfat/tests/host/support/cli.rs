@@ -58,15 +58,21 @@ impl Folder {
 
     /// Runs lfat on a machine whose disks take so many writes and no more.
     pub fn lfat_with_writes(&self, writes: usize, line: &str) -> Run {
+        let writes = writes.to_string();
+        self.lfat_with(line, full_disk(), &[("WRITES", &writes)])
+    }
+
+    /// Runs lfat on a machine that a library and variables make another one.
+    pub fn lfat_with(&self, line: &str, library: &Path, variables: &[(&str, &str)]) -> Run {
         let output = Command::new(env!("CARGO_BIN_EXE_lfat"))
             .args(line.split_whitespace())
             .current_dir(&self.0)
             .stdin(Stdio::null())
-            .env("LD_PRELOAD", full_disk())
-            .env("WRITES", writes.to_string())
+            .env("LD_PRELOAD", library)
+            .envs(variables.iter().copied())
             .output();
         Run {
-            line: format!("{line}, {writes} writes"),
+            line: format!("{line}, {variables:?}"),
             output: output.expect("the program runs"),
         }
     }
@@ -171,15 +177,18 @@ ssize_t pwrite64(int fd, const void *bytes, size_t count, off64_t at)
 
 fn full_disk() -> &'static Path {
     static BUILT: OnceLock<PathBuf> = OnceLock::new();
-    BUILT.get_or_init(|| {
-        let path = Path::new(env!("CARGO_TARGET_TMPDIR")).join("full_disk.so");
-        let source = path.with_extension("c");
-        fs::write(&source, FULL_DISK).expect("a source");
-        let built = Command::new("gcc")
-            .args(["-shared", "-fPIC", "-O1", "-o"])
-            .args([&path, &source])
-            .status();
-        assert!(built.expect("gcc is there").success());
-        path
-    })
+    BUILT.get_or_init(|| build_library("full_disk", FULL_DISK))
+}
+
+/// Builds a library that is put before the others.
+pub fn build_library(name: &str, source: &str) -> PathBuf {
+    let path = Path::new(env!("CARGO_TARGET_TMPDIR")).join(format!("{name}.so"));
+    let file = path.with_extension("c");
+    fs::write(&file, source).expect("a source");
+    let built = Command::new("gcc")
+        .args(["-shared", "-fPIC", "-O1", "-o"])
+        .args([&path, &file])
+        .status();
+    assert!(built.expect("gcc is there").success());
+    path
 }

@@ -2,12 +2,14 @@
 
 pub mod c;
 pub mod cli;
+pub mod clock;
 pub mod long;
 pub mod ram;
 
 pub use testkit::random;
 
 use reference::{card_k, CardSpec};
+use testkit::AT;
 
 pub const ALL: u32 = u32::MAX;
 pub const ROUTE: &[u8; 11] = b"ROUTE   CUT";
@@ -16,8 +18,8 @@ pub const PANEL: &[u8; 11] = b"PANEL   CUT";
 /// Card K with the file ROUTE.CUT of so many bytes.
 pub fn card_with_route(length: usize) -> Vec<u8> {
     let mut card = card_k();
-    reference::create(&mut card, ROUTE, ALL);
-    reference::append(&mut card, ROUTE, &points(length), ALL);
+    reference::create(&mut card, ROUTE, AT, ALL);
+    reference::append(&mut card, ROUTE, &points(length), AT, ALL);
     card
 }
 

@@ -1,6 +1,7 @@
 //! Random operations on few names, so that refusals come up often too.
 
 use testkit::call::Call;
+use testkit::dates::random_seconds;
 use testkit::random::Random;
 use testkit::{Name, OTHER, PANEL, ROUTE};
 
@@ -35,20 +36,21 @@ fn random_length(random: &mut Random, cluster_bytes: usize) -> usize {
 /// A call that stores, and no recovery.
 pub fn random_step(random: &mut Random, cluster_bytes: usize) -> Call {
     let name = random_name(random);
+    let seconds = random_seconds(random);
     match random.below(20) {
-        0..=3 => Call::Create(name),
+        0..=3 => Call::Create(name, seconds),
         4..=8 => {
             let length = random_length(random, cluster_bytes);
-            Call::Append(name, random.bytes(length))
+            Call::Append(name, random.bytes(length), seconds)
         }
         9..=11 => {
             let size = random_length(random, cluster_bytes);
-            Call::Truncate(name, size as u64)
+            Call::Truncate(name, size as u64, seconds)
         }
         12 | 13 => Call::Delete(name),
         14..=17 => {
             let length = random_length(random, cluster_bytes);
-            Call::Replace(name, random.bytes(length))
+            Call::Replace(name, random.bytes(length), seconds)
         }
         _ => Call::Rename(name, random_name(random)),
     }

@@ -3,7 +3,7 @@
 use super::worked::with_file;
 use reference::*;
 use testkit::cards::Card;
-use testkit::{ALL, PANEL};
+use testkit::{ALL, AT, PANEL};
 
 /// ROUTE.CUT of 700 bytes in clusters 20 and 21, with these attributes.
 pub fn with_attributes(attributes: u8) -> Card {
@@ -19,14 +19,26 @@ pub fn locked() -> Card {
 /// The five calls that ask LOCKED, each granted on a file of 700 bytes without the mark.
 pub fn asking(name: &[u8]) -> [Operation<'_>; 5] {
     [
-        Operation::Append { name, data: b"x" },
-        Operation::Truncate { name, size: 699 },
+        Operation::Append {
+            name,
+            data: b"x",
+            seconds: AT,
+        },
+        Operation::Truncate {
+            name,
+            size: 699,
+            seconds: AT,
+        },
         Operation::Delete { name },
         Operation::Rename {
             old: name,
             new: PANEL,
         },
-        Operation::Replace { name, data: b"x" },
+        Operation::Replace {
+            name,
+            data: b"x",
+            seconds: AT,
+        },
     ]
 }
 

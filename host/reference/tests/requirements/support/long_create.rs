@@ -1,9 +1,10 @@
 //! Creates with a long name, by hand: the entries as a table of bytes, and groups as they stand in the log.
 
+use super::worked::STAMP;
 use reference::Operation;
 use testkit::cards::Card;
 pub use testkit::characters::{bytes_of, bytes_of_text, letters};
-use testkit::Name;
+use testkit::{Name, AT};
 
 pub const HULL: &Name = b"HULL7S~1CUT";
 /// The checksum of HULL7S~1.CUT, as mtools wrote it.
@@ -14,6 +15,7 @@ pub fn hull_named(characters: &[u8]) -> Operation<'_> {
     Operation::CreateLong {
         name: HULL,
         characters,
+        seconds: AT,
     }
 }
 
@@ -30,12 +32,12 @@ pub fn entry(first: u8, characters: [u16; 13]) -> [u8; 32] {
     bytes
 }
 
-/// The slot of HULL7S~1.CUT after its create: attributes 0x20 and the three dates 0x0021.
+/// The slot of HULL7S~1.CUT after its create: attributes 0x20, both times 0x6DAF and the three dates 0x5CD1.
 pub fn created() -> [u8; 32] {
-    *b"HULL7S~1CUT\x20\0\0\0\0\x21\0\x21\0\0\0\0\0\x21\0\0\0\0\0\0\0"
+    *b"HULL7S~1CUT\x20\0\0\xAF\x6D\xD1\x5C\xD1\x5C\0\0\xAF\x6D\xD1\x5C\0\0\0\0\0\0"
 }
 
-/// The sector of the group, pending: count and slot in the main record, then the characters.
+/// The sector of the group, pending: count and slot in the main record, then the stamp, then the characters.
 pub fn group(count: u8, slot: u16, characters: &[u16]) -> [u8; 512] {
     let mut sector = [0; 512];
     sector[..11].copy_from_slice(HULL);
@@ -43,7 +45,8 @@ pub fn group(count: u8, slot: u16, characters: &[u16]) -> [u8; 512] {
     sector[12] = count;
     sector[13] = 1;
     sector[18..20].copy_from_slice(&slot.to_le_bytes());
-    sector[32..32 + 2 * characters.len()].copy_from_slice(&bytes_of(characters));
+    sector[32..64].copy_from_slice(&STAMP);
+    sector[64..64 + 2 * characters.len()].copy_from_slice(&bytes_of(characters));
     sector
 }
 
