@@ -46,7 +46,7 @@ run: lfat
 	$(LFAT) blank $(CARD)
 	$(LFAT) put $(CARD) ROUTE.CUT examples/route.cut
 	$(LFAT) put $(CARD) 'Hull 7 sheer panel.cut' examples/route.cut
-	$(LFAT) ls $(CARD)
+	$(LFAT) ls -l $(CARD)
 	$(LFAT) rack $(CARD) put PANEL.CUT examples/route.cut --svg $(dir $(CARD))cuts.svg
 	@echo 'The cuts as a picture: $(dir $(CARD))cuts.svg'
 
