@@ -52,9 +52,13 @@ fields-ok f =
     ∷ eqb (f .entries % 16) 0 ∷ leb 1 (f .entries)
     ∷ leb 1 (f .fatsize) ∷ [])
 
--- "from 4,085 to 65,524"; "A FAT must have at least clusters + 2 entries of 16 bits."
+-- "A FAT must have at least clusters + 2 entries of 16 bits."
+abbrev pub fat-holds : Layout → Bool
+fat-holds l = leb (l .clusters + 2) (256 * l .fatsize)
+
+-- "from 4,085 to 65,524"
 unfoldable pub size-ok : Layout → Bool
-size-ok l = every (between 4085 65524 (l .clusters) ∷ leb (l .clusters + 2) (256 * l .fatsize) ∷ [])
+size-ok l = every (between 4085 65524 (l .clusters) ∷ fat-holds l ∷ [])
 
 unfoldable pub boot-ok : Bytes → Bool
 boot-ok b = every (signed b ∷ fields-ok (fields b) ∷ size-ok (layout b) ∷ [])

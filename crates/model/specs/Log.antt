@@ -19,9 +19,13 @@ marked f k = is-reserved (entry f k)
 unfoldable pub run : Layout → Fat → Run
 run l f = record { start = first-from (marked f) 2 (l .clusters); size = count-from (marked f) 2 (l .clusters) }
 
--- "The log is the only run", "at most 128 sectors".
+-- "at most 128 sectors"
+abbrev pub most-sectors : ℕ
+most-sectors = 128
+
+-- "The log is the only run".
 unfoldable pub run-ok : Layout → Fat → Run → Bool
-run-ok l f r = every (leb 1 (r .size) ∷ leb (r .size * l .factor) 128 ∷ all-from (marked f) (r .start) (r .size) ∷ [])
+run-ok l f r = every (leb 1 (r .size) ∷ leb (r .size * l .factor) most-sectors ∷ all-from (marked f) (r .start) (r .size) ∷ [])
 
 unfoldable pub area : Layout → Run → Area
 area l r = record { sector = cluster-sector l (r .start); sectors = r .size * l .factor }

@@ -22,9 +22,12 @@ unfoldable pub made : ℕ → Answer Program → List Store
 made limit (refused g) = []
 made limit (granted p) = take limit (stores p)
 
--- What a call leaves of the window.
+-- What these leave of the window; and what a call does.
+abbrev pub leaves : ℕ → Answer Program → Window → Window
+leaves limit a w = record { size = w .size; card = after (made limit a) (w .card) }
+
 unfoldable pub left : ℕ → Call → Window → Window
-left limit k w = record { size = w .size; card = after (made limit (plan k w)) (w .card) }
+left limit k w = leaves limit (plan k w) w
 
 -- "the router passes the largest" limit of 32 bits.
 abbrev pub largest : ℕ
