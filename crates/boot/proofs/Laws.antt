@@ -1,15 +1,15 @@
 -- Sectors per cluster as a power of two, and layouts judged by their sizes.
-use Prim.Native.Nat.{ℕ, _+_, _-_, _*_, _/_, _^_, _<_, _≤_}
+use Prim.Native.Nat.{ℕ, _+_, _-_, _/_, _^_, _<_, _≤_}
 use native.Mathlib.Omega.{arith}
-use native.Mathlib.Nat.{zero-div}
+use native.Mathlib.Nat.{zero-div, div-le-self}
 use mathlib.Core.Path.{_≡_, refl, ap, _∙_}
-use mathlib.Core.Bool.{Bool, true, _&&_}
+use mathlib.Core.Bool.{Bool, true, false, _&&_}
 use lib.Dec.{eqb, ltb}
 use lib.Count.{ones, onesIn, trailingZeros}
-use borrow.Author.Tests.{eqb-true, ltb-true, leb-true, lt-leb, le-leb}
+use borrow.Author.Tests.{eqb-true, ltb-true, leb-true}
 use Rattle.model.specs.Bytes.{pick}
 use Rattle.model.specs.Scan.{all, all-from, walk}
-use Rattle.model.specs.Boot.{fields-ok, size-ok, arrange, data-start}
+use Rattle.model.specs.Boot.{fields-ok, size-ok, fat-holds, arrange, data-start}
 use Rattle.model.specs.Promises.{Fits}
 use Rattle.model.specs.declared.Fields.{Fields}
 use Rattle.model.proofs.Tests.{and-left, and-right, every-at, every-not, each-every, between-is, between-low, between-high}
@@ -48,25 +48,34 @@ module _ (f : Fields) where
   unfolding sized size-ok
   too-few h = rw (every-not _ 0 (between-low 4085 65524 n h))
 
-  pub too-short : f .total < data-start f → sized (arrange f) ≡ Bad
+  -- A card that ends before its data has none.
+  pub no-clusters : f .total < data-start f → n ≡ 0
   unfolding arrange
-  too-short h =
+  no-clusters h =
       let z : f .total - data-start f ≡ 0 = omega arith in
-      let e : (f .total - data-start f) / f .factor ≡ 0 = ap (λ x. x / f .factor) z ∙ zero-div (f .factor) in
-      too-few (omega arith)
+      ap (λ x. x / f .factor) z ∙ zero-div (f .factor)
+
+  -- There are not more of them than sectors after the first three.
+  pub few-clusters : fields-ok f ≡ true → f .total < 4294967296 → n + 2 < 4294967296
+  unfolding fields-ok arrange
+  few-clusters ok total =
+      let one : 1 ≤ f .reserved = leb-true _ _ (every-at _ ok 2) in
+      let two : 1 ≤ f .fatsize = leb-true _ _ (every-at _ ok 5) in
+      let d : (f .total - data-start f) / f .factor ≤ f .total - data-start f = div-le-self (f .total - data-start f) (f .factor) in
+      omega arith
 
   pub too-many : 65524 < n → sized (arrange f) ≡ Bad
   unfolding sized size-ok
   too-many h = rw (every-not _ 0 (between-high 4085 65524 n h))
 
-  pub too-wide : 256 * arrange f .fatsize < n + 2 → sized (arrange f) ≡ Bad
+  pub too-wide : fat-holds (arrange f) ≡ false → sized (arrange f) ≡ Bad
   unfolding sized size-ok
-  too-wide h = rw (every-not _ 1 (lt-leb _ _ h))
+  too-wide h = rw (every-not _ 1 h)
 
-  module _ (low : 4085 ≤ n) (high : n ≤ 65524) (wide : n + 2 ≤ 256 * arrange f .fatsize) where
+  module _ (low : 4085 ≤ n) (high : n ≤ 65524) (wide : fat-holds (arrange f) ≡ true) where
     ok : size-ok (arrange f) ≡ true
     unfolding size-ok
-    ok = each-every _ (between-is 4085 65524 n low high, (le-leb _ _ wide, tt))
+    ok = each-every _ (between-is 4085 65524 n low high, (wide, tt))
 
     pub right : sized (arrange f) ≡ Good (arrange f)
     unfolding sized

@@ -3,10 +3,10 @@ use model::Fields;
 use model::Layout;
 ghost use mathlib.Core.Path.{_≡_};
 ghost use mathlib.Core.Bool.{true};
-ghost use Prim.Native.Nat.{_≤_};
+ghost use Prim.Native.Nat.{_+_, _≤_, _<_};
 ghost use lib.ListN.{length};
 ghost use Rattle.model.specs.Sector.{card-of};
-ghost use Rattle.model.specs.Boot.{total-sectors, fields, arrange, signed, fields-ok};
+ghost use Rattle.model.specs.Boot.{total-sectors, fields, arrange, signed, fields-ok, fat-holds};
 ghost use Rattle.boot.specs.Booted.{booted, sized, Placed, Narrow};
 
 // What a boot sector gives: nothing, where it breaks a rule.
@@ -60,7 +60,7 @@ fn is_signed(w: &[u8]) -> bool
     sector::byte(w, 0, 16) == 2
 }
 
-fn is_plain(f: Fields) -> bool
+pub fn is_plain(f: Fields) -> bool
     ensures { λ r. ⌜ r ≡ fields-ok f ⌝ }
 {
     if u32::count_ones(f.factor) != 1 {
@@ -81,26 +81,42 @@ fn is_plain(f: Fields) -> bool
     1 <= f.fatsize
 }
 
-// Sectors per cluster are 2 to the power of their trailing zeros.
-fn arranged(f: Fields) -> Booted
+// How many clusters the data region has. Sectors per cluster are 2 to the power of their trailing zeros.
+fn clusters_of(f: Fields) -> u32
+    requires { ⌜ Narrow f × (fields-ok f ≡ true) ⌝ }
+    ensures { λ r. ⌜ (r ≡ arrange f .clusters) × (r + 2 < 4294967296) ⌝ }
+{
+    let start = f.reserved + 2 * f.fatsize + f.entries / 16;
+    if f.total < start {
+        return 0;
+    }
+    (f.total - start) >> u32::trailing_zeros(f.factor)
+}
+
+// Whether a FAT has an entry for each of them, and two more.
+pub fn fat_holds(f: Fields) -> bool
+    requires { ⌜ Narrow f × (fields-ok f ≡ true) ⌝ }
+    ensures { λ r. ⌜ r ≡ fat-holds (arrange f) ⌝ }
+{
+    clusters_of(f) + 2 <= 256 * f.fatsize
+}
+
+// The layout of fields that were accepted, if its sizes are.
+pub fn arranged(f: Fields) -> Booted
     requires { ⌜ Narrow f × (fields-ok f ≡ true) ⌝ }
     ensures { λ r. ⌜ (r ≡ sized (arrange f)) × Placed r ⌝ }
 {
-    let root = f.reserved + 2 * f.fatsize;
-    let start = root + f.entries / 16;
-    if f.total < start {
-        return Booted::Bad;
-    }
-    let clusters = (f.total - start) >> u32::trailing_zeros(f.factor);
+    let clusters = clusters_of(f);
     if clusters < 4085 {
         return Booted::Bad;
     }
     if 65524 < clusters {
         return Booted::Bad;
     }
-    if 256 * f.fatsize < clusters + 2 {
+    if !fat_holds(f) {
         return Booted::Bad;
     }
+    let root = f.reserved + 2 * f.fatsize;
     Booted::Good(Layout {
         factor: f.factor,
         fatsize: f.fatsize,
@@ -108,7 +124,7 @@ fn arranged(f: Fields) -> Booted
         fat2: f.reserved + f.fatsize,
         root,
         entries: f.entries,
-        start,
+        start: root + f.entries / 16,
         total: f.total,
         clusters,
     })

@@ -22,7 +22,7 @@ ghost use Rattle.operations.specs.Calls.{append-to, append-on, append};
 ghost use Rattle.volume.specs.Opened.{Ready};
 ghost use Rattle.root_lookup.specs.Found.{Chained};
 ghost use Rattle.file_append.specs.Extents.{Room};
-ghost use Rattle.log_steps.specs.Did.{Did};
+ghost use Rattle.call_outcome.specs.Did.{Did};
 ghost use Rattle.call_append.specs.Append.{chain-stores};
 
 // Steps 1 and 2: the data sectors, then FAT2.
@@ -99,7 +99,7 @@ fn append_to(w: &mut [u8], v: Volume, f: File, bytes: &[u8], stamp: u32, limit: 
     }
     let last = file_read::last_cluster(w, l, f);
     let p = store_append(w, v, f, last, n as u32, bytes, stamp, limit);
-    log_steps::ended(p)
+    call_outcome::ended(p)
 }
 
 fn append_on(w: &mut [u8], v: Volume, name: &[u8], bytes: &[u8], stamp: u32, limit: u32) -> Outcome

@@ -25,7 +25,7 @@ ghost use Rattle.operations.specs.Finish.{Slots};
 ghost use Rattle.operations.specs.Plan.{operate, old-fat, create-stores, rename-stores};
 ghost use Rattle.operations.specs.Calls.{name-of, create-as, create-on, create-long-on, rename-as, rename-on, create, create-long, rename};
 ghost use Rattle.volume.specs.Opened.{Ready};
-ghost use Rattle.log_steps.specs.Did.{Did};
+ghost use Rattle.call_outcome.specs.Did.{Did};
 
 // The stores of an operation with a text that needs neither data nor FAT stores.
 fn record_change(w: &mut [u8], v: Volume, o: Operation, text: &[u8], limit: u32) -> Outcome
@@ -36,7 +36,7 @@ fn record_change(w: &mut [u8], v: Volume, o: Operation, text: &[u8], limit: u32)
         (granted (operate v (card-of (now (w .entry))) [] (old-fat v (card-of (now (w .entry)))) (with-text o (bytes-of (now (text .entry))))))
         (now (w .entry)) (now (w .exit)) r ⌝ }
 {
-    log_steps::ended(log_steps::log_steps(w, v, o, text, limit))
+    call_outcome::ended(log_steps::log_steps(w, v, o, text, limit))
 }
 
 // The stores of a create, once its slot is known.

@@ -7,7 +7,7 @@ ghost use Rattle.model.specs.Sector.{card-of, window-of};
 ghost use Rattle.model.specs.Ground.{granted};
 ghost use Rattle.operations.specs.Plan.{recover-stores};
 ghost use Rattle.operations.specs.Calls.{recover};
-ghost use Rattle.log_steps.specs.Did.{Did};
+ghost use Rattle.call_outcome.specs.Did.{Did};
 ghost use Rattle.volume.specs.Opened.{Legible};
 
 // The stores of a recovery, on a card that passes grounds 1 to 6.
@@ -18,12 +18,12 @@ fn recover_on(w: &mut [u8], v: Volume, limit: u32) -> Outcome
     let l = v.layout;
     let p = v.pending;
     match p {
-        Pending::Nothing => log_steps::ended(fat_copy::to_fat2(w, l, limit)),
+        Pending::Nothing => call_outcome::ended(fat_copy::to_fat2(w, l, limit)),
         Pending::Broken => Outcome::Done(0),
         Pending::Held(s) => {
             let plan = log_group::plan_at(w, s);
             let text = log_group::text_at(w, s);
-            log_steps::ended(log_steps::redo(w, l, plan, &text, limit))
+            call_outcome::ended(log_steps::redo(w, l, plan, &text, limit))
         }
     }
 }

@@ -24,7 +24,7 @@ ghost use Rattle.root_lookup.specs.Found.{Chained};
 ghost use Rattle.fat_release.specs.Release.{Inside};
 ghost use Rattle.file_read.specs.Files as files;
 ghost use Rattle.file_append.specs.Extents.{Room};
-ghost use Rattle.log_steps.specs.Did.{Did};
+ghost use Rattle.call_outcome.specs.Did.{Did};
 ghost use Rattle.call_replace.specs.Replace.{emptied, exchange-stores};
 
 // Steps 1 and 2 on a file g that has no bytes: the data sectors along n new clusters, then FAT2 with these linked and the m
@@ -124,7 +124,7 @@ fn replace_file(w: &mut [u8], v: Volume, f: File, bytes: &[u8], stamp: u32, limi
         return Outcome::Refused(Ground::Nospace);
     }
     let p = store_replace(w, v, f, n as u32, bytes, stamp, limit);
-    log_steps::ended(p)
+    call_outcome::ended(p)
 }
 
 fn replace_on(w: &mut [u8], v: Volume, name: &[u8], bytes: &[u8], stamp: u32, limit: u32) -> Outcome

@@ -25,7 +25,7 @@ ghost use Rattle.volume.specs.Opened.{Ready};
 ghost use Rattle.root_lookup.specs.Found.{Chained};
 ghost use Rattle.file_read.specs.Files as files;
 ghost use Rattle.fat_release.specs.Release.{cut, Inside};
-ghost use Rattle.log_steps.specs.Did.{Did};
+ghost use Rattle.call_outcome.specs.Did.{Did};
 ghost use Rattle.call_truncate.specs.Parts.{Parts};
 
 // The part of a chain that is freed: the last cluster kept before it, its first cluster, 0 where there is none, and how many it has.
@@ -83,7 +83,7 @@ fn delete_on(w: &mut [u8], v: Volume, name: &[u8], limit: u32) -> Outcome
     let o = root_lookup::file_of(w, v, Access::Write, name);
     match o {
         Found::Missing(g) => Outcome::Refused(g),
-        Found::At(f) => log_steps::ended(delete_file(w, v, f, limit)),
+        Found::At(f) => call_outcome::ended(delete_file(w, v, f, limit)),
     }
 }
 
@@ -158,7 +158,7 @@ fn truncate_as(w: &mut [u8], v: Volume, f: File, size: u64, stamp: u32, limit: u
     if present == size {
         return Outcome::Done(0);
     }
-    log_steps::ended(truncate_file(w, v, f, size as u32, stamp, limit))
+    call_outcome::ended(truncate_file(w, v, f, size as u32, stamp, limit))
 }
 
 // Truncate, on a clean card.

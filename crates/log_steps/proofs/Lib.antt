@@ -1,4 +1,3 @@
 pub mod Kept
 pub mod Laws
-pub mod Ends
 pub mod Parts

@@ -1,7 +1,6 @@
 // Steps 3 to 6: the group of a change, and what it makes to be done; a recovery redoes steps 4 to 6 alone.
 use model::Layout;
 use model::Operation;
-use model::Outcome;
 use model::Plan;
 use model::Progress;
 use model::Volume;
@@ -16,7 +15,6 @@ ghost use Rattle.model.specs.Promises.{Held, Texted, Room, Ran};
 ghost use Rattle.operations.specs.Program.{stores};
 ghost use Rattle.operations.specs.Finish.{Slots, finish, redo};
 ghost use Rattle.log_steps.specs.Steps.{group-steps, log-steps};
-ghost use Rattle.log_steps.specs.Did.{ended-as};
 
 // Log sector s, its first n records starting 0xE5.
 fn marked(w: &[u8], s: u32, n: u32) -> [u8; 512]
@@ -135,14 +133,4 @@ pub fn plain_steps(w: &mut [u8], v: Volume, o: Operation, limit: u32) -> Progres
 {
     let none = [0u8; 0];
     log_steps(w, v, o, &none, limit)
-}
-
-// How a call ends whose stores went so far.
-pub fn ended(p: Progress) -> Outcome
-    ensures { λ r. ⌜ r ≡ ended-as p ⌝ }
-{
-    if p.whole {
-        return Outcome::Done(p.made);
-    }
-    Outcome::Stopped(p.made)
 }

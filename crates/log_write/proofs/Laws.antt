@@ -35,11 +35,6 @@ pub clear-turns : (a : Area) → clear-all a ≡ up-to (clear-turn a) (a .sector
 unfolding clear-all
 clear-turns a = map-falling (λ s. store s zeros) (a .sector) (a .sectors)
 
--- The store of a buffer of zeros.
-pub zeros-ran : (limit s : ℕ) (e x : List ℕ) (m : ℕ) (w : Bool) → Ran limit (store s (bytes-of (replicate 512 0)) ∷ []) e x m w
-    → Ran limit (store s zeros ∷ []) e x m w
-zeros-ran limit s e x m w r = subst (λ (b : Bytes). Ran limit (store s b ∷ []) e x m w) (all-zero 512) r
-
 -- The records laid so far, and one more.
 pub lay-zeros : bytes-of (replicate 512 0) ≡ lay []
 lay-zeros = all-zero 512 ∙ sym lay-none

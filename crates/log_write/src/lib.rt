@@ -58,11 +58,10 @@ fn clear_all(w: &mut [u8], a: Area, limit: u32) -> Progress
     requires { ⌜ Within a (now w) ⌝ }
     ensures { λ r. ⌜ Ran limit (clear-all a) (now (w .entry)) (now (w .exit)) (r .made) (r .whole) ⌝ }
 {
-    let buf = [0u8; 512];
     let mut made = 0;
     let mut k = 0;
     while k < a.sectors {
-        let p = sector::store_sector(w, from_end(a, k), &buf, limit - made);
+        let p = sector::store_zeros(w, from_end(a, k), limit - made);
         made += p.made;
         if !p.whole {
             return Progress { made, whole: false };

@@ -1,19 +1,20 @@
 -- Bytes of a sector by their index, sectors compared by a loop that keeps one truth, and a sector that is lent to be stored.
 use Prim.Native.Nat.{ℕ, zero, suc, _+_, _*_, _<_, _≤_}
-use mathlib.Core.Path.{_≡_, refl, sym, ap, _∙_, fun-ext}
+use mathlib.Core.Path.{_≡_, refl, sym, ap, _∙_, fun-ext, subst}
 use mathlib.Core.List.{List, [], _∷_, _++_, append-nil}
-use lib.ListN.{getD, length, take, drop}
+use lib.ListN.{getD, length, take, drop, replicate}
 use mathlib.Core.Bool.{Bool, true, false, not, _&&_}
 use mathlib.Core.Logic.{⊎-elim}
 use lib.Dec.{eqb}
 use native.Mathlib.Omega.{arith}
-use Rattle.model.specs.Bytes.{Bytes, bytes-of}
+use Rattle.model.specs.Bytes.{Bytes, bytes-of, zeros}
 use Rattle.model.specs.Scan.{all-from}
 use Rattle.model.specs.Sector.{card-of, clip, store, put, after}
 use Rattle.model.specs.Fat.{same}
 use Rattle.model.specs.Promises.{Ran}
 use Rattle.model.proofs.Tests.{less?, and-left, and-right, and-both}
 use Rattle.model.proofs.Scan.{all-same, all-of0, all-at0}
+use Rattle.model.proofs.Lists.{all-zero}
 use Rattle.model.proofs.Sectors.{byte-in, part-sector}
 use Rattle.model.proofs.Cards.{sector-back, put-in, put-case, clip-clip}
 
@@ -94,3 +95,8 @@ module _ (xs ys : List ℕ) (s : ℕ) (fits : 512 * s + 512 ≤ length xs) (one 
   ran-lent zero m w b so = record { stores = so .stores; all = so .all; card = back-same (so .card) }
   ran-lent (suc zero) m w b so = record { stores = so .stores; all = so .all; card = back-put b (so .card) }
   ran-lent (suc (suc limit)) m w b so = record { stores = so .stores; all = so .all; card = back-put b (so .card) }
+
+-- The store of a buffer of zeros.
+pub zeros-ran : (limit s : ℕ) (e x : List ℕ) (m : ℕ) (w : Bool) → Ran limit (store s (bytes-of (replicate 512 0)) ∷ []) e x m w
+    → Ran limit (store s zeros ∷ []) e x m w
+zeros-ran limit s e x m w r = subst (λ (b : Bytes). Ran limit (store s b ∷ []) e x m w) (all-zero 512) r

@@ -7,7 +7,7 @@ ghost use Rattle.model.specs.Sector.{card-of, clip, store};
 ghost use Rattle.model.specs.Promises.{Number, Ran};
 ghost use mathlib.Core.Bool.{not};
 ghost use mathlib.Core.List.{[], _∷_};
-ghost use Rattle.model.specs.Bytes.{bytes-of, overlay, part};
+ghost use Rattle.model.specs.Bytes.{bytes-of, overlay, part, zeros};
 ghost use Rattle.model.specs.Fat.{same};
 ghost use Rattle.model.specs.Scan.{all};
 ghost use lib.Dec.{eqb};
@@ -175,6 +175,15 @@ pub fn store_sector(w: &mut [u8], s: u32, buf: &[u8; 512], limit: u32) -> Progre
     ensures { λ r. ⌜ Ran limit (store s (bytes-of (now (buf .entry))) ∷ []) (now (w .entry)) (now (w .exit)) (r .made) (r .whole) ⌝ }
 {
     store_from(w, s, buf, limit)
+}
+
+// The same for 512 zeros.
+pub fn store_zeros(w: &mut [u8], s: u32, limit: u32) -> Progress
+    requires { ⌜ 512 * s + 512 ≤ length (now w) ⌝ }
+    ensures { λ r. ⌜ Ran limit (store s zeros ∷ []) (now (w .entry)) (now (w .exit)) (r .made) (r .whole) ⌝ }
+{
+    let buf = [0u8; 512];
+    store_sector(w, s, &buf, limit)
 }
 
 // What two parts have made, the second with what the first left of the limit.

@@ -2,6 +2,7 @@
 use model::Name;
 ghost use mathlib.Core.Path.{_≡_};
 ghost use Prim.Native.Nat.{_+_, _*_, _%_, _≤_, _<_};
+ghost use lib.ListN.{length};
 ghost use Rattle.model.specs.Bytes.{bytes-of, overlay, patch};
 ghost use Rattle.operations.specs.Finish.{set-name, set-stamp, new-entry};
 
@@ -12,11 +13,10 @@ fn low(x: u64) -> u8
 }
 
 // The n bytes from `at` on hold the number v, whose higher bytes are dropped.
-fn set_wide(b: [u8; 32], at: usize, n: usize, v: u64) -> [u8; 32]
-    requires { ⌜ at + n ≤ 32 ⌝ }
-    ensures { λ r. ⌜ bytes-of r ≡ patch n v at (bytes-of b) ⌝ }
+pub fn put(out: &mut [u8], at: usize, n: usize, v: u64)
+    requires { ⌜ at + n ≤ length (now out) ⌝ }
+    ensures { λ _. ⌜ bytes-of (now (out .exit)) ≡ patch n v at (bytes-of (now (out .entry))) ⌝ }
 {
-    let mut out = b;
     let mut rest = v;
     let mut k = 0;
     while k < n {
@@ -24,6 +24,15 @@ fn set_wide(b: [u8; 32], at: usize, n: usize, v: u64) -> [u8; 32]
         rest = rest / 256;
         k += 1;
     }
+}
+
+// So in 32 bytes.
+fn set_wide(b: [u8; 32], at: usize, n: usize, v: u64) -> [u8; 32]
+    requires { ⌜ at + n ≤ 32 ⌝ }
+    ensures { λ r. ⌜ bytes-of r ≡ patch n v at (bytes-of b) ⌝ }
+{
+    let mut out = b;
+    put(&mut out, at, n, v);
     out
 }
 

@@ -8,7 +8,7 @@ use Rattle.model.proofs.Runs.{ran-none}
 use Rattle.operations.specs.Program.{ending}
 use Rattle.operations.specs.Plan.{append-stores}
 use Rattle.file_append.proofs.Clusters.{has-room}
-use Rattle.log_steps.proofs.Ends.{did-refused, did-ran}
+use Rattle.call_outcome.proofs.Ends.{did-refused, did-ran}
 use Rattle.call_append.proofs.Laws.{append-full, append-none, append-some}
 use borrow.Author.Needs.{needs}
 use Rattle.call_append.proofs.append_to.Statement.{statement}
@@ -19,7 +19,7 @@ use Rattle.call_append.proofs.store_append.Reads as store-append-reads
 use Rattle.fat_chain.proofs.count_free.Reads as count-free-reads
 use Rattle.file_append.proofs.added_clusters.Reads as added-clusters-reads
 use Rattle.file_read.proofs.last_cluster.Reads as last-cluster-reads
-use Rattle.log_steps.proofs.ended.Reads as ended-reads
+use Rattle.call_outcome.proofs.ended.Reads as ended-reads
 use Rattle.sector.proofs.wider.Reads as wider-reads
 
 returns : tie.Need-returns

@@ -3,7 +3,7 @@ use mathlib.Core.Path.{sym, _∙_}
 use borrow.Author.Tests.{not-true, not-false}
 use Rattle.model.specs.Bytes.{view}
 use Rattle.model.specs.Ground.{_when_, _>>=_, _>>_}
-use Rattle.log_steps.proofs.Ends.{did-refused}
+use Rattle.call_outcome.proofs.Ends.{did-refused}
 use Rattle.operations.specs.Calls.{create-long-on}
 use Rattle.operations.proofs.Spelled.{text-even, text-few}
 use borrow.Author.Needs.{needs}

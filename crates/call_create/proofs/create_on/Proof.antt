@@ -2,7 +2,7 @@ use native.Mathlib.Omega.{arith}
 use mathlib.Core.Path.{refl, sym, _∙_}
 use borrow.Author.Tests.{not-true, not-false}
 use Rattle.model.specs.Ground.{_when_, _>>=_, _>>_}
-use Rattle.log_steps.proofs.Ends.{did-refused}
+use Rattle.call_outcome.proofs.Ends.{did-refused}
 use Rattle.operations.specs.Calls.{create-on}
 use borrow.Author.Needs.{needs}
 use Rattle.call_create.proofs.create_on.Statement.{statement}

@@ -8,7 +8,7 @@ use Rattle.model.specs.Promises.{Ran}
 use Rattle.operations.specs.Plan.{operate}
 use Rattle.volume.proofs.Ready.{ready-none}
 use Rattle.log_steps.proofs.Laws.{plain-is}
-use Rattle.log_steps.proofs.Ends.{did-ran}
+use Rattle.call_outcome.proofs.Ends.{did-ran}
 use borrow.Author.Needs.{needs}
 use Rattle.call_create.proofs.record_change.Statement.{statement}
 use Rattle.call_create.proofs.record_change.Tie as tie

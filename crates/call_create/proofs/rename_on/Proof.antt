@@ -5,7 +5,7 @@ use Rattle.model.specs.Root.{name-ok}
 use Rattle.model.specs.Ground.{_when_, _>>=_, _>>_}
 use Rattle.model.proofs.Tests.{and-left, and-right}
 use Rattle.operations.specs.Calls.{rename-on}
-use Rattle.log_steps.proofs.Ends.{did-refused}
+use Rattle.call_outcome.proofs.Ends.{did-refused}
 use Rattle.root_lookup.specs.Found.{found-of}
 use borrow.Author.Needs.{needs}
 use Rattle.call_create.proofs.rename_on.Statement.{statement}

@@ -2,7 +2,7 @@ use mathlib.Core.Path.{sym, ap, _∙_}
 use Rattle.model.specs.Sector.{window-of}
 use Rattle.volume.specs.Examined.{examined-of}
 use Rattle.volume.proofs.Ready.{opened-with}
-use Rattle.log_steps.proofs.Ends.{did-refused}
+use Rattle.call_outcome.proofs.Ends.{did-refused}
 use Rattle.call_recover.proofs.Laws.{recover-refused, recover-granted}
 use borrow.Author.Needs.{needs}
 use Rattle.call_recover.proofs.recover.Statement.{statement}

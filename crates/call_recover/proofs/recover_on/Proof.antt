@@ -10,7 +10,7 @@ use Rattle.model.proofs.Runs.{ran-none}
 use Rattle.operations.specs.Program.{ending}
 use Rattle.operations.specs.Finish.{redo}
 use Rattle.operations.specs.Plan.{recover-stores}
-use Rattle.log_steps.proofs.Ends.{did-ran}
+use Rattle.call_outcome.proofs.Ends.{did-ran}
 use Rattle.call_recover.proofs.Laws.{sector-high, Redoable, redoable}
 use borrow.Author.Needs.{needs}
 use Rattle.call_recover.proofs.recover_on.Statement.{statement}

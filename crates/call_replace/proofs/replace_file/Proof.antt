@@ -6,7 +6,7 @@ use Rattle.model.specs.Sector.{card-of}
 use Rattle.model.specs.declared.Ground.the-variants as Ground
 use Rattle.operations.specs.Plan.{replace-stores}
 use Rattle.file_append.proofs.Clusters.{has-room}
-use Rattle.log_steps.proofs.Ends.{did-refused, did-ran}
+use Rattle.call_outcome.proofs.Ends.{did-refused, did-ran}
 use Rattle.call_replace.specs.Replace.{emptied}
 use Rattle.call_replace.proofs.Laws.{emptied-added, emptied-proper, replace-full, replace-granted}
 use borrow.Author.Needs.{needs}
@@ -17,7 +17,7 @@ use Rattle.call_replace.proofs.replace_file.Lts as lts
 use Rattle.call_replace.proofs.store_replace.Reads as store-replace-reads
 use Rattle.fat_chain.proofs.clusters_needed.Reads as clusters-needed-reads
 use Rattle.fat_chain.proofs.count_free.Reads as count-free-reads
-use Rattle.log_steps.proofs.ended.Reads as ended-reads
+use Rattle.call_outcome.proofs.ended.Reads as ended-reads
 use Rattle.sector.proofs.wider.Reads as wider-reads
 
 returns : tie.Need-returns

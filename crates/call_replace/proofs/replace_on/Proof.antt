@@ -1,7 +1,7 @@
 use mathlib.Core.Path.{sym, ap, _∙_}
 use Rattle.model.specs.Ground.{_>>=_}
 use Rattle.root_lookup.specs.Found.{found-of}
-use Rattle.log_steps.proofs.Ends.{did-refused}
+use Rattle.call_outcome.proofs.Ends.{did-refused}
 use Rattle.operations.specs.Calls.{replace-on}
 use borrow.Author.Needs.{needs}
 use Rattle.call_replace.proofs.replace_on.Statement.{statement}

@@ -3,7 +3,7 @@ use Rattle.model.specs.Sector.{card-of}
 use Rattle.model.specs.Ground.{_>>=_}
 use Rattle.operations.specs.Plan.{delete-stores}
 use Rattle.root_lookup.specs.Found.{found-of}
-use Rattle.log_steps.proofs.Ends.{did-refused, did-ran}
+use Rattle.call_outcome.proofs.Ends.{did-refused, did-ran}
 use Rattle.operations.specs.Calls.{delete-on}
 use borrow.Author.Needs.{needs}
 use Rattle.call_truncate.proofs.delete_on.Statement.{statement}
@@ -11,7 +11,7 @@ use Rattle.call_truncate.proofs.delete_on.Tie as tie
 use Rattle.call_truncate.proofs.delete_on.Reads as reads
 use Rattle.call_truncate.proofs.delete_on.Lts as lts
 use Rattle.root_lookup.proofs.file_of.Reads as file-of-reads
-use Rattle.log_steps.proofs.ended.Reads as ended-reads
+use Rattle.call_outcome.proofs.ended.Reads as ended-reads
 use Rattle.call_truncate.proofs.delete_file.Reads as delete-file-reads
 
 delete-file-requires : tie.Need-delete-file-requires

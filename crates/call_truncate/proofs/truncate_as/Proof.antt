@@ -4,14 +4,14 @@ use Rattle.model.specs.Sector.{card-of}
 use Rattle.model.proofs.Runs.{ran-none}
 use Rattle.operations.specs.Program.{ending}
 use Rattle.operations.specs.Plan.{truncate-stores}
-use Rattle.log_steps.proofs.Ends.{did-refused, did-ran}
+use Rattle.call_outcome.proofs.Ends.{did-refused, did-ran}
 use Rattle.call_truncate.proofs.Laws.{as-longer, as-same, as-shorter}
 use borrow.Author.Needs.{needs}
 use Rattle.call_truncate.proofs.truncate_as.Statement.{statement}
 use Rattle.call_truncate.proofs.truncate_as.Tie as tie
 use Rattle.call_truncate.proofs.truncate_as.Reads as reads
 use Rattle.call_truncate.proofs.truncate_as.Lts as lts
-use Rattle.log_steps.proofs.ended.Reads as ended-reads
+use Rattle.call_outcome.proofs.ended.Reads as ended-reads
 use Rattle.sector.proofs.wider.Reads as wider-reads
 use Rattle.call_truncate.proofs.truncate_file.Reads as truncate-file-reads
 

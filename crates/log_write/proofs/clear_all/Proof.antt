@@ -6,44 +6,44 @@ use lib.ListN.{length}
 use borrow.Author.Tests.{not-true, not-false}
 use Rattle.model.specs.Promises.{Ran, up-to}
 use Rattle.model.proofs.Runs.{turns-none, turns-more, turns-cut}
-use Rattle.log_write.proofs.Laws.{clear-turn, clear-turns, clear-end, zeros-ran}
+use Rattle.log_write.proofs.Laws.{clear-turn, clear-turns, clear-end}
 use borrow.Author.Needs.{needs}
 use Rattle.log_write.proofs.clear_all.Statement.{statement}
 use Rattle.log_write.proofs.clear_all.Tie as tie
 use Rattle.log_write.proofs.clear_all.Reads as reads
 use Rattle.log_write.proofs.clear_all.Lts as lts
-use Rattle.sector.proofs.store_sector.Reads as store-sector-reads
+use Rattle.sector.proofs.store_zeros.Reads as store-zeros-reads
 use Rattle.log_write.proofs.from_end.Reads as from-end-reads
 
 abbrev Inv-loop : tie.InvT-loop
-Inv-loop w₀ a limit buf made₀ k₀ w made k = (k ≤ a .sectors) × (length w ≡ length w₀) × Ran limit (up-to (clear-turn a) k) w₀ w made true
+Inv-loop w₀ a limit made₀ k₀ w made k = (k ≤ a .sectors) × (length w ≡ length w₀) × Ran limit (up-to (clear-turn a) k) w₀ w made true
 
 abbrev μ-loop : tie.MeasureT-loop
-μ-loop w₀ a limit buf made₀ k₀ w made k = a .sectors - k
+μ-loop w₀ a limit made₀ k₀ w made k = a .sectors - k
 
 loop-holds : tie.Need-loop-holds Inv-loop μ-loop
 loop-holds c = (search needs, refl, turns-none _ _ _)
 
 returns : tie.Need-returns Inv-loop μ-loop
 returns c =
-    let from-end = c .before .before .before .before .before .before .before .from-end in
-    let store-sector = c .before .before .before .before .before .store-sector in
-    let a = c .before .before .before .before .before .before .before .before .before .before .before .before .before .args in
-    let l = c .before .before .before .before .before .before .before .before .before .before .before .loop in
+    let from-end = c .before .before .before .before .before .before .from-end in
+    let store-zeros = c .before .before .before .before .before .store-zeros in
+    let a = c .before .before .before .before .before .before .before .before .before .before .before .before .args in
+    let l = c .before .before .before .before .before .before .before .before .before .before .loop in
     rw (clear-turns (a .a))
     (turns-cut (clear-turn (a .a)) (a .limit) (l .k) (a .w .now) (l .w) _ (l .made) _ (l .inv .2) (a .a .sectors) (omega arith)
-    (zeros-ran _ _ _ _ _ _ (rw (from-end .ensures, not-true (store-sector .result .whole) (c .if2 .taken)) at (store-sector .ensures))))
+    (rw (from-end .ensures, not-true (store-zeros .result .whole) (c .if2 .taken)) at (store-zeros .ensures)))
 
 loop-again : tie.Need-loop-again Inv-loop μ-loop
 loop-again c =
-    let from-end = c .before .before .before .before .before .before .before .from-end in
-    let store-sector = c .before .before .before .before .before .store-sector in
-    let a = c .before .before .before .before .before .before .before .before .before .before .before .before .before .args in
-    let l = c .before .before .before .before .before .before .before .before .before .before .before .loop in (
+    let from-end = c .before .before .before .before .before .before .from-end in
+    let store-zeros = c .before .before .before .before .before .store-zeros in
+    let a = c .before .before .before .before .before .before .before .before .before .before .before .before .args in
+    let l = c .before .before .before .before .before .before .before .before .before .before .loop in (
       search needs,
       search needs,
       turns-more (clear-turn (a .a)) (a .limit) (l .k) (a .w .now) (l .w) _ (l .made) _ (l .inv .2)
-          (zeros-ran _ _ _ _ _ _ (rw (from-end .ensures, not-false (store-sector .result .whole) (c .if2 .left)) at (store-sector .ensures))),
+          (rw (from-end .ensures, not-false (store-zeros .result .whole) (c .if2 .left)) at (store-zeros .ensures)),
     )
 
 returns-2 : tie.Need-returns-2 Inv-loop μ-loop

@@ -15,7 +15,7 @@ use Rattle.model.specs.declared.Outcome.the-variants.{Refused, Done, Stopped}
 use Rattle.operations.specs.Program.{Program, stores}
 use Rattle.operations.specs.Outcome.{outcome, made}
 use Rattle.model.proofs.Cards.{after-nil}
-use Rattle.log_steps.specs.Did.{Did}
+use Rattle.call_outcome.specs.Did.{Did}
 
 pub did-refused : (limit : ℕ) (g : Ground) (e : List ℕ) → Did limit (refused g) e e (Refused g)
 unfolding outcome made
