@@ -11,6 +11,7 @@ ghost use Rattle.operations.specs.Reading.{read, list, long-name};
 ghost use Rattle.operations.specs.Fitting.{fits, fit-outcome};
 ghost use Rattle.operations.specs.Calls.{create, create-long, append, replace, truncate, delete, rename, recover};
 ghost use Rattle.operations.specs.Promises.{Called, Answered};
+ghost use Rattle.formatting.specs.Format.{format};
 
 fn ground_number(g: Ground) -> u32
     ensures { λ r. ⌜ r ≡ ground-number g ⌝ }
@@ -34,6 +35,7 @@ fn ground_number(g: Ground) -> u32
         Ground::Locked => 16,
         Ground::Longname => 17,
         Ground::Clock => 18,
+        Ground::Size => 19,
     }
 }
 
@@ -143,6 +145,14 @@ pub extern "C" fn lfat_recover(card: &mut [u8], limit: u32) -> u64
     ensures { λ r. ⌜ Called limit (recover (window-of (now (card .entry)))) (now (card .entry)) (now (card .exit)) r ⌝ }
 {
     number_of(call_recover::recover(card, limit))
+}
+
+// A fresh card in the place of whatever the window holds: its sectors, those of a cluster, and the clusters of its log.
+#[no_mangle]
+pub extern "C" fn lfat_format(card: &mut [u8], total: u32, factor: u32, log: u32, limit: u32) -> u64
+    ensures { λ r. ⌜ Called limit (format (window-of (now (card .entry))) total factor log) (now (card .entry)) (now (card .exit)) r ⌝ }
+{
+    number_of(call_format::format(card, total, factor, log, limit))
 }
 
 // Copies the entries of the root directory into the buffer, 32 bytes each, as many as fit; counts how many there are.

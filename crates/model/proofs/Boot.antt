@@ -14,7 +14,7 @@ use Rattle.model.specs.Promises.{Shape}
 use Rattle.model.specs.declared.Fields.{Fields}
 use Rattle.model.proofs.Tests.{less?, every-at, between-true}
 
-one-bit : (n : ℕ) → ones n ≡ 1 → 1 ≤ n
+pub one-bit : (n : ℕ) → ones n ≡ 1 → 1 ≤ n
 unfolding ones onesIn
 one-bit zero h = absurd (omega arith)
 one-bit (suc n) h = omega arith

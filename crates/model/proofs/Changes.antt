@@ -1,13 +1,16 @@
 -- Laws of cards under many stores: what every store keeps, and what a list of stores makes of a sector.
 use Prim.Native.Nat.{ℕ}
-use mathlib.Core.Path.{_≡_, sym, ap, _∙_, subst}
-use mathlib.Core.Logic.{_⊎_, inl, inr}
+use mathlib.Core.Path.{_≡_, sym, ap, _∙_, subst, fun-ext}
+use mathlib.Core.Logic.{_⊎_, inl, inr, ⊎-elim}
 use mathlib.Core.List.{List, [], _∷_, _++_, map, Sublistᴰ, Sublistᴰ·slnil, Sublistᴰ·cons, Sublistᴰ·cons-cons}
-use Rattle.model.specs.Bytes.{Bytes}
+use lib.Dec.{eqb}
+use lib.ListN.{take}
+use Rattle.model.specs.Bytes.{Bytes, pick}
 use Rattle.model.specs.Sector.{Card, clip, Store, put, after}
-use Rattle.model.proofs.All.{All}
+use Rattle.model.proofs.Tests.{same?}
+use Rattle.model.proofs.All.{All, all-take}
 use Rattle.model.proofs.Indices.{Has}
-use Rattle.model.proofs.Cards.{put-case, clip-clip, put-in}
+use Rattle.model.proofs.Cards.{Away, after-away, put-case, clip-clip, put-in}
 
 -- ---- sectors of 512 bytes
 
@@ -61,3 +64,21 @@ after-is n b [] x a (inr h) = h
 after-is n b (s ∷ ss) x a (inl (inl e)) = after-is n b ss (put x s) (a .1) (inr (put-in x s n e ∙ a .0 e))
 after-is n b (s ∷ ss) x a (inl (inr k)) = after-is n b ss (put x s) (a .1) (inl k)
 after-is n b (s ∷ ss) x a (inr h) = after-is n b ss (put x s) (a .1) (inr (put-case (λ y. y ≡ b) x s n (a .0) (λ _. h)))
+
+-- A sector that a list stores does not remember what it held.
+pub covered : (ss : List Store) (c d : Card) (t : ℕ) → Covers t ss ⊎ (c t ≡ d t) → after ss c t ≡ after ss d t
+unfolding after put
+covered [] c d t (inl z) = absurd z
+covered [] c d t (inr e) = e
+covered (s ∷ ss) c d t (inl (inl e)) = covered ss (put c s) (put d s) t (inr (put-in c s t e ∙ sym (put-in d s t e)))
+covered (s ∷ ss) c d t (inl (inr k)) = covered ss (put c s) (put d s) t (inl k)
+covered (s ∷ ss) c d t (inr e) = covered ss (put c s) (put d s) t (inr (ap (pick (eqb t (s .sector)) (clip (s .bytes))) e))
+
+pub covers? : (ss : List Store) (t : ℕ) → Covers t ss ⊎ Away ss t
+covers? [] t = inr tt
+covers? (s ∷ ss) t = ⊎-elim (λ e. inl (inl e)) (λ ne. ⊎-elim (λ k. inl (inr k)) (λ a. inr (ne, a)) (covers? ss t)) (same? t (s .sector))
+
+-- So stores that are made again after some of them make the same card.
+pub after-again : (ss : List Store) (limit : ℕ) (c : Card) → after ss (after (take limit ss) c) ≡ after ss c
+after-again ss limit c = fun-ext (λ t. covered ss (after (take limit ss) c) c t
+    (⊎-elim (λ k. inl k) (λ a. inr (after-away (take limit ss) c t (all-take (λ s. t ≡ s .sector → ⊥) limit ss a))) (covers? ss t)))

@@ -24,6 +24,7 @@ ground-number Ground.Nospace = 15
 ground-number Ground.Locked = 16
 ground-number Ground.Longname = 17
 ground-number Ground.Clock = 18
+ground-number Ground.Size = 19
 
 -- An answer, or the ground on which there is none.
 pub data Answer (A : Type 0) : Type 0 where

@@ -185,6 +185,7 @@ pub enum Ground {
     Locked,
     Longname,
     Clock,
+    Size,
 }
 
 // How a call ends: refused; done, with its count (of stores, of bytes read, of entries) or the cluster that it gives; a no;

@@ -1,5 +1,5 @@
--- What a call stores, in segments. A segment ends in a barrier, a store that none passes: the group's store and the commit mark, and where
--- a long name is written each root sector's.
+-- What a call stores, in segments. A segment ends in a barrier, a store that none passes: the group's store and the commit mark, where
+-- a long name is written each root sector's, and in a format both stores of the boot sector.
 use mathlib.Core.List.{List, _∷_, _++_}
 use Rattle.model.specs.Sector.{Store}
 

@@ -40,3 +40,6 @@ pub mod Restored
 pub mod Fitting
 pub mod Spelled
 pub mod Dates
+pub mod Refused
+pub mod Formatted
+pub mod FormatSize

@@ -8,3 +8,4 @@ pub mod Restored
 pub mod Fitting
 pub mod Spelled
 pub mod Dates
+pub mod Formatted

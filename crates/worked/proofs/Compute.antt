@@ -1,7 +1,7 @@
 -- All definitions at once, those of the worked card among them: `unfolding compute` opens them, for a proof by computation.
 unfoldable pub compute : Unit {0}
-unfolding Rattle.operations.proofs.Compute.compute
-    Rattle.worked.specs.CardK.boot-sector Rattle.worked.specs.CardK.log-fat Rattle.worked.specs.CardK.card-k
+unfolding Rattle.formatting.proofs.Compute.compute
+    Rattle.worked.specs.CardK.log-fat Rattle.worked.specs.CardK.card-k
     Rattle.worked.specs.CardK.window-k Rattle.worked.specs.CardK.k Rattle.worked.specs.CardK.route
     Rattle.worked.specs.CardK.letter Rattle.worked.specs.CardK.seen-file Rattle.worked.specs.CardK.seen-at
     Rattle.worked.specs.CardK.seen-in Rattle.worked.specs.CardK.seen Rattle.worked.specs.CardK.last-from

@@ -3,8 +3,8 @@ use Prim.Native.Nat.{ℕ, _%_, _<_}
 use native.Mathlib.Omega.{arith}
 use mathlib.Core.Path.{_≡_, refl}
 use mathlib.Core.List.{List}
-use mathlib.Core.Bool.{_&&_, _||_}
-use lib.Dec.{leb, ltb, eqb}
+use mathlib.Core.Bool.{_||_}
+use lib.Dec.{eqb}
 use Rattle.model.specs.Bytes.{Bytes, pick, zeros}
 use Rattle.model.specs.Ground.{granted}
 use Rattle.model.specs.Volume.{clean}
@@ -13,9 +13,11 @@ use Rattle.operations.specs.Outcome.{left}
 use Rattle.safety.specs.Demand3.{Genuine, Settles, group-stored, recoveries}
 use Rattle.model.proofs.Tests.{by-pick}
 use Rattle.model.proofs.Cards.{clip-clip}
-use Rattle.model.proofs.Numbers.{patched}
+use Rattle.formatting.specs.Fresh.{with-fats, write-fields, log-mark}
+use Rattle.formatting.proofs.Boot.{fields-small}
+use Rattle.formatting.proofs.Fat.{fat-small}
 use Rattle.safety.proofs.Theorem.{demand3}
-use Rattle.worked.specs.CardK.{boot-sector, log-fat, card-k, window-k, k}
+use Rattle.worked.specs.CardK.{log-fat, card-k, window-k, k}
 use Rattle.worked.specs.Worked.{volume-k}
 use Rattle.worked.proofs.Compute.{compute}
 
@@ -24,22 +26,16 @@ pub first-row : clean k ≡ granted volume-k
 unfolding compute
 first-row = refl
 
-boot-small : (j : ℕ) → boot-sector 16 4150 0 j < 256
-unfolding boot-sector
-boot-small = patched 2 512 11 _ (patched 1 1 13 _ (patched 2 1 14 _ (patched 1 2 16 _ (patched 2 512 17 _
-    (patched 2 4150 19 _ (patched 2 16 22 _ (patched 4 0 32 _ (patched 2 0xAA55 510 zeros (λ j. omega arith)))))))))
-
-fat-small : (j : ℕ) → log-fat j < 256
-unfolding log-fat
-fat-small j = by-pick (λ x. x < 256) (leb 4 j && ltb j 20) _ 0
-    (λ _. by-pick (λ x. x < 256) (eqb (j % 2) 0) 0xF6 0xFF (λ _. omega arith) (λ _. omega arith)) (λ _. omega arith)
+abbrev boot-k : Bytes
+boot-k = write-fields (with-fats 4150 1 16) zeros
 
 abbrev sector-k : ℕ → Bytes
-sector-k n = pick (eqb n 0) (boot-sector 16 4150 0) (pick (eqb n 1 || eqb n 17) log-fat zeros)
+sector-k n = pick (eqb n 0) boot-k (pick (eqb n 1 || eqb n 17) log-fat zeros)
 
 sector-small : (n j : ℕ) → sector-k n j < 256
-sector-small n j = by-pick (λ (b : Bytes). b j < 256) (eqb n 0) (boot-sector 16 4150 0) _ (λ _. boot-small j)
-    (λ _. by-pick (λ (b : Bytes). b j < 256) (eqb n 1 || eqb n 17) log-fat zeros (λ _. fat-small j) (λ _. omega arith))
+unfolding log-fat
+sector-small n j = by-pick (λ (b : Bytes). b j < 256) (eqb n 0) boot-k _ (λ _. fields-small (with-fats 4150 1 16) zeros (λ i. omega arith) j)
+    (λ _. by-pick (λ (b : Bytes). b j < 256) (eqb n 1 || eqb n 17) log-fat zeros (λ _. fat-small (log-mark 8) 0 j) (λ _. omega arith))
 
 pub k-genuine : Genuine k
 unfolding k window-k card-k

@@ -11,3 +11,4 @@ pub mod FittingRows
 pub mod LongNameRows
 pub mod SpellingRows
 pub mod DatesRows
+pub mod FreshKRows

@@ -1,9 +1,9 @@
 -- Card K of the worked example, and what is observed of the cards that calls on it leave.
-use Prim.Native.Nat.{ℕ, _*_, _%_}
+use Prim.Native.Nat.{ℕ, _*_}
 use mathlib.Core.List.{List, [], _∷_, map}
-use mathlib.Core.Bool.{_&&_, _||_}
-use lib.Dec.{leb, ltb, eqb}
-use Rattle.model.specs.Bytes.{Bytes, Span, view, pick, patch, zeros}
+use mathlib.Core.Bool.{_||_}
+use lib.Dec.{ltb, eqb}
+use Rattle.model.specs.Bytes.{Bytes, Span, view, pick, zeros}
 use Rattle.model.specs.Sector.{Card, Window, Store, clip, after}
 use Rattle.model.specs.Boot.{layout}
 use Rattle.model.specs.Fat.{fat1-of}
@@ -14,22 +14,18 @@ use Rattle.model.specs.declared.File.{File}
 use Rattle.operations.specs.Plan.{clusters-of}
 use Rattle.operations.specs.Calls.{Call, plan, name-of}
 use Rattle.operations.specs.Outcome.{made, largest}
-
--- A boot sector with 1 reserved sector, 512 root entries and 1 sector per cluster: sectors per FAT, total sectors at 19 and at 32.
-unfoldable pub boot-sector : ℕ → ℕ → ℕ → Bytes
-boot-sector per-fat small large =
-    patch 2 512 11 (patch 1 1 13 (patch 2 1 14 (patch 1 2 16 (patch 2 512 17
-    (patch 2 small 19 (patch 2 per-fat 22 (patch 4 large 32 (patch 2 0xAA55 510 zeros))))))))
+use Rattle.formatting.specs.Fresh.{with-fats, write-fields, wide-fat, log-mark}
 
 -- A FAT sector in which clusters 2 to 9 are the log.
 unfoldable pub log-fat : Bytes
-log-fat j = pick (leb 4 j && ltb j 20) (pick (eqb (j % 2) 0) 0xF6 0xFF) 0
+log-fat = wide-fat 2 (log-mark 8) 0
 
 -- "Card K: 1 reserved sector, 1 sector per cluster, 16 per FAT, 512 root entries, 4,150 sectors; FAT1 at sector 1, FAT2 at 17, root at
--- 33, data at 65; log clusters 2 to 9; otherwise empty." The number of sectors is left open. A sector is a function of its
+-- 33, data at 65; log clusters 2 to 9; otherwise empty": fields and log as in a fresh card, without jump, media byte and entries 0 and 1.
+-- The number of sectors is left open. A sector is a function of its
 -- 512 bytes, as in the window of a slice.
 unfoldable pub card-k : ℕ → Card
-card-k total s = clip (pick (eqb s 0) (boot-sector 16 total 0) (pick (eqb s 1 || eqb s 17) log-fat zeros))
+card-k total s = clip (pick (eqb s 0) (write-fields (with-fats total 1 16) zeros) (pick (eqb s 1 || eqb s 17) log-fat zeros))
 
 unfoldable pub window-k : ℕ → Window
 window-k total = record { size = 512 * total; card = card-k total }

@@ -6,3 +6,4 @@ pub mod Fitting
 pub mod LongNames
 pub mod Spelling
 pub mod Dates
+pub mod FreshK

@@ -20,7 +20,8 @@ use Rattle.model.specs.declared.Ground.the-variants as Ground
 use Rattle.operations.specs.Program.{Program}
 use Rattle.operations.specs.Calls.{Call, creates, appends, truncates, deletes, renames, recovers, plan}
 use Rattle.operations.specs.Outcome.{outcome, made, left, largest}
-use Rattle.worked.specs.CardK.{k, window-k, boot-sector, route, letter, morning, afternoon, span, trace, Row, row, Seen, file, absent, seen}
+use Rattle.formatting.specs.Fresh.{with-fats, write-fields}
+use Rattle.worked.specs.CardK.{k, window-k, route, letter, morning, afternoon, span, trace, Row, row, Seen, file, absent, seen}
 
 -- M1: card K is clean, with its regions and its log where they should be.
 abbrev pub volume-k : Volume
@@ -111,7 +112,7 @@ stretched w = record { size = w .size; card = put (w .card) (store 33 (patch 4 2
 abbrev pub large : ℕ → Window
 large clusters =
     let total = 1 + 512 + 32 + clusters in
-    record { size = 512 * total; card = λ s. clip (boot-sector 256 0 total) }
+    record { size = 512 * total; card = λ s. clip (write-fields (with-fats total 1 256) zeros) }
 
 pub record Worked (d e : Bytes) : Type 0 where
   -- "M1: 4,085 clusters, accepted. M2: 4,149 sectors, BOOT."
