@@ -43,7 +43,7 @@ disk: $(LIBRARY)
 run: lfat
 	rm -rf $(dir $(CARD))
 	mkdir -p $(dir $(CARD))
-	$(LFAT) blank $(CARD)
+	$(LFAT) format $(CARD)
 	$(LFAT) put $(CARD) ROUTE.CUT examples/route.cut
 	$(LFAT) put $(CARD) 'Hull 7 sheer panel.cut' examples/route.cut
 	$(LFAT) ls -l $(CARD)

@@ -1,5 +1,5 @@
 /*
- * Card K of the requirements, made from nothing, and its rows M3 to M10: all twelve calls of the library from C, with fixed dates.
+ * Card K of the requirements, formatted, and its rows M3 to M10: all thirteen calls of the library from C, with fixed dates.
  * Prints a line for each call with its answer. Exit status: 0 if every answer is the one that is due, else 1.
  */
 #include "lfat.h"
@@ -7,7 +7,7 @@
 #include <stdio.h>
 #include <string.h>
 
-enum { SECTORS = 4150, FAT1 = 1, FAT2 = 17, PATH_BYTES = 1300, CHARACTERS = 22 };
+enum { SECTORS = 4150, FAT1 = 1, FAT2 = 17, LOG_CLUSTERS = 8, DATA = 73, PATH_BYTES = 1300, CHARACTERS = 22 };
 enum { SLOT = 33 * LFAT_SECTOR_BYTES /* slot 0 */, ATTRIBUTES = SLOT + 11, DATES = SLOT + 13 };
 
 static const uint8_t route[] = "ROUTE   CUT", panel[] = "PANEL   CUT", hull[] = "HULL7S~1CUT";
@@ -21,21 +21,12 @@ static const uint8_t written_dates[] = {0, 0xDD, 0x9B, 0x71, 0x5D, 0x72, 0x5D, 0
 static uint32_t today, tomorrow;
 static int wrong;
 
-/* 1 reserved sector, 1 sector per cluster, 16 per FAT, 512 root entries; log clusters 2 to 9; otherwise empty. */
-static void make_card(void)
-{
-    static const uint8_t fields[] = {0x00, 0x02, 1, 1, 0, 2, 0x00, 0x02, SECTORS & 0xFF, SECTORS >> 8, 0, 16, 0};
-    size_t k;
-    memset(card, 0, sizeof card);
-    memcpy(card + 11, fields, sizeof fields);
-    card[510] = 0x55;
-    card[511] = 0xAA;
-    for (k = 2; k < 10; k++) {
-        uint8_t *first = card + FAT1 * LFAT_SECTOR_BYTES + 2 * k, *second = card + FAT2 * LFAT_SECTOR_BYTES + 2 * k;
-        first[0] = second[0] = 0xF6;
-        first[1] = second[1] = 0xFF;
-    }
-}
+/* The first bytes of the boot sector: 1 sector per cluster, 1 reserved, 2 FATs of 16, 512 root entries. */
+static const uint8_t boot[] = {0xEB, 0x3C, 0x90, 0, 0, 0, 0, 0, 0, 0, 0, 0x00, 0x02, 1, 1, 0, 2, 0x00, 0x02, SECTORS & 0xFF,
+                               SECTORS >> 8, 0xF8, 16, 0, 0, 0, 0, 0, 0, 0, 0, 0, 0, 0, 0, 0};
+/* The first entries of a FAT: two of its own, the log in clusters 2 to 9, a free one. */
+static const uint8_t fat[] = {0xF8, 0xFF, 0xFF, 0xFF, 0xF6, 0xFF, 0xF6, 0xFF, 0xF6, 0xFF, 0xF6, 0xFF,
+                              0xF6, 0xFF, 0xF6, 0xFF, 0xF6, 0xFF, 0xF6, 0xFF, 0x00, 0x00};
 
 /* Prints an answer, and compares it with the code and count that are due. */
 static void due(const char *what, uint64_t answer, uint32_t code, uint32_t count)
@@ -44,6 +35,11 @@ static void due(const char *what, uint64_t answer, uint32_t code, uint32_t count
     printf("%s: %s %lu%s\n", what, lfat_code_name(LFAT_CODE(answer)), (unsigned long)LFAT_COUNT(answer),
            right ? "" : ", which is wrong");
     wrong |= !right;
+}
+
+static uint64_t format(uint32_t total, uint32_t per_cluster, uint32_t limit)
+{
+    return lfat_format(card, sizeof card, total, per_cluster, LOG_CLUSTERS, limit);
 }
 
 /* Compares the dates of slot 0. */
@@ -128,7 +124,18 @@ int main(void)
     today = lfat_seconds(2026, 11, 17, 19, 30, 59);
     tomorrow = lfat_seconds(2026, 11, 18, 6, 0, 0);
 
-    make_card();
+    /* A new card, over whatever the window holds. What is no part of its tables stays as it is. */
+    memset(card, 0xE5, sizeof card);
+    due("    format, 3 sectors per cluster", format(SECTORS, 3, LFAT_NO_LIMIT), LFAT_SIZE, 0);
+    due("    format, a sector more than there is", format(SECTORS + 1, 1, LFAT_NO_LIMIT), LFAT_WINDOW, 0);
+    due("    format, cut after 73 stores", format(SECTORS, 1, 73), LFAT_STOPPED, 73);
+    due("    no card until formatted", lfat_recover(card, sizeof card, LFAT_NO_LIMIT), LFAT_BOOT, 0);
+    due("    format", format(SECTORS, 1, LFAT_NO_LIMIT), LFAT_DONE, 74);
+    wrong |= memcmp(card, boot, sizeof boot) != 0 || card[510] != 0x55 || card[511] != 0xAA;
+    wrong |= memcmp(card + FAT1 * LFAT_SECTOR_BYTES, fat, sizeof fat) != 0;
+    wrong |= memcmp(card + FAT2 * LFAT_SECTOR_BYTES, fat, sizeof fat) != 0;
+    wrong |= card[DATA * LFAT_SECTOR_BYTES - 1] != 0 || card[DATA * LFAT_SECTOR_BYTES] != 0xE5;
+    due("    list, no file", lfat_list(card, sizeof card, entries, sizeof entries), LFAT_DONE, 0);
     memcpy(saved, card, sizeof card);
     due("    fits, no bytes", fits(0), LFAT_DONE, 0);
     due("    fits 1300, in clusters 10 to 12", fits(PATH_BYTES), LFAT_DONE, 12);

@@ -54,13 +54,19 @@
  *
  * The count is then 6, and the first 12 bytes of text are those of chars.
  *
+ * Example: make an empty card of 16,384 sectors (8 MB), with 2 sectors per cluster and a log of 16 clusters, whatever was there before.
+ *
+ *     uint64_t answer = lfat_format(card, card_len, 16384, 2, 16, LFAT_NO_LIMIT);
+ *     if (LFAT_CODE(answer) != LFAT_DONE)
+ *         puts(lfat_code_name(LFAT_CODE(answer)));
+ *
  * What is asked of the caller:
  *  - each pointer is good for the length beside it (a part of length 0 may have any pointer);
  *  - what a call writes overlaps nothing else that it is lent: that is the card, or the buffer of lfat_read, lfat_list and
  *    lfat_long_name. Parts that are only read may overlap: a name may lie in the card that is read, or in the data;
  *  - the window is the whole card, from its boot sector on; bytes after its last sector are not touched;
  *  - nobody else writes to the card during a call, nor between a cut and the end of recovery.
- * Anything else may be wrong: a damaged card, a bad name or a length out of range is refused.
+ * Anything else may be wrong: a damaged card, a bad name or a length out of range is refused. lfat_format takes a window with any bytes.
  *
  * What the window has to be, for a power cut to leave the old file or the new one:
  *  - hardware on which the store of a sector happens wholly or not at all, and the stores in the order in which
@@ -106,8 +112,8 @@
  *    its own stack must leave both alone;
  *  - it has no variables of its own, so calls on different cards may run in parallel, and calls that read on one card;
  *  - it needs at most so many bytes of stack, return address and red zone included:
- *    lfat_list 512, lfat_read 512, lfat_fits 512, lfat_long_name 1024, lfat_recover 3072, lfat_create 3072, lfat_create_long 3072,
- *    lfat_rename 3072, lfat_truncate 4096, lfat_delete 4096, lfat_append 4096, lfat_replace 4096.
+ *    lfat_list 512, lfat_read 512, lfat_fits 512, lfat_long_name 1024, lfat_format 1024, lfat_recover 3072, lfat_create 3072,
+ *    lfat_create_long 3072, lfat_rename 3072, lfat_truncate 4096, lfat_delete 4096, lfat_append 4096, lfat_replace 4096.
  *
  * examples/loader.c is a whole program.
  */
@@ -144,9 +150,10 @@ extern "C" {
 #define LFAT_LAST_SECOND UINT32_C(4039286399)
 
 /*
- * The codes. 1 to 18 are the grounds of a refusal. They are asked in the order of their numbers, but for LFAT_LOCKED, which is
+ * The codes. 1 to 19 are the grounds of a refusal. They are asked in the order of their numbers, but for LFAT_LOCKED, which is
  * asked right after LFAT_DIRECTORY, LFAT_LONGNAME, right after LFAT_NAME, and LFAT_CLOCK, right after LFAT_UNCLEAN; the first that
- * holds is answered. A refused call has stored nothing and altered no byte; its count is 0.
+ * holds is answered. lfat_format asks LFAT_SIZE, then LFAT_WINDOW, and nothing else. A refused call has stored nothing and altered no
+ * byte; its count is 0.
  */
 enum lfat_code {
     LFAT_DONE = 0,       /* all stores were made; for read and list: success; for lfat_fits: yes */
@@ -168,8 +175,9 @@ enum lfat_code {
     LFAT_LOCKED = 16,    /* the file is marked read-only (append, replace, truncate, delete, rename by its old name) */
     LFAT_LONGNAME = 17,  /* the characters are an odd number of bytes, not 1 to 208, or one of them is forbidden */
     LFAT_CLOCK = 18,     /* the seconds exceed LFAT_LAST_SECOND (create, create_long, append, replace, truncate) */
+    LFAT_SIZE = 19,      /* no card has the numbers that lfat_format was given */
     LFAT_NO = 254,       /* lfat_fits: no, so many bytes do not fit */
-    LFAT_STOPPED = 255   /* the limit ended the call before its last store: recover before anything else */
+    LFAT_STOPPED = 255   /* the limit ended the call before its last store: recover before anything else; a format is made again */
 };
 
 /* A code's name, such as "UNCLEAN". */
@@ -177,7 +185,8 @@ static inline const char *lfat_code_name(uint32_t code)
 {
     static const char *const names[] = {
         "DONE", "SHORT", "BOOT", "WINDOW", "LOGAREA", "ROOT", "RECORD", "UNCLEAN",
-        "NAME", "ABSENT", "DIRECTORY", "EXISTS", "ROOTFULL", "CHAIN", "LENGTH", "NOSPACE", "LOCKED", "LONGNAME", "CLOCK"};
+        "NAME", "ABSENT", "DIRECTORY", "EXISTS", "ROOTFULL", "CHAIN", "LENGTH", "NOSPACE", "LOCKED", "LONGNAME", "CLOCK",
+        "SIZE"};
     if (code < sizeof names / sizeof names[0])
         return names[code];
     if (code == LFAT_NO)
@@ -205,9 +214,9 @@ static inline uint32_t lfat_seconds(int year, int month, int day, int hour, int 
 }
 
 /*
- * Calls that store. All but lfat_recover ask for a clean card. The count is the number of stores made. `seconds` are those since
- * 1980 began; the file is dated by them (see above).
- * A cut in mid-call leaves a card that lfat_recover brings to the state before the call or after it.
+ * Calls that store. All but lfat_recover and lfat_format ask for a clean card. The count is the number of stores made. `seconds` are
+ * those since 1980 began; the file is dated by them (see above).
+ * A cut in mid-call leaves a card that lfat_recover brings to the state before the call or after it; lfat_format has its own rule.
  * A file that is marked read-only, as other systems do, is not changed: append, replace, truncate, delete and rename refuse it
  * (LFAT_LOCKED), also where they would store nothing. No call sets the mark or takes it away.
  *
@@ -264,6 +273,30 @@ uint64_t lfat_delete(uint8_t *card, size_t card_len, const uint8_t *name, size_t
  */
 uint64_t lfat_rename(uint8_t *card, size_t card_len, const uint8_t *old_name, size_t old_len,
                      const uint8_t *new_name, size_t new_len, uint32_t limit);
+
+/*
+ * Writes an empty card of `total` sectors over whatever is there: all files are gone, and no question is asked. What the window holds is
+ * not looked at; it may hold more than the card, and the rest is not touched. The card has 1 reserved sector, 2 FATs as short as
+ * its clusters allow, a root directory of 512 slots, clusters of `per_cluster` sectors, and its log in the first `log_clusters` of them.
+ *
+ * It is refused with LFAT_SIZE unless per_cluster is 1, 2, 4, 8, 16, 32 or 64, there are 4,085 to 65,524 clusters, and the log has at
+ * least 1 cluster and at most 128 sectors; then with LFAT_WINDOW if the window has fewer than total * 512 bytes, or none. No other
+ * ground is asked.
+ *
+ * Usual numbers are these, for a card of up to so many sectors; `total` is the card's own number. The log has 32 sectors, more where a
+ * cluster has more: one of 128 is cleared less often. A card of 2 GB (4,194,304) or more is given a total of 4,194,144, the largest. A card of
+ * 4,085 or 4,086 clusters is FAT16, but FAT12 to some other readers: 4,152 sectors are the fewest that all tried take.
+ *
+ *     sectors, from 4150 up to    8400   32680   262144   524288   1048576   2097152   4194144
+ *     per_cluster                    1       2        4        8        16        32        64
+ *     log_clusters                  32      16        8        4         2         1         1
+ *
+ * Stored are, in this order: a boot sector of zeros; each sector of FAT1, FAT2, the root directory and the log, rising, also where it has
+ * its bytes already; the true boot sector. No others: the bytes of old files stay in clusters that are free now. A cut after the
+ * first of these stores and before the last leaves a card that every other call refuses with LFAT_BOOT, lfat_recover too: format it
+ * again. The finished card is clean and lists no file. On 4,150 sectors with 1 per cluster and a log of 8 there are 74 stores.
+ */
+uint64_t lfat_format(uint8_t *card, size_t card_len, uint32_t total, uint32_t per_cluster, uint32_t log_clusters, uint32_t limit);
 
 /*
  * Calls that read. They ask for a clean card and touch no byte of the buffer but those that they fill. Files marked read-only

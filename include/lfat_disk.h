@@ -31,6 +31,10 @@
  *
  *     answer = lfat_disk_create_long(disk, name, LFAT_NAME_BYTES, chars, chars_len, seconds);
  *
+ * To make an empty card of 16,384 sectors (8 MB) on the disk, with 2 sectors per cluster and a log of 16 clusters, whatever is there:
+ *
+ *     answer = lfat_disk_format(disk, 16384, 2, 16);
+ *
  * Link with liblfat_disk.a alone, which has the proved library in it (with a glibc before 2.34 also -lpthread -ldl). Linux on
  * x86-64. examples/save.c is a whole program.
  *
@@ -59,11 +63,11 @@ typedef struct lfat_disk lfat_disk;
 /* What a call answers beside the library's own codes; lfat_disk_message says more. */
 enum lfat_disk_code {
     LFAT_DISK_ERROR = 256,     /* the disk could not be opened, locked or read; lfat_disk_errno has the reason */
-    LFAT_DISK_CUT = 257,       /* a write or a flush failed in mid-save: close, open again, recover */
+    LFAT_DISK_CUT = 257,       /* a write or a flush failed in mid-save: close, open again, recover, or format again */
     LFAT_DISK_IN_USE = 258,    /* another program has the card, or it is mounted */
     LFAT_DISK_PARTITION = 259, /* there is no such partition, or none that holds a FAT16 card */
     LFAT_DISK_DISAGREE = 260,  /* the list of stores does not agree with the library's card: report this */
-    LFAT_DISK_ENDED = 261,     /* an earlier call answered LFAT_DISK_CUT: close, open again, recover */
+    LFAT_DISK_ENDED = 261,     /* an earlier call answered LFAT_DISK_CUT: close, open again, recover, or format again */
     LFAT_DISK_READ_ONLY = 262, /* the card was opened to be read; a file marked read-only is LFAT_LOCKED */
     LFAT_DISK_ARGUMENT = 263,  /* a pointer is NULL that must not be, or a flag is not known */
     LFAT_DISK_INTERNAL = 264   /* a fault of this library: report it; the handle answers LFAT_DISK_ENDED from now on */
@@ -79,7 +83,8 @@ enum lfat_disk_code {
  * first partition that does. On LFAT_DONE `*disk` is the handle; on any other code it is NULL.
  * A block device is opened past the page cache and exclusively: one that is mounted is LFAT_DISK_IN_USE. An image is locked
  * (flock). What an earlier program has left in caches is flushed before the card is read.
- * What is no card is opened all the same: every call then answers the library's ground, such as LFAT_BOOT.
+ * What is no card is opened all the same: every call then answers the library's ground, such as LFAT_BOOT, but for lfat_disk_format.
+ * A disk with partitions of which none holds a card is LFAT_DISK_PARTITION, unless `partition` says which is meant.
  */
 uint64_t lfat_disk_open(const char *path, uint32_t partition, uint32_t flags, lfat_disk **disk);
 
@@ -88,9 +93,10 @@ void lfat_disk_close(lfat_disk *disk);
 
 /*
  * Calls that store. They answer as the calls of lfat.h do, and the count is the number of stores made. All but
- * lfat_disk_recover ask for a clean card. When they answer LFAT_DONE, all is on the disk. Append, replace, truncate, delete and
- * rename refuse a file that is marked read-only (LFAT_LOCKED). `seconds` are those since 1980 began, by which the file is dated;
- * above LFAT_LAST_SECOND they are refused (LFAT_CLOCK). lfat.h says which dates are set, and what to do before an update.
+ * lfat_disk_recover and lfat_disk_format ask for a clean card. When they answer LFAT_DONE, all is on the disk. Append, replace,
+ * truncate, delete and rename refuse a file that is marked read-only (LFAT_LOCKED). `seconds` are those since 1980 began, by which
+ * the file is dated; above LFAT_LAST_SECOND they are refused (LFAT_CLOCK). lfat.h says which dates are set, and what to do before an
+ * update.
  */
 
 /* Finishes what a power cut left behind, or takes it back. Call it after lfat_disk_open. */
@@ -129,6 +135,15 @@ uint64_t lfat_disk_delete(lfat_disk *disk, const uint8_t *name, size_t name_len)
 /* Gives a file another name. The file then has that name only: the entries of its long name are removed. */
 uint64_t lfat_disk_rename(lfat_disk *disk, const uint8_t *old_name, size_t old_len, const uint8_t *new_name, size_t new_len);
 
+/*
+ * Writes an empty card of `total` sectors over whatever is there, a card with its files or none: no question is asked. lfat.h has the
+ * usual numbers (lfat_format), and LFAT_SIZE for those of which there is no card; LFAT_WINDOW is a disk or a partition that has
+ * fewer sectors. The boot sector is written first, as zeros, and again last, so that a cut in between leaves no card: calls answer
+ * LFAT_BOOT, a partition has to be named to be opened, and lfat_disk_format is called again. The type of a partition is left alone.
+ * The card can be used at once, by the same handle.
+ */
+uint64_t lfat_disk_format(lfat_disk *disk, uint32_t total, uint32_t per_cluster, uint32_t log_clusters);
+
 /* Calls that read. They touch no byte of the buffer but those that they fill. */
 
 /*
@@ -152,6 +167,12 @@ uint64_t lfat_disk_long_name(lfat_disk *disk, const uint8_t *name, size_t name_l
  * LFAT_NO is no. A new name also needs a free slot in the root directory (LFAT_ROOTFULL), which is not asked here.
  */
 uint64_t lfat_disk_fits(lfat_disk *disk, uint64_t bytes);
+
+/*
+ * The count is how many sectors the disk or the partition has, whatever they hold; 4,294,967,295 if they are more. A card that is
+ * formatted on it has no more than these.
+ */
+uint64_t lfat_disk_sectors(lfat_disk *disk);
 
 /* About the last call of this thread that did not answer LFAT_DONE. */
 

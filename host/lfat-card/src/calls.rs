@@ -1,4 +1,4 @@
-//! The library's twelve calls on byte slices, and their answers as values.
+//! The library's thirteen calls on byte slices, and their answers as values.
 
 use crate::{raw, Refusal};
 
@@ -157,6 +157,26 @@ pub fn rename(card: &mut [u8], old: &[u8], new: &[u8], limit: u32) -> Answer {
 /// Finishes what a power cut left behind, or takes it back, with at most so many stores.
 pub fn recover(card: &mut [u8], limit: u32) -> Answer {
     Answer::decode(unsafe { raw::lfat_recover(card.as_mut_ptr(), card.len(), limit) })
+}
+
+/// Writes an empty card of so many sectors over whatever the window holds, with at most so many stores.
+pub fn format(
+    card: &mut [u8],
+    total: u32,
+    per_cluster: u32,
+    log_clusters: u32,
+    limit: u32,
+) -> Answer {
+    Answer::decode(unsafe {
+        raw::lfat_format(
+            card.as_mut_ptr(),
+            card.len(),
+            total,
+            per_cluster,
+            log_clusters,
+            limit,
+        )
+    })
 }
 
 /// Copies a file's bytes from an offset on, as many as there are and fit.

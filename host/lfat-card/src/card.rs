@@ -1,7 +1,8 @@
 //! A card in memory that is changed.
 
 use crate::{
-    count, Answer, CardView, DateTime, Entry, File, LongName, Name, Operation, Refusal, NO_LIMIT,
+    count, Answer, CardView, DateTime, Entry, File, Form, LongName, Name, Operation, Refusal,
+    NO_LIMIT,
 };
 
 /// A card over the bytes of its window. Methods that change it give the number of stores made.
@@ -133,6 +134,30 @@ impl<'a> Card<'a> {
     /// Gives a file another name; the entries of its long name are removed.
     pub fn rename(&mut self, old: Name, new: Name) -> Result<u32, Refusal> {
         count(self.run(&Operation::Rename { old, new }, NO_LIMIT))
+    }
+
+    /// Writes an empty card over whatever the window holds, which is not looked at: all files are gone, and no question is asked.
+    /// The boot sector is stored first, as zeros, and again last; a cut in between leaves a card that every other method refuses
+    /// ([`Refusal::Boot`]), and that is formatted again.
+    ///
+    /// ```
+    /// use lfat_card::{Card, Form, Refusal};
+    ///
+    /// let form = Form::for_sectors(16_384).expect("8 MB are a FAT16 card");
+    /// let mut window = vec![0xE5; 16_384 * 512];
+    /// let mut card = Card::new(&mut window);
+    /// assert_eq!(card.list(), Err(Refusal::Boot));
+    /// assert_eq!(card.format(form), Ok(130));
+    /// assert_eq!(card.list(), Ok(Vec::new()));
+    ///
+    /// // 3 sectors are no cluster, and the window has no room for a larger card.
+    /// let three = Form { per_cluster: 3, ..form };
+    /// assert_eq!(card.format(three), Err(Refusal::Size));
+    /// let larger = Form::for_sectors(32_768).expect("so are 16 MB");
+    /// assert_eq!(card.format(larger), Err(Refusal::Window));
+    /// ```
+    pub fn format(&mut self, form: Form) -> Result<u32, Refusal> {
+        count(self.run(&Operation::Format { form }, NO_LIMIT))
     }
 
     /// As [`CardView::list`].

@@ -1,8 +1,8 @@
 //! FAT16 cards with a TI-LFAT journal: safe functions over the proved library.
 //!
 //! A card is a window of bytes, the whole card from its boot sector on. [`Card`] changes it, [`CardView`] only reads it, and a
-//! [`File`] is a file being read; a [`DateTime`] dates what is saved. [`calls`] has the library's twelve calls as they are, with names of any bytes; [`raw`]
-//! has them as C does.
+//! [`File`] is a file being read; a [`DateTime`] dates what is saved. [`Card::format`] makes
+//! a new card of a [`Form`]. [`calls`] has the library's thirteen calls as they are, with names of any bytes; [`raw`] has them as C does.
 //!
 //! ```
 //! use lfat_card::{Card, DateTime, LongName, Name};
@@ -46,6 +46,7 @@ mod card;
 mod date_time;
 mod entry;
 mod file;
+mod form;
 mod long_name;
 mod name;
 mod operation;
@@ -58,6 +59,7 @@ pub use card::Card;
 pub use date_time::{Date, DateTime, ParseDateTimeError};
 pub use entry::{Entry, ENTRY_BYTES};
 pub use file::File;
+pub use form::Form;
 pub use long_name::LongName;
 pub use name::{printed, Name};
 pub use operation::{Operation, NO_LIMIT};

@@ -1,6 +1,6 @@
 //! The calls that store, as values.
 
-use crate::{calls, Answer, DateTime, LongName, Name};
+use crate::{calls, Answer, DateTime, Form, LongName, Name};
 
 /// The limit that cuts nothing.
 pub const NO_LIMIT: u32 = u32::MAX;
@@ -66,6 +66,11 @@ pub enum Operation<'a> {
     },
     /// Finishes what a power cut left behind, or takes it back.
     Recover,
+    /// Writes an empty card over whatever is there.
+    Format {
+        /// The numbers of the new card.
+        form: Form,
+    },
 }
 
 impl Operation<'_> {
@@ -90,6 +95,9 @@ impl Operation<'_> {
             Operation::Delete { name } => calls::delete(card, name.bytes(), limit),
             Operation::Rename { old, new } => calls::rename(card, old.bytes(), new.bytes(), limit),
             Operation::Recover => calls::recover(card, limit),
+            Operation::Format { form } => {
+                calls::format(card, form.total, form.per_cluster, form.log_clusters, limit)
+            }
         }
     }
 }

@@ -67,6 +67,14 @@ extern "C" {
         limit: u32,
     ) -> u64;
     pub fn lfat_recover(card: *mut u8, card_len: usize, limit: u32) -> u64;
+    pub fn lfat_format(
+        card: *mut u8,
+        card_len: usize,
+        total: u32,
+        per_cluster: u32,
+        log_clusters: u32,
+        limit: u32,
+    ) -> u64;
     pub fn lfat_read(
         card: *const u8,
         card_len: usize,

@@ -5,10 +5,12 @@ use std::fmt;
 use std::io::{self, ErrorKind};
 
 /// The grounds on which a call refuses, in checking order. There may be more of them later. Numbers stay as they were first
-/// given, so those of LOCKED, LONGNAME and CLOCK are the highest.
+/// given, so those of LOCKED, LONGNAME, CLOCK and SIZE are the highest.
 #[derive(Clone, Copy, Debug, PartialEq, Eq)]
 #[non_exhaustive]
 pub enum Refusal {
+    /// No card has this form: format asks so first, then for the window, and nothing else.
+    Size,
     /// The window has fewer than 512 bytes, less than a boot sector.
     Short,
     /// The boot sector is not that of a FAT16 card that is covered.
@@ -50,7 +52,7 @@ pub enum Refusal {
 }
 
 /// The refusals by number, from 1 on.
-const BY_NUMBER: [Refusal; 18] = [
+const BY_NUMBER: [Refusal; 19] = [
     Refusal::Short,
     Refusal::Boot,
     Refusal::Window,
@@ -69,6 +71,7 @@ const BY_NUMBER: [Refusal; 18] = [
     Refusal::Locked,
     Refusal::Longname,
     Refusal::Clock,
+    Refusal::Size,
 ];
 
 impl Refusal {
@@ -96,6 +99,11 @@ impl Refusal {
     /// Number, name and meaning.
     fn ground(self) -> (u32, &'static str, &'static str) {
         match self {
+            Refusal::Size => (
+                19,
+                "SIZE",
+                "no card has this total, these sectors per cluster and this log",
+            ),
             Refusal::Short => (
                 1,
                 "SHORT",
@@ -163,9 +171,11 @@ impl Error for Refusal {}
 impl From<Refusal> for io::Error {
     fn from(refusal: Refusal) -> io::Error {
         let kind = match refusal {
-            Refusal::Clock | Refusal::Name | Refusal::Longname | Refusal::Length => {
-                ErrorKind::InvalidInput
-            }
+            Refusal::Size
+            | Refusal::Clock
+            | Refusal::Name
+            | Refusal::Longname
+            | Refusal::Length => ErrorKind::InvalidInput,
             Refusal::Absent => ErrorKind::NotFound,
             Refusal::Directory => ErrorKind::IsADirectory,
             Refusal::Locked => ErrorKind::PermissionDenied,

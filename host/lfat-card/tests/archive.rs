@@ -55,7 +55,7 @@ fn functions_that_it_has() {
         .filter_map(|line| line.strip_prefix("uint64_t "));
     let declared = declared.filter_map(|line| line.split_once('('));
     let declared: BTreeSet<String> = declared.map(|(name, _)| name.to_string()).collect();
-    assert_eq!(declared.len(), 12);
+    assert_eq!(declared.len(), 13);
     assert_eq!(with_letter('T'), declared);
 }
 

@@ -11,12 +11,14 @@ pub struct Areas {
     pub layout: Layout,
     /// The sectors of the log.
     pub log: Range<usize>,
+    /// The card is being made: its boot sector counts as one of the tables.
+    pub is_new: bool,
 }
 
 /// The bytes of the areas at one time.
 #[derive(Clone, PartialEq)]
 pub struct Snapshot {
-    /// FAT1, FAT2 and the root directory.
+    /// FAT1, FAT2 and the root directory; of a new card the boot sector before them.
     pub tables: Vec<u8>,
     /// The log table.
     pub log: Vec<u8>,
@@ -29,12 +31,35 @@ impl Areas {
         Some(Areas {
             layout: volume.layout,
             log: volume.log()?,
+            is_new: false,
         })
     }
 
-    /// FAT1, FAT2 and the root directory, which follow each other.
+    /// The same of a card that is being made.
+    pub fn of_new(window: &[u8]) -> Option<Areas> {
+        let areas = Areas::of(window)?;
+        Some(Areas {
+            is_new: true,
+            ..areas
+        })
+    }
+
+    /// FAT1, FAT2 and the root directory, which follow each other; of a new card all from the boot sector on.
     pub fn tables(&self) -> Range<usize> {
-        self.layout.fat1().start..self.layout.data_start()
+        let start = match self.is_new {
+            true => 0,
+            false => self.layout.fat1().start,
+        };
+        start..self.layout.data_start()
+    }
+
+    /// Whether a store decides what the card means, so that no other may pass it: one into the log that is no clearing; of a new
+    /// card one of its boot sector.
+    pub fn is_mark(&self, sector: usize, stored: &[u8]) -> bool {
+        match self.is_new {
+            true => sector == 0,
+            false => self.log.contains(&sector) && stored.iter().any(|&byte| byte != 0),
+        }
     }
 
     /// Sectors that are neither tables nor log: data, and what is reserved.

@@ -1,5 +1,9 @@
 //! An open card: the calls, on a disk.
 
+mod format;
+
+pub use format::formatting;
+
 use crate::disk::{self, Access, Disk, Part, Wait};
 use crate::entry::{Entry, ENTRY};
 use crate::error::Error;
@@ -189,7 +193,7 @@ impl<D: Disk, L: Lists> DiskCard<D, L> {
     }
 
     /// Makes calls, one after the other, with at most so many stores in all. Nothing is written unless all are granted. A
-    /// cut leaves the card as before the calls, or as after one of them.
+    /// cut leaves the card as before the calls, or as after one of them; one in mid-format leaves no card.
     pub fn save(&mut self, operations: &[Operation], limit: u32) -> Result<u32, Error> {
         self.check_open()?;
         if self.access == Access::Read {
@@ -204,10 +208,7 @@ impl<D: Disk, L: Lists> DiskCard<D, L> {
             match self.prepare(operation, &programs) {
                 Ok(program) => programs.push(program),
                 Err(error) => {
-                    if let Some(before) = &before {
-                        self.memory.restore(before);
-                    }
-                    self.memory.release_data().map_err(Error::Disk)?;
+                    self.put_back(before, &operations[..programs.len()])?;
                     return Err(error);
                 }
             }
@@ -232,6 +233,9 @@ impl<D: Disk, L: Lists> DiskCard<D, L> {
         operation: &Operation<'a>,
         earlier: &[Program],
     ) -> Result<Program<'a>, Error> {
+        if let Operation::Format { total, .. } = *operation {
+            return self.prepare_format(operation, total);
+        }
         if let (Some(areas), Ok(program)) = (
             self.memory.areas.clone(),
             self.lists.program(&self.memory.window, operation),

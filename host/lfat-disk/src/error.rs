@@ -22,7 +22,7 @@ pub enum Error {
     Partition(String),
     /// The list of stores does not agree with what the library did. Nothing was written.
     Disagree,
-    /// An earlier call ended in mid-save; the card has to be opened anew and recovered.
+    /// An earlier call ended in mid-save; the card has to be opened anew and recovered, or formatted again.
     Ended,
     /// The card was opened for reading only.
     ReadOnly,
@@ -59,7 +59,7 @@ impl fmt::Display for Error {
             Error::Disk(error) => write!(f, "{error}"),
             Error::Cut(error) => write!(
                 f,
-                "{error}; the card is cut in mid-save and has to be recovered"
+                "{error}; the card is cut in mid-save: recover it, or if it was being formatted, format it again"
             ),
             Error::InUse => write!(f, "in use by another program, or mounted"),
             Error::Partition(what) => write!(f, "{what}"),
@@ -69,7 +69,7 @@ impl fmt::Display for Error {
             ),
             Error::Ended => write!(
                 f,
-                "an earlier call ended in mid-save; open the card anew and recover it"
+                "an earlier call ended in mid-save; open the card anew and recover it, or format it again"
             ),
             Error::ReadOnly => write!(f, "the card was opened for reading only"),
         }

@@ -16,8 +16,20 @@
 //! # Ok::<(), Box<dyn std::error::Error>>(())
 //! ```
 //!
+//! An empty card as large as the disk, over whatever is there:
+//!
+//! ```no_run
+//! use lfat_disk::{Access, DiskCard, Form};
+//!
+//! let mut card = DiskCard::open("/dev/sdX".as_ref(), Access::Write)?;
+//! let sectors = u32::try_from(card.sectors()).unwrap_or(u32::MAX);
+//! let form = Form::for_sectors(sectors).ok_or("no FAT16 card has this size")?;
+//! card.format(form)?;
+//! # Ok::<(), Box<dyn std::error::Error>>(())
+//! ```
+//!
 //! Where to look:
-//! - `card`: the calls;
+//! - `card`: the calls; `card/format.rs`: making a new card;
 //! - `lists`: the list of stores of a call, held against the library; `writer`: writing it by segments;
 //! - `disk`, `partition`: images, block devices, partitions;
 //! - `window`, `memory`, `areas`: the card in memory, of which only a part is read;
@@ -45,9 +57,10 @@ pub mod volume;
 pub mod window;
 pub mod writer;
 
-pub use card::{DiskCard, Opening};
+pub use card::{formatting, DiskCard, Opening};
 pub use disk::{Access, Disk, Wait};
 pub use entry::Entry;
 pub use error::Error;
+pub use lfat_card::Form;
 pub use long_name::{InUse, Named, RemovedName};
 pub use reference::{Extent, Operation, Program, Segment};

@@ -2,9 +2,11 @@
 //!
 //! The library makes its stores itself, in memory. To make the same ones on a disk, they must be known one by one, and where
 //! the barriers stand among them. The list is that of the plain implementation, which knows what each call is; here no kind of
-//! call is told from another. Before anything is written, the list is held against the library:
+//! call is told from another, but for a format, whose card is not there yet. Before anything is written, the list is held against the
+//! library:
 //!
-//! - the barriers are the stores into the log that are no clearing, and perhaps some into the root directory, whose order counts;
+//! - the barriers are the stores into the log that are no clearing, and perhaps some into the root directory, whose order counts; of a
+//!   format they are the two stores of the boot sector, and no others;
 //! - the library, stopped before and after each barrier and then left to its end, answers as many stores as the list has up to there;
 //! - and each time the list, played on the card as it was, gives the library's card: every sector of it.
 
@@ -61,6 +63,11 @@ pub fn call(card: &mut [u8], operation: &Operation, limit: u32) -> Answer {
         Operation::Delete { name } => calls::delete(card, name, limit),
         Operation::Rename { old, new } => calls::rename(card, old, new, limit),
         Operation::Recover => calls::recover(card, limit),
+        Operation::Format {
+            total,
+            per_cluster,
+            log_clusters,
+        } => calls::format(card, total, per_cluster, log_clusters, limit),
     }
 }
 
@@ -143,21 +150,19 @@ impl Check<'_, '_> {
         Ok(holds)
     }
 
-    /// Every segment but the last ends in a barrier. All stores into the log that are no clearing are barriers, and no others but
-    /// some into the root directory.
+    /// Every segment but the last ends in a barrier. All marks are barriers, and no others but some stores into the root directory,
+    /// of a format not even those.
     fn barriers_stand(&self, program: &Program) -> bool {
-        let is_mark = |sector: usize, stored: &[u8]| {
-            self.areas.log.contains(&sector) && stored.iter().any(|&byte| byte != 0)
-        };
+        let areas = &self.areas;
+        let is_root = |sector| !areas.is_new && areas.layout.root().contains(&sector);
         let last = program.segments.len().saturating_sub(1);
         program.segments.iter().enumerate().all(|(at, segment)| {
             let mut others = segment.stores.iter().flat_map(|extent| extent.sectors());
             let barrier = match &segment.barrier {
-                Some(store) if self.areas.layout.root().contains(&store.sector) => true,
-                Some(store) => is_mark(store.sector, &store.bytes),
+                Some(store) => is_root(store.sector) || areas.is_mark(store.sector, &store.bytes),
                 None => at == last,
             };
-            barrier && !others.any(|(sector, stored)| is_mark(sector, stored))
+            barrier && !others.any(|(sector, stored)| areas.is_mark(sector, stored))
         })
     }
 

@@ -3,7 +3,10 @@
 use crate::areas::{Areas, Snapshot};
 use crate::disk::Disk;
 use crate::layout::{bytes, Layout, SECTOR};
+use crate::lists;
 use crate::window::Window;
+use lfat_card::{Form, NO_LIMIT};
+use reference::Operation;
 use std::io;
 use std::ops::Range;
 
@@ -17,6 +20,9 @@ pub struct Memory {
     pub loaded: Vec<(usize, Vec<u8>)>,
     is_in_file: bool,
 }
+
+/// What sectors are filled with before a new card is made: none of its sectors is so.
+const UNMADE: u8 = 0xA5;
 
 /// The most data of a call that is held in memory.
 const MOST_IN_MEMORY: usize = 16 << 20;
@@ -50,6 +56,34 @@ impl Memory {
             memory.areas = Areas::of(&memory.window);
         }
         Ok(memory)
+    }
+
+    /// A card that is to be made on a disk of so many bytes, in which nothing is read from the disk. Where the library will store, the
+    /// window holds bytes that no store leaves as they are; all else stands as zeros.
+    pub fn blank(there: u64, format: &Operation, total: u32) -> io::Result<Memory> {
+        // No window is needed for a card that is larger than any.
+        let size = u64::from(total.min(Form::MOST_SECTORS)) * SECTOR as u64;
+        let mut memory = Memory {
+            window: Window::new(there.min(size) as usize)?,
+            areas: None,
+            loaded: Vec::new(),
+            is_in_file: false,
+        };
+        // The library's own card tells where its tables and its log are.
+        lists::call(&mut memory.window, format, NO_LIMIT);
+        memory.areas = Areas::of_new(&memory.window);
+        if let Some(areas) = &memory.areas {
+            for part in [areas.tables(), areas.log.clone()] {
+                memory.window[bytes(&part)].fill(UNMADE);
+            }
+        }
+        Ok(memory)
+    }
+
+    /// The new card is made: it stands as one that was read from the disk.
+    pub fn finish(&mut self) {
+        self.loaded = vec![(0, self.window[..SECTOR].to_vec())];
+        self.areas = Areas::of(&self.window);
     }
 
     /// Reads sectors from the disk into the window.

@@ -2,7 +2,7 @@
 
 use crate::args::{Args, Options};
 use crate::failure::Failure;
-use crate::{fits, help, rack, reading, writing};
+use crate::{fits, format, help, rack, reading, writing};
 
 pub struct Command {
     pub name: &'static str,
@@ -15,7 +15,7 @@ pub struct Command {
     pub run: fn(Args) -> Result<(), Failure>,
 }
 
-/// The options of every command on a card that is there.
+/// The options of every command.
 pub const CARD: Options = Options {
     valued: &["--partition"],
     plain: &["--wait"],
@@ -39,21 +39,16 @@ const LIMIT_JSON: Options = Options {
 
 pub static COMMANDS: [Command; 13] = [
     Command {
-        name: "blank",
+        name: "format",
         words: &["IMAGE"],
-        more: "[--clusters N] [--cluster-sectors N] [--root-entries N] [--log-sectors N]",
-        about: "make an empty card image with a log, to try things on",
-        details: help::BLANK,
+        more: "[--size SIZE] [--cluster N] [--log N] [--yes] [--json] [--limit N]",
+        about: "make an empty card with a log: a new image, or over what is there if that is empty",
+        details: help::FORMAT,
         options: Options {
-            valued: &[
-                "--clusters",
-                "--cluster-sectors",
-                "--root-entries",
-                "--log-sectors",
-            ],
-            plain: &[],
+            valued: &["--size", "--cluster", "--log", "--limit"],
+            plain: &["--yes", "--json"],
         },
-        run: writing::blank,
+        run: format::format,
     },
     Command {
         name: "ls",
@@ -169,11 +164,21 @@ pub static COMMANDS: [Command; 13] = [
     Command {
         name: "rack",
         words: &["IMAGE", "OPERATION"],
-        more: "... [--at TIME] [--svg FILE] [--depth N] [--random N] [--seed N] [--break[=I,J]] [--json]",
+        more: "... [--at TIME] [--size SIZE] [--cluster N] [--log N] [--svg FILE] [--depth N] [--random N] [--seed N] [--break[=I,J]] [--json]",
         about: "pull the plug at every store of an operation, recover, and check what is left",
         details: help::RACK,
         options: Options {
-            valued: &["--at", "--svg", "--depth", "--random", "--seed", "--break"],
+            valued: &[
+                "--at",
+                "--size",
+                "--cluster",
+                "--log",
+                "--svg",
+                "--depth",
+                "--random",
+                "--seed",
+                "--break",
+            ],
             plain: &["--break", "--json"],
         },
         run: rack::rack,
@@ -188,15 +193,11 @@ impl Command {
 
     /// Reads the words and runs. What is missing is said before anything else is looked at.
     pub fn run(&self, words: &[std::ffi::OsString]) -> Result<(), Failure> {
-        let known = match self.name {
-            "blank" => vec![self.options],
-            _ => vec![self.options, CARD],
-        };
         let usage = |failure| match failure {
             Failure::Usage(what) => Failure::Usage(format!("{what}; usage: lfat {}", self.usage())),
             other => other,
         };
-        let args = Args::parse(words, &known).map_err(usage)?;
+        let args = Args::parse(words, &[self.options, CARD]).map_err(usage)?;
         args.check_missing(self.words)
             .and_then(|()| (self.run)(args))
             .map_err(usage)

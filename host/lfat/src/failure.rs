@@ -9,12 +9,14 @@ pub enum Failure {
     Usage(String),
     /// The library refused; with a sentence on what to do.
     Refused(Refusal, String),
-    /// The limit cut the stores short, after so many.
-    Stopped(u32),
+    /// The limit cut the stores short, after so many; with the command that goes on from there.
+    Stopped(u32, &'static str),
     /// The answer to the question was no, and has been printed.
     No,
     /// More than one file has the long name that was given.
     Several(String),
+    /// What is to be formatted holds something that would be lost.
+    Holds(String),
     /// The rack found a card that recovery did not bring back.
     Mismatch(String),
     /// A file or the card could not be opened, read or written. The card is as it was.
@@ -29,9 +31,10 @@ impl Failure {
     pub fn status(&self) -> u8 {
         match self {
             Failure::Refused(..)
-            | Failure::Stopped(_)
+            | Failure::Stopped(..)
             | Failure::No
             | Failure::Several(_)
+            | Failure::Holds(_)
             | Failure::Mismatch(_) => 1,
             Failure::Usage(_) => 2,
             Failure::Host(_) => 3,
@@ -55,24 +58,27 @@ impl From<Refusal> for Failure {
 /// What to do about a refusal.
 fn advice(refusal: Refusal) -> &'static str {
     match refusal {
-        Refusal::Short | Refusal::Boot => {
-            "This is no FAT16 card: FAT12, FAT32 and exFAT are not covered. 'lfat blank' makes a card to try things on."
+        Refusal::Short => "This is no FAT16 card. 'lfat format NEW.IMG' makes one to try things on.",
+        Refusal::Boot => {
+            "This is no FAT16 card (FAT12, FAT32 and exFAT are not covered), or a format of it was cut. 'lfat format' makes it an \
+             empty card, and all on it is lost."
         }
         Refusal::Window => "The image or partition ends before the card does. Was it copied whole?",
         Refusal::Logarea => {
-            "It was not prepared with a log, so it cannot be used safely. 'lfat blank NEW.IMG' makes a card that is: copy the \
-             files off with any FAT program, put them on NEW.IMG with 'lfat put', and write NEW.IMG to the card."
+            "It was not prepared with a log, so it cannot be used safely. Copy the files off with any FAT program; then \
+             'lfat format --yes' makes it an empty card with a log, and 'lfat put' puts them back."
         }
         Refusal::Root => {
-            "The root directory is damaged: 'fsck.fat -n' says more. Copy the files off with any FAT program, and put them on a \
-             card that 'lfat blank' made."
+            "The root directory is damaged: 'fsck.fat -n' says more. Copy the files off with any FAT program; then \
+             'lfat format --yes' makes it an empty card, and 'lfat put' puts them back."
         }
         Refusal::Record => {
             "If the card was cut before lfat was updated to one that dates files, recover it with the lfat of then. Else the log is \
-             damaged, so recovery cannot tell what to finish; 'lfat log' shows it. Copy the files off with any FAT program, and put \
-             them on a card that 'lfat blank' made."
+             damaged, so recovery cannot tell what to finish; 'lfat log' shows it. Copy the files off with any FAT program; then \
+             'lfat format --yes' makes it an empty card, and 'lfat put' puts them back."
         }
         Refusal::Unclean => "A save was cut short. Run 'lfat recover' first.",
+        Refusal::Size => "'lfat format --help' says which numbers there can be.",
         Refusal::Clock => "Give the time as --at 2026-11-17T19:30:58.",
         Refusal::Name => {
             "A name has 1 to 8 characters, then perhaps a dot and 1 to 3 more, as ROUTE.CUT: \
@@ -99,9 +105,10 @@ impl fmt::Display for Failure {
         match self {
             Failure::Usage(what) => write!(f, "{what}"),
             Failure::Refused(refusal, advice) => write!(f, "{refusal}. {advice}"),
-            Failure::Stopped(made) => {
-                write!(f, "STOPPED after {made} stores, as asked. Run 'lfat recover' next.")
+            Failure::Stopped(made, next) => {
+                write!(f, "STOPPED after {made} stores, as asked. Run 'lfat {next}' next.")
             }
+            Failure::Holds(what) => write!(f, "{what}: formatting loses all of it. Give --yes if that is meant."),
             Failure::No => write!(f, "no"),
             Failure::Several(what) | Failure::Mismatch(what) | Failure::Host(what) | Failure::Cut(what) => {
                 write!(f, "{what}")

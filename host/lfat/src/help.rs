@@ -2,12 +2,20 @@
 
 use crate::commands::{Command, COMMANDS};
 
-pub const BLANK: &str = "\
-Formatting real cards is not its purpose. A file that is there is not overwritten.
-  --clusters N         4085 to 65524 (4085)
-  --cluster-sectors N  sectors per cluster: 1, 2, 4, .. 64 (1)
-  --root-entries N     slots of the root directory (512)
-  --log-sectors N      1 to 128, whole clusters (8, or one cluster)
+pub const FORMAT: &str = "\
+IMAGE is a new image, or an image or block device that is there, such as /dev/sdX, all of it; IMAGE:N is its partition N. What is
+there is formatted if it is empty: zeros, a card without files, or what a format that was cut has left. With files, another file
+system or a partition table it is refused.
+  --yes          format it all the same: all on it is lost
+  --size SIZE    bytes, or as 2075K, 16M, 2G (times 1,024) or 4150s (sectors), rounded down to whole sectors of 512 bytes; as
+                 large as the disk or partition, a new image 4M. A FAT16 card has 4150 to 4194144 sectors; 2G is the largest
+  --cluster N    sectors per cluster, 1, 2, 4, .. 64, or as 2K, 32K; by the size, as other systems choose it
+  --log N        clusters of the log, at most 128 sectors (32 sectors, or one cluster if that is more)
+  --json         one JSON object: partition, sectors, sectors_per_cluster, clusters, cluster_bytes, log_clusters, log_sectors,
+                 free_bytes, stores
+  --limit N      make only the first N stores, as if the power went then; answers STOPPED, and the card is BOOT until it is formatted
+  --partition N  the partition, as in IMAGE:N
+  --wait         wait until no other program has the disk, instead of failing
 ";
 
 pub const LS: &str = "\
@@ -84,14 +92,17 @@ partition that holds a FAT16 card is taken, where there are partitions.
 
 pub const RACK: &str = "\
 OPERATION is one of: create NAME, append NAME FILE, put NAME FILE, replace NAME FILE (put --replace), truncate NAME SIZE,
-rm NAME, mv OLD NEW. Names may be long, but for NEW.
+rm NAME, mv OLD NEW; format. Names may be long, but for NEW.
 The card is only read. Each cut is followed by recoveries, cut in turn, until one ends; then both FATs, the root
 directory and all files must be as before the operation (old) or, if the log record was on the card, as after it (new).
 Of more than 4,096 stores of data, cuts are tried in 2,048 places.
+Of a format, all of IMAGE is taken; a cut must leave what was there, what every other call refuses as BOOT, or at the end the new
+card; and a format that is begun again, and cut in turn, must end with the same bytes.
+  --size SIZE, --cluster N, --log N  of a format, as 'lfat format' takes them
   --at TIME   the time that dates the file, as 2026-11-17T19:30:58, instead of the clock's; rm and mv date nothing
   --svg FILE  draw the cuts, coloured by outcome
   --depth N   cut N recoveries in a row in every place (2)
-  --random N  also try N random sequences of cut recoveries after each cut (16)
+  --random N  also try N random sequences of cut recoveries after each cut (16); of a format, cuts of a disk that keeps stores back
   --seed N    seed of the random sequences (1)
   --break     swap the last two stores, root directory and commit mark: the rack must find a mismatch;
               --break=I,J swaps stores I and J, counted from 1
@@ -107,9 +118,10 @@ impl Command {
         } else {
             ""
         };
-        let card = match self.name {
-            "blank" => "",
-            _ => CARD,
+        // A format takes cards, and is cut, in its own way.
+        let (limit, card) = match self.name {
+            "format" => ("", ""),
+            _ => (limit, CARD),
         };
         format!(
             "usage: lfat {}\n\n{}\n{}{at}{limit}{card}",

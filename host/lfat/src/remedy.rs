@@ -3,8 +3,12 @@
 use crate::failure::Failure;
 use crate::target::{Target, Which};
 use lfat_card::{Name, Refusal};
-use lfat_disk::layout::SECTOR;
+use lfat_disk::layout::{get16, SECTOR};
 use lfat_disk::{DiskCard, Entry};
+
+/// Where a boot sector has the sectors of a track and the number of heads.
+const TRACKS: usize = 24;
+const HEADS: usize = 26;
 
 /// A card on which a call was refused.
 pub struct Remedy<'a> {
@@ -80,8 +84,14 @@ impl Remedy<'_> {
         if let Some(partition) = self.card.partition() {
             image += &format!("@@{}", partition.first * SECTOR as u64);
         }
+        // mtools ask for the tracks and heads of a disk, which a card that was formatted here does not tell.
+        let boot = self.card.window();
+        let skip = match get16(boot, TRACKS) == 0 || get16(boot, HEADS) == 0 {
+            true => "MTOOLS_SKIP_CHECK=1 ",
+            false => "",
+        };
         format!(
-            "on Windows in the file's properties or with 'attrib -r {name}', elsewhere with mtools: mattrib -i {} -r {}",
+            "on Windows in the file's properties or with 'attrib -r {name}', elsewhere with mtools: {skip}mattrib -i {} -r {}",
             quoted(&image),
             quoted(&format!("::{name}"))
         )

@@ -3,7 +3,8 @@
 use crate::args::{number, Args};
 use crate::failure::Failure;
 use lfat_card::{Name, Refusal};
-use lfat_disk::{Access, DiskCard, Error, Opening, Wait};
+use lfat_disk::disk::{self, Disk, Part};
+use lfat_disk::{partition, Access, DiskCard, Error, Opening, Wait};
 use std::ffi::{OsStr, OsString};
 use std::fmt;
 use std::fs;
@@ -34,23 +35,66 @@ impl Target {
 
     /// Opens the card for this program alone.
     pub fn open(&self, args: &Args, access: Access) -> Result<DiskCard, Failure> {
+        self.waiting(args, |wait| {
+            let partition = self.partition;
+            let how = Opening {
+                access,
+                partition,
+                wait,
+            };
+            DiskCard::open_with(&self.path, &how)
+        })
+    }
+
+    /// Opens what is to be formatted: the partition that is named, else the whole disk, whatever is on it.
+    pub fn open_whole(&self, args: &Args, access: Access) -> Result<Part<Box<dyn Disk>>, Failure> {
+        self.waiting(args, |wait| {
+            let mut disk = disk::open(&self.path, access, &wait)?;
+            let found = match self.partition {
+                Some(_) => partition::find(&mut disk, self.partition)?,
+                None => None,
+            };
+            Ok(match found {
+                Some(found) => Part::new(disk, found.first, found.sectors),
+                None => Part::whole(disk),
+            })
+        })
+    }
+
+    /// Opens something, and waits for another program that has it if that is asked for.
+    fn waiting<T>(
+        &self,
+        args: &Args,
+        open: impl FnOnce(Wait) -> Result<T, Error>,
+    ) -> Result<T, Failure> {
         let tell = || eprintln!("lfat: waiting for {self}, which another program has");
-        let how = Opening {
-            access,
-            partition: self.partition,
-            wait: match args.has("--wait") {
-                true => Wait::After(&tell),
-                false => Wait::No,
-            },
+        let wait = match args.has("--wait") {
+            true => Wait::After(&tell),
+            false => Wait::No,
         };
-        DiskCard::open_with(&self.path, &how).map_err(|error| self.failure(error))
+        open(wait).map_err(|error| self.failure(error))
+    }
+
+    /// What is meant, with the partition's number if that was given.
+    pub fn name(&self) -> String {
+        match self.partition {
+            Some(number) => format!("{self}:{number}"),
+            None => self.to_string(),
+        }
+    }
+
+    /// Whether the name of a file that is not there ends as that of a partition does.
+    pub fn names_a_partition(&self) -> bool {
+        let name = self.path.to_string_lossy();
+        let number = name.rsplit_once(':').map(|(_, number)| number);
+        number.is_some_and(|number| number.parse::<u32>().is_ok())
     }
 
     /// What an error of the disk layer is to a user.
     pub fn failure(&self, error: Error) -> Failure {
         match error {
             Error::Refused(refusal) => refusal.into(),
-            Error::Stopped(made) => Failure::Stopped(made),
+            Error::Stopped(made) => Failure::Stopped(made, "recover"),
             Error::Disagree => Failure::Disagree,
             Error::Cut(error) => Failure::Cut(format!(
                 "{self}: {error}. The card is cut in mid-save: run 'lfat recover' on it."
@@ -63,7 +107,9 @@ impl Target {
             }
             Error::Partition(what) => Failure::Refused(
                 Refusal::Boot,
-                format!("{self}: {what}. Another is named as {self}:N."),
+                format!(
+                    "{self}: {what}. Another is named as {self}:N; 'lfat format {self}:N' makes it an empty card, and all on it is lost."
+                ),
             ),
             other => Failure::host(self, other),
         }

@@ -2,7 +2,6 @@
 
 use crate::args::{number, Args};
 use crate::at::{shown, At};
-use crate::blank::Blank;
 use crate::ended::Ended;
 use crate::failure::Failure;
 use crate::listing;
@@ -16,7 +15,6 @@ use lfat_card::{Name, Refusal};
 use lfat_disk::layout::bytes;
 use lfat_disk::volume::Volume;
 use lfat_disk::{Access, DiskCard, Error, InUse, Operation};
-use std::path::Path;
 
 /// A card that is open to be changed.
 struct Opened {
@@ -295,17 +293,4 @@ fn pending(card: &DiskCard) -> Option<String> {
         record.name(),
         dated.unwrap_or_default()
     ))
-}
-
-pub fn blank(mut args: Args) -> Result<(), Failure> {
-    let path = args.word("IMAGE")?;
-    args.end()?;
-    let sectors_per_cluster = args.number("--cluster-sectors", 1)?;
-    let blank = Blank {
-        clusters: args.number("--clusters", 4_085)?,
-        sectors_per_cluster,
-        root_entries: args.number("--root-entries", 512)?,
-        log_sectors: args.number("--log-sectors", sectors_per_cluster.max(8))?,
-    };
-    blank.write(Path::new(&path))
 }

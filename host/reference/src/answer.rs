@@ -4,7 +4,7 @@ use std::fmt;
 
 /// Why a call refused, by number. The numbers give the checking order, but for
 /// LOCKED, which is asked right after DIRECTORY, LONGNAME, right after NAME, and
-/// CLOCK, right after UNCLEAN.
+/// CLOCK, right after UNCLEAN. SIZE is format's, which asks it before WINDOW.
 #[derive(Clone, Copy, Debug, PartialEq, Eq, PartialOrd, Ord, Hash)]
 pub enum Ground {
     Short = 1,
@@ -25,11 +25,12 @@ pub enum Ground {
     Locked,
     Longname,
     Clock,
+    Size,
 }
 
 impl Ground {
     /// All grounds, by number.
-    pub const ALL: [Ground; 18] = [
+    pub const ALL: [Ground; 19] = [
         Ground::Short,
         Ground::Boot,
         Ground::Window,
@@ -48,9 +49,10 @@ impl Ground {
         Ground::Locked,
         Ground::Longname,
         Ground::Clock,
+        Ground::Size,
     ];
 
-    /// The ground's number in the requirements, 1 to 18.
+    /// The ground's number in the requirements, 1 to 19.
     pub fn number(self) -> u32 {
         self as u32
     }
@@ -76,6 +78,7 @@ impl Ground {
             Ground::Locked => "LOCKED",
             Ground::Longname => "LONGNAME",
             Ground::Clock => "CLOCK",
+            Ground::Size => "SIZE",
         }
     }
 }

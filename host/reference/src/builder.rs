@@ -1,4 +1,5 @@
-//! Building empty cards for tests and benchmarks.
+//! Building empty cards for tests and benchmarks. Format takes the boot sector's fields and the
+//! log's marks from here.
 
 use crate::bytes::{put16, put32};
 use crate::fat::RESERVED;
@@ -63,11 +64,16 @@ impl CardSpec {
         card[..SECTOR_BYTES].copy_from_slice(&self.boot_sector());
         let fat1 = usize::from(self.reserved) * SECTOR_BYTES;
         let fat2 = fat1 + usize::from(self.sectors_per_fat) * SECTOR_BYTES;
-        for cluster in self.log_first..self.log_first + self.log_clusters {
-            put16(&mut card, fat1 + usize::from(cluster) * 2, RESERVED);
-            put16(&mut card, fat2 + usize::from(cluster) * 2, RESERVED);
-        }
+        self.mark_log(&mut card[fat1..]);
+        self.mark_log(&mut card[fat2..]);
         card
+    }
+
+    /// Marks the log's clusters in a FAT.
+    pub(crate) fn mark_log(&self, fat: &mut [u8]) {
+        for cluster in self.log_first..self.log_first + self.log_clusters {
+            put16(fat, usize::from(cluster) * 2, RESERVED);
+        }
     }
 }
 

@@ -7,7 +7,7 @@ use crate::store::SECTOR_BYTES;
 const FEWEST_CLUSTERS: u32 = 4_085;
 const MOST_CLUSTERS: u32 = 65_524;
 const MOST_SECTORS_PER_CLUSTER: u8 = 64;
-const FAT_ENTRIES_PER_SECTOR: u32 = 256;
+pub const FAT_ENTRIES_PER_SECTOR: u32 = 256;
 
 /// The numbers of an accepted boot sector. Sector numbers count from the start
 /// of the card.

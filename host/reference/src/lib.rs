@@ -11,7 +11,7 @@
 //! - `lookup`: grounds 8 to 10, 13 and 16, which judge a name and its file;
 //! - `long_entries`: the entries of a long name that go with its slot;
 //! - `long_name`: its characters, written and read;
-//! - `operation`: the seven writing operations;
+//! - `operation`: the seven writing operations that the log holds, and format;
 //! - `data`: the sectors that get new bytes, in append and replace;
 //! - `transaction`, `program`: the order of stores, as a list and in segments;
 //! - `recovery`: redo of a pending group, undo of anything else;
@@ -56,8 +56,8 @@ pub use inspect::{file_bytes, file_chain, free_clusters, is_sound};
 pub use listing::log_listing;
 pub use long_entries::checksum;
 pub use operation::{
-    append, create, create_long, delete, plan, program, recover, rename, replace, run, truncate,
-    Operation,
+    append, create, create_long, delete, format, plan, program, recover, rename, replace, run,
+    truncate, Operation,
 };
 pub use program::{Extent, Program, Segment};
 pub use reading::{fits, list, long_name, read};

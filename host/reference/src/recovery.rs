@@ -7,7 +7,7 @@ use crate::journal::record::commit;
 use crate::journal::PendingGroup;
 use crate::program::{finish, Program, Segment};
 use crate::root_change::RootStores;
-use crate::store::{Sector, Store, SECTOR_BYTES};
+use crate::store::{Store, SECTOR_BYTES};
 use crate::volume::Volume;
 
 pub fn plan(card: &[u8]) -> Result<Vec<Store>, Ground> {
@@ -66,11 +66,6 @@ fn fat_copy(from: &[u8], to: &[u8], to_start: u32) -> Vec<Store> {
     pairs
         .enumerate()
         .filter(|(_, (new, old))| new != old)
-        .map(|(index, (new, _))| {
-            let mut bytes: Sector = [0; SECTOR_BYTES];
-            bytes.copy_from_slice(new);
-            let sector = to_start as usize + index;
-            Store { sector, bytes }
-        })
+        .map(|(index, (new, _))| Store::copy(to_start as usize + index, new))
         .collect()
 }

@@ -14,6 +14,15 @@ pub struct Store {
     pub bytes: Sector,
 }
 
+impl Store {
+    /// A store of the bytes of one sector.
+    pub fn copy(sector: usize, from: &[u8]) -> Store {
+        let mut bytes = [0; SECTOR_BYTES];
+        bytes.copy_from_slice(from);
+        Store { sector, bytes }
+    }
+}
+
 /// Makes the first stores of the list, up to the limit.
 pub fn make(card: &mut [u8], stores: &[Store], limit: u32) -> Answer {
     let limit = usize::try_from(limit).unwrap_or(usize::MAX);

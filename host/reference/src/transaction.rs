@@ -5,7 +5,7 @@ use crate::fat_draft::FatDraft;
 use crate::journal::record::{commit, Group};
 use crate::program::{finish, Extent, Program, Segment};
 use crate::root_change::RootChange;
-use crate::store::{Sector, Store, SECTOR_BYTES};
+use crate::store::Store;
 
 /// What one operation changes.
 pub struct Transaction<'a, 'd> {
@@ -62,10 +62,8 @@ impl<'a, 'd> Transaction<'a, 'd> {
         let (clearing, pending, committed) = self.group(card);
         let data = self.data.iter().map(Extent::count).sum();
         let mut stores = Vec::with_capacity(data);
-        for (sector, piece) in self.data.iter().flat_map(Extent::sectors) {
-            let mut bytes: Sector = [0; SECTOR_BYTES];
-            bytes.copy_from_slice(piece);
-            stores.push(Store { sector, bytes });
+        for (sector, bytes) in self.data.iter().flat_map(Extent::sectors) {
+            stores.push(Store::copy(sector, bytes));
         }
         stores.extend(self.fat.stores(geometry.fat2_start()));
         stores.extend(clearing);

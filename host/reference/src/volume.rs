@@ -3,7 +3,7 @@
 use crate::answer::Ground;
 use crate::fat::Fat;
 use crate::geometry::Geometry;
-use crate::store::{Sector, Store, SECTOR_BYTES};
+use crate::store::{Store, SECTOR_BYTES};
 
 /// A card with its layout. Bytes past the total sectors are cut off.
 #[derive(Clone, Copy)]
@@ -55,11 +55,6 @@ impl<'a> Volume<'a> {
 
     /// A store that would leave the sector as it stands, to be edited.
     pub fn draft(&self, sector: u32) -> Store {
-        let mut bytes: Sector = [0; SECTOR_BYTES];
-        bytes.copy_from_slice(self.sectors(sector, 1));
-        Store {
-            sector: sector as usize,
-            bytes,
-        }
+        Store::copy(sector as usize, self.sectors(sector, 1))
     }
 }

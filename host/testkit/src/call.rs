@@ -5,7 +5,7 @@ use lfat_card::calls;
 use reference::{Answer, Operation};
 use std::fmt;
 
-/// One of the twelve calls. Those that set dates have the seconds last.
+/// One of the thirteen calls. Those that set dates have the seconds last.
 #[derive(Clone)]
 pub enum Call {
     Create(Vec<u8>, u32),
@@ -25,6 +25,8 @@ pub enum Call {
     Fits(u64),
     /// Name and the buffer's length.
     LongName(Vec<u8>, usize),
+    /// Total sectors, sectors per cluster and log clusters.
+    Format(u32, u32, u32),
 }
 
 impl Call {
@@ -42,6 +44,7 @@ impl Call {
             Call::List(..) => "list",
             Call::Fits(..) => "fits",
             Call::LongName(..) => "long_name",
+            Call::Format(..) => "format",
         }
     }
 
@@ -65,7 +68,7 @@ impl Call {
             | Call::Rename(name, _)
             | Call::Read(name, _, _)
             | Call::LongName(name, _) => Some(name),
-            Call::Recover | Call::List(_) | Call::Fits(_) => None,
+            Call::Recover | Call::List(_) | Call::Fits(_) | Call::Format(..) => None,
         }
     }
 
@@ -109,6 +112,11 @@ impl Call {
             Call::Delete(name) => Operation::Delete { name },
             Call::Rename(old, new) => Operation::Rename { old, new },
             Call::Recover => Operation::Recover,
+            &Call::Format(total, per_cluster, log_clusters) => Operation::Format {
+                total,
+                per_cluster,
+                log_clusters,
+            },
             Call::Read(..) | Call::List(..) | Call::Fits(..) | Call::LongName(..) => return None,
         })
     }
@@ -132,6 +140,9 @@ impl Call {
             Call::List(_) => calls::list(card, buffer),
             Call::Fits(bytes) => calls::fits(card, *bytes),
             Call::LongName(name, _) => calls::long_name(card, name, buffer),
+            &Call::Format(total, per_cluster, log_clusters) => {
+                calls::format(card, total, per_cluster, log_clusters, limit)
+            }
         }
     }
 
@@ -168,6 +179,12 @@ impl fmt::Debug for Call {
             Call::List(room) => write!(f, ", room {room}"),
             Call::Fits(bytes) => write!(f, " {bytes} bytes"),
             Call::LongName(name, room) => write!(f, " '{}', room {room}", shown(name)),
+            Call::Format(total, per_cluster, log_clusters) => {
+                write!(
+                    f,
+                    " {total} sectors, {per_cluster} a cluster, log {log_clusters}"
+                )
+            }
         }?;
         match self.seconds() {
             Some(seconds) => write!(f, " at {seconds}"),

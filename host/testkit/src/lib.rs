@@ -5,6 +5,7 @@ pub mod cards;
 pub mod characters;
 pub mod dates;
 pub mod fixtures;
+pub mod fresh;
 pub mod judge;
 pub mod long_names;
 pub mod mtools;

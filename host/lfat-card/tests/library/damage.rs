@@ -7,6 +7,7 @@ use crate::support::twin::Twin;
 use testkit::call::Call;
 use testkit::cards::Card;
 use testkit::fixtures::furnished_card;
+use testkit::fresh::{fresh, random_fresh};
 use testkit::random::Random;
 use testkit::steps::{random_bytes, random_call, random_long_name, random_mark};
 use testkit::{cases, ALL};
@@ -104,6 +105,26 @@ fn calls(random: &mut Random, card: &Card) -> Vec<Call> {
     calls
 }
 
+/// Formats what is there, with numbers that often make a card in the window.
+fn format(twin: &mut Twin, random: &mut Random) {
+    for _ in 0..2 {
+        let total = twin.card.spec.total_sectors;
+        let asked = match total.checked_sub(4_150) {
+            Some(more) if random.one_in(2) => {
+                let total = 4_150 + random.below(more as usize + 2) as u32;
+                fresh(total, 1, 1 + random.below(128) as u32)
+            }
+            _ => random_fresh(random),
+        };
+        twin.lent = random_window(&twin.card, random);
+        let few = random.below(200) as u32;
+        twin.call(&asked.call(), random.pick(&[few, ALL]));
+        for call in calls(random, &twin.card) {
+            twin.call(&call, ALL);
+        }
+    }
+}
+
 fn damaged_card(seed: u64) -> Seen {
     let mut random = Random::new(10_000 + seed);
     let mut twin = Twin::new(furnished_card(&mut random));
@@ -124,6 +145,9 @@ fn damaged_card(seed: u64) -> Seen {
             twin.call(&call, limit);
         }
         twin.all_limits(&Call::Recover, |_| ());
+    }
+    if random.one_in(3) {
+        format(&mut twin, &mut random);
     }
     twin.seen
 }

@@ -10,7 +10,7 @@ use testkit::random::Random;
 use testkit::{cases, ALL, AT};
 
 /// Names and bytes that the card should hold.
-type Files = BTreeMap<[u8; 11], Vec<u8>>;
+pub type Files = BTreeMap<[u8; 11], Vec<u8>>;
 
 const NAMES: [&[u8; 11]; 8] = [
     b"ROUTE   CUT",
@@ -34,7 +34,7 @@ fn dotted(name: &[u8; 11]) -> String {
 }
 
 /// Both the library and mtools find exactly these files, byte for byte, and the same room beside them.
-fn assert_holds(image: &Image, files: &Files) {
+pub fn assert_holds(image: &Image, files: &Files) {
     let names: Vec<String> = files.keys().map(dotted).collect();
     let mut sorted = names.clone();
     sorted.sort();
@@ -56,7 +56,7 @@ fn assert_holds(image: &Image, files: &Files) {
     image.check();
 }
 
-fn library_step(image: &mut Image, files: &mut Files, random: &mut Random) {
+pub fn library_step(image: &mut Image, files: &mut Files, random: &mut Random) {
     let (name, new) = (*random.pick(&NAMES), *random.pick(&NAMES));
     let length = random.pick(&[0, 1, 511, 512, 513, 3_000, 20_000]);
     let data = random.bytes(length);
@@ -95,7 +95,7 @@ fn library_step(image: &mut Image, files: &mut Files, random: &mut Random) {
     image.save();
 }
 
-fn tools_step(image: &mut Image, files: &mut Files, random: &mut Random) {
+pub fn tools_step(image: &mut Image, files: &mut Files, random: &mut Random) {
     let name = *random.pick(&NAMES);
     let path = format!("::/{}", dotted(&name));
     if files.contains_key(&name) && random.one_in(3) {

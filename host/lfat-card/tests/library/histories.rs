@@ -1,7 +1,8 @@
-//! Random histories on small fragmented cards, with cuts and recoveries in between.
+//! Random histories on small fragmented cards, and on freshly formatted ones, with cuts and recoveries in between.
 //! `LFAT_CASES=N` runs N times as many.
 
 use crate::support::coverage::{assert_seen, Seen};
+use crate::support::fresh::fresh_card;
 use crate::support::twin::Twin;
 use reference::{Answer, CardSpec, Ground};
 use std::collections::BTreeSet;
@@ -100,14 +101,27 @@ fn history(seed: u64, met: &mut Met) -> Seen {
         let bytes = random.bytes(more);
         twin.edit(|card| card.bytes.extend(bytes));
     }
+    steps(&mut twin, &mut random, met);
+    twin.seen
+}
+
+/// One that begins with a format.
+fn fresh_history(seed: u64, met: &mut Met) -> Seen {
+    let mut random = Random::new(72_000 + seed);
+    let mut twin = fresh_card(&mut random);
+    steps(&mut twin, &mut random, met);
+    twin.seen
+}
+
+fn steps(twin: &mut Twin, random: &mut Random, met: &mut Met) {
     for _ in 0..50 {
         if random.one_in(5) {
-            twin.edit(|card| random_mark(&mut random, card));
+            twin.edit(|card| random_mark(random, card));
         }
         if random.one_in(6) {
-            twin.edit(|card| random_long_name(&mut random, card));
+            twin.edit(|card| random_long_name(random, card));
         }
-        let call = random_call(&mut random, &twin.card);
+        let call = random_call(random, &twin.card);
         met.look(&twin.card);
         if call.operation().is_some() && random.one_in(12) && twin.stores(&call) < 80 {
             twin.all_limits(&call, |twin| {
@@ -117,19 +131,19 @@ fn history(seed: u64, met: &mut Met) -> Seen {
         if random.one_in(10) {
             twin.call(&call, random.below(9) as u32);
             if random.one_in(3) {
-                twin.edit(|card| random_mark(&mut random, card));
+                twin.edit(|card| random_mark(random, card));
             }
             if random.one_in(3) {
-                twin.edit(|card| random_long_name(&mut random, card));
+                twin.edit(|card| random_long_name(random, card));
             }
-            let next = random_call(&mut random, &twin.card);
+            let next = random_call(random, &twin.card);
             twin.call(&next, ALL);
-            read_and_recover(&mut twin, &mut random);
+            read_and_recover(twin, random);
             twin.done(&Call::Recover);
         } else if let Call::CreateLong(..) = call {
             let before = twin.card.clone();
             if let Answer::Done(_) = twin.call(&call, ALL) {
-                met.look_at_created(&before, &call, &mut twin);
+                met.look_at_created(&before, &call, twin);
             }
         } else if ended_slot(&twin.card, &call).is_some() {
             let before = twin.card.clone();
@@ -140,7 +154,6 @@ fn history(seed: u64, met: &mut Met) -> Seen {
             twin.call(&call, ALL);
         }
     }
-    twin.seen
 }
 
 #[test]
@@ -149,6 +162,9 @@ fn random_histories() {
     let mut met = Met::default();
     for seed in 0..cases(150) {
         seen.extend(history(seed, &mut met));
+    }
+    for seed in 0..cases(30) {
+        seen.extend(fresh_history(seed, &mut met));
     }
     assert_seen(&seen, |code| code == 0 || code >= 7);
     assert!(met.clearing && met.fragments && met.falling_chain);

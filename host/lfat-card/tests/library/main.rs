@@ -1,7 +1,7 @@
-//! The library's twelve calls: against the independent implementation, against Debian's FAT tools, and through power cuts.
+//! The library's thirteen calls: against the independent implementation, against Debian's FAT tools, and through power cuts.
 //!
 //! All random numbers have fixed seeds. `LFAT_CASES=10 cargo test --release -p lfat-card --test library` runs ten times as many
-//! random cases. `fat_tools`, `long_names`, `long_mtools` and `dates_mtools` need the packages dosfstools and mtools.
+//! random cases. `fat_tools`, `format_tools`, `long_names`, `long_mtools` and `dates_mtools` need the packages dosfstools and mtools.
 
 mod support;
 
@@ -12,6 +12,9 @@ mod dates;
 mod dates_mtools;
 mod fat_tools;
 mod fits;
+mod format;
+mod format_cuts;
+mod format_tools;
 mod grounds;
 mod histories;
 mod locked;

@@ -4,6 +4,7 @@ use std::thread;
 use testkit::call::Call;
 use testkit::cards::Card;
 use testkit::fixtures::furnished_card;
+use testkit::fresh::fresh;
 use testkit::random::Random;
 use testkit::steps::random_call;
 use testkit::{ALL, AT, ROUTE};
@@ -38,6 +39,31 @@ fn different_cards() {
         let (answers, card) = thread.join().expect("no panic");
         let (expected, other) = history(seed as u64, on_reference);
         assert!(answers == expected && card == other, "seed {seed}");
+    }
+}
+
+/// Formats of different cards at the same time, each cut and begun again.
+#[test]
+fn different_formats() {
+    let threads: Vec<_> = (0..THREADS as u32)
+        .map(|number| {
+            thread::spawn(move || {
+                let asked = fresh(4_150 + 997 * number, 1, 1 + 40 * number);
+                let mut card = vec![number as u8; asked.window()];
+                for limit in 1..asked.stores() {
+                    let answer = asked.call().on_library(&mut card, limit, &mut []);
+                    assert_eq!(answer, lfat_card::Answer::Stopped(limit));
+                }
+                let answer = asked.call().on_library(&mut card, ALL, &mut []);
+                assert_eq!(answer, lfat_card::Answer::Done(asked.stores()));
+                let (front, rest) = card.split_at(512 * asked.end());
+                assert!(front == asked.front());
+                assert!(rest.iter().all(|&byte| byte == number as u8));
+            })
+        })
+        .collect();
+    for thread in threads {
+        thread.join().expect("no panic");
     }
 }
 

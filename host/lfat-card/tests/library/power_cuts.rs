@@ -90,9 +90,8 @@ fn every_cut(card: &mut Vec<u8>, call: &Call, rows: u32, random: &mut Random) ->
 /// An operation with a list of stores that is not too long to cut everywhere.
 fn has_cuts(call: &Call) -> bool {
     match call {
-        Call::Recover | Call::Read(..) | Call::List(..) | Call::Fits(..) | Call::LongName(..) => {
-            false
-        }
+        Call::Recover | Call::Format(..) => false,
+        Call::Read(..) | Call::List(..) | Call::Fits(..) | Call::LongName(..) => false,
         Call::Append(_, data, _) | Call::Replace(_, data, _) => data.len() < 20_000,
         _ => true,
     }

@@ -8,7 +8,7 @@ use testkit::dates::LAST_SECOND;
 use testkit::random::Random;
 use testkit::{ALL, AT, PANEL, ROUTE};
 
-/// What all twelve calls answer, one after the other.
+/// What all calls but format answer, one after the other.
 fn answers(card: &mut [u8], name: &[u8], limit: u32) -> [u64; 12] {
     answers_at(card, name, AT, limit)
 }
@@ -214,6 +214,52 @@ fn long_names() {
     assert_eq!(unsafe { lfat_long_name(at, length, slot, 11, out, 8) }, 3);
     let start = card_k();
     as_on_copies(lfat_create_long, &start, &ROUTE[..], &ROUTE[..10], 3);
+}
+
+/// Format of a window: the total, sectors per cluster, log clusters and the limit.
+fn format(window: &mut [u8], numbers: [u32; 4]) -> u64 {
+    let [total, per_cluster, log_clusters, limit] = numbers;
+    let (at, length) = (window.as_mut_ptr(), window.len());
+    // The slice is valid for its length.
+    unsafe { lfat_format(at, length, total, per_cluster, log_clusters, limit) }
+}
+
+/// SIZE has the number 19 and no count, and is asked before WINDOW; the stores are the count of the others.
+#[test]
+fn formats() {
+    let (window, size) = (ground(3), ground(19));
+    let mut card = Random::new(8).bytes(4_150 * 512);
+    let before = card.clone();
+    for limit in [0, 3, ALL] {
+        for length in [0, 1, 100, 511, 512, 4_150 * 512 - 1] {
+            let part = &mut card[..length];
+            assert_eq!(format(part, [4_150, 1, 8, limit]), window);
+            assert_eq!(format(part, [4_149, 1, 8, limit]), size);
+            assert_eq!(format(part, [4_150, 0, 8, limit]), size);
+            assert_eq!(format(part, [4_150, 257, 8, limit]), size);
+            assert_eq!(format(part, [4_150, 1, 0, limit]), size);
+            assert_eq!(format(part, [4_150, 1, 129, limit]), size);
+        }
+        assert_eq!(format(&mut card, [4_151, 1, 8, limit]), window);
+        assert_eq!(format(&mut card, [66_070, 1, 8, limit]), size);
+        let none = std::ptr::null_mut();
+        assert_eq!(unsafe { lfat_format(none, 0, 4_150, 1, 8, limit) }, window);
+        assert_eq!(unsafe { lfat_format(none, 0, 4_150, 1, 0, limit) }, size);
+    }
+    assert_eq!(format(&mut card, [4_150, 1, 8, 0]), STOPPED);
+    assert!(card == before);
+    for limit in [1, 2, 73] {
+        let stopped = STOPPED + u64::from(limit);
+        assert_eq!(format(&mut card, [4_150, 1, 8, limit]), stopped);
+        assert_eq!(answers(&mut card, ROUTE, ALL), [ground(2); 12]);
+    }
+    for limit in [74, 75, ALL] {
+        assert_eq!(format(&mut card, [4_150, 1, 8, limit]), 74);
+    }
+    assert_eq!(fits(&card, 1), 10);
+    // 2 + 2 x 16 + 32 and the log's sectors.
+    assert_eq!(format(&mut card, [4_150, 1, 128, ALL]), 194);
+    assert_eq!(fits(&card, 1), 130);
 }
 
 /// Windows of bytes that are no card, also none at all.

@@ -6,6 +6,7 @@ use testkit::call::Call;
 use testkit::cards::Card;
 use testkit::characters::{bytes_of, letters};
 use testkit::fixtures::furnished_card;
+use testkit::fresh::random_fresh;
 use testkit::random::Random;
 use testkit::steps::{random_call, random_long_name};
 use testkit::{cases, ALL, AT, OTHER, PANEL, ROUTE};
@@ -87,6 +88,27 @@ fn drive_reads(measure: &mut Measure, place: &str, card: &mut Card) {
         Call::Recover,
     ] {
         measure.call(place, &mut card.bytes, &call, ALL);
+    }
+}
+
+/// Formats with numbers of all kinds, in windows too short and long enough, cut and whole.
+pub fn drive_formats(measure: &mut Measure) {
+    let mut random = Random::new(500);
+    let mut window = vec![0x5A; 66_069 * 512];
+    for limit in [0, 1, 300, 673, ALL] {
+        let code = measure.call(
+            "any window",
+            &mut window,
+            &Call::Format(66_069, 1, 128),
+            limit,
+        );
+        let expected = if limit == ALL { DONE } else { STOPPED };
+        assert_eq!(code, expected, "{limit}");
+    }
+    for _ in 0..cases(300) {
+        let call = random_fresh(&mut random).call();
+        measure.call("any window", &mut window, &call, random.pick(&[2, ALL]));
+        measure.call("a short window", &mut window[..100], &call, ALL);
     }
 }
 

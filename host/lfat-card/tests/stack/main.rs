@@ -6,7 +6,7 @@ mod cards;
 mod measure;
 mod painted;
 
-use cards::{drive_large_cards, drive_random_cards};
+use cards::{drive_formats, drive_large_cards, drive_random_cards};
 use measure::{Measure, Most};
 
 const HEADER: &str = include_str!("../../../../include/lfat.h");
@@ -28,11 +28,12 @@ fn no_call_needs_more() {
     let mut measure = Measure::new();
     drive_random_cards(&mut measure);
     drive_large_cards(&mut measure);
+    drive_formats(&mut measure);
     println!("| call | bytes of stack | the header says |\n|---|---|---|");
     for (call, most) in &measure.most {
         println!("| {call} | {} | {} |", most.bytes, stated(call));
     }
-    assert_eq!(measure.most.len(), 12);
+    assert_eq!(measure.most.len(), 13);
     for (call, most) in &measure.most {
         let Most { bytes, place } = most;
         assert!(

@@ -49,6 +49,12 @@ fn crossing(call: &Call, card: &mut [u8], limit: u32, buffer: &mut [u8]) -> (*co
         Call::LongName(name, _) => (lfat_long_name as *const (), named(name, [to, room, 0, 0])),
         Call::List(_) => (lfat_list as *const (), card_and([to, room])),
         Call::Fits(bytes) => (lfat_fits as *const (), card_and([*bytes, 0])),
+        &Call::Format(total, per_cluster, log_clusters) => {
+            let numbers = [total, per_cluster, log_clusters].map(u64::from);
+            let [total, per_cluster, log_clusters] = numbers;
+            let arguments = [card, length, total, per_cluster, log_clusters, limit, 0, 0];
+            (lfat_format as *const (), arguments)
+        }
     }
 }
 

@@ -13,7 +13,7 @@ fn every_number_has_an_answer() {
             (1..=253 | 256.., Answer::Refused(refusal)) => {
                 assert_eq!(u64::from(refusal.number()), code);
                 assert_eq!(answer.encode(), code << 32);
-                let is_known = (1..19).contains(&code);
+                let is_known = (1..20).contains(&code);
                 assert_eq!(
                     matches!(refusal, Refusal::Unknown(_)),
                     !is_known,

@@ -164,12 +164,12 @@ fn seeking() {
 #[test]
 fn refusals_as_errors_of_input_and_output() {
     let refusals: Vec<Refusal> = (1..).map_while(Refusal::with_number).collect();
-    assert_eq!(refusals.len(), 18);
+    assert_eq!(refusals.len(), 19);
     for refusal in refusals {
         let error = Error::from(refusal);
         assert_eq!(error.to_string(), refusal.to_string());
         let kind = match refusal.name() {
-            "CLOCK" | "NAME" | "LONGNAME" | "LENGTH" => ErrorKind::InvalidInput,
+            "SIZE" | "CLOCK" | "NAME" | "LONGNAME" | "LENGTH" => ErrorKind::InvalidInput,
             "ABSENT" => ErrorKind::NotFound,
             "DIRECTORY" => ErrorKind::IsADirectory,
             "LOCKED" => ErrorKind::PermissionDenied,

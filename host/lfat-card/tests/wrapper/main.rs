@@ -1,9 +1,10 @@
-//! The safe wrapper: names from entries, cards that are only read, files being read, where the library is linked from.
+//! The safe wrapper: names from entries, cards that are only read, files being read, new cards, where the library is linked from.
 //! `host/lfat/tests/host/wrapper.rs` has a card's whole life.
 
 mod answers;
 mod dates;
 mod files;
+mod format;
 mod library_folder;
 mod names;
 

@@ -25,7 +25,7 @@ fn faults(build: &impl Build) -> Vec<String> {
 }
 
 /// A build that never flushes.
-struct NoFlushes;
+pub struct NoFlushes;
 
 impl Build for NoFlushes {
     type Disk<'a> = Unflushed<'a>;

@@ -1,6 +1,7 @@
 //! The C interface: the header as C99 and C++, its codes, and the program `examples/save.c` on images and partitions.
 
 use crate::files::Temporary;
+use crate::format::{disks, formatted, K};
 use crate::support::cards::{card_over, points, state, two_files, PANEL, ROUTE};
 use std::path::{Path, PathBuf};
 use std::process::{Command, Output};
@@ -228,7 +229,7 @@ int main(int argc, char **argv)
     const uint32_t now = lfat_seconds(2026, 11, 17, 19, 30, 59), late = LFAT_LAST_SECOND + 1;
     lfat_disk *disk, *other;
     memset(bytes, 'x', sizeof bytes);
-    if (argc != 2)
+    if (argc != 3)
         return 2;
     DUE(lfat_disk_open(NULL, 0, 0, &disk), LFAT_DISK_ARGUMENT, 0);
     DUE(lfat_disk_open(argv[1], 0, 0, NULL), LFAT_DISK_ARGUMENT, 0);
@@ -254,6 +255,9 @@ int main(int argc, char **argv)
     DUE(lfat_disk_fits(disk, UINT64_MAX), LFAT_NO, 0);
     DUE(lfat_disk_fits(NULL, 0), LFAT_DISK_ARGUMENT, 0);
     DUE(lfat_disk_create(disk, keel, 11, now), LFAT_DISK_READ_ONLY, 0);
+    DUE(lfat_disk_format(disk, 4150, 1, 8), LFAT_DISK_READ_ONLY, 0);
+    DUE(lfat_disk_sectors(disk), LFAT_DONE, 4150);
+    DUE(lfat_disk_sectors(NULL), LFAT_DISK_ARGUMENT, 0);
     lfat_disk_close(disk);
 
     DUE(lfat_disk_open(argv[1], 0, LFAT_DISK_WAIT, &disk), LFAT_DONE, 0);
@@ -329,6 +333,22 @@ int main(int argc, char **argv)
     if (strstr(lfat_disk_message(), "ABSENT") == NULL || lfat_disk_errno() != 0)
         wrong = 1;
     lfat_disk_close(disk);
+
+    /* A disk of 4,170 sectors that holds no card. */
+    DUE(lfat_disk_open(argv[2], 0, 0, &disk), LFAT_DONE, 0);
+    DUE(lfat_disk_sectors(disk), LFAT_DONE, 4170);
+    DUE(lfat_disk_list(disk, NULL, 0), LFAT_BOOT, 0);
+    DUE(lfat_disk_format(disk, 4170, 1, 129), LFAT_SIZE, 0);
+    if (strncmp(lfat_disk_message(), "SIZE: ", 6) != 0 || strcmp(lfat_code_name(LFAT_SIZE), "SIZE") != 0)
+        wrong = 1;
+    DUE(lfat_disk_format(disk, 4171, 1, 8), LFAT_WINDOW, 0);
+    DUE(lfat_disk_format(NULL, 4150, 1, 8), LFAT_DISK_ARGUMENT, 0);
+    DUE(lfat_disk_format(disk, 4170, 1, 128), LFAT_DONE, 196);
+    DUE(lfat_disk_create(disk, keel, 11, now), LFAT_DONE, 3);
+    DUE(lfat_disk_fits(disk, 1), LFAT_DONE, 130);
+    DUE(lfat_disk_format(disk, 4150, 1, 8), LFAT_DONE, 74);
+    DUE(lfat_disk_list(disk, NULL, 0), LFAT_DONE, 0);
+    lfat_disk_close(disk);
     return wrong;
 }
 "#;
@@ -348,7 +368,8 @@ fn every_call_in_c_and_cpp() {
         start.put_long_entries(17, 2);
         start.mark_deleted((0..15).filter(|&slot| slot != 1));
         let card = Temporary::new(&start.bytes);
-        let output = run(&program, &[path(&card)]);
+        let blank = Temporary::new(&disks()[5]);
+        let output = run(&program, &[path(&card), path(&blank)]);
         let text = String::from_utf8_lossy(&output.stdout).into_owned();
         assert_eq!(
             (output.status.code(), text.as_str()),
@@ -357,5 +378,8 @@ fn every_call_in_c_and_cpp() {
         );
         let left = card_over(&card.bytes());
         assert!((15..18).all(|slot| left.slot(slot)[0] == 0xE5));
+        let (blank, due) = (blank.bytes(), formatted(&disks()[5], K));
+        assert!(blank[..73 * 512] == due[..73 * 512]);
+        assert!(blank[4_150 * 512..] == due[4_150 * 512..]);
     }
 }

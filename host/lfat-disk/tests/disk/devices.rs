@@ -1,8 +1,9 @@
 //! Block devices. Needs root and losetup: `cargo test -p lfat-disk -- --ignored`.
 
 use crate::files::Temporary;
+use crate::format::{formatted, K};
 use crate::support::cards::{points, NEW, PANEL, ROUTE};
-use lfat_disk::{Access, DiskCard, Error};
+use lfat_disk::{Access, DiskCard, Error, Form};
 use reference::CardSpec;
 use std::path::{Path, PathBuf};
 use std::process::Command;
@@ -104,4 +105,28 @@ fn a_save_in_a_partition_of_a_device() {
     reference::append(card, ROUTE, &points(5_000), AT, u32::MAX);
     reference::replace(card, ROUTE, &points(999), AT, u32::MAX);
     assert!(file.bytes() == disk);
+}
+
+/// A new card on a device that holds something else; a device that another program has is in use, for this too.
+#[test]
+#[ignore = "needs root and losetup"]
+fn a_new_card_on_a_device() {
+    for block in [512, 4_096] {
+        let start = points(4_152 * 512);
+        let file = Temporary::new(&start);
+        let device = Loop::new(&file.0, block);
+        let mut open = DiskCard::open(&device.0, Access::Write).expect("opened");
+        let second = DiskCard::open(&device.0, Access::Write);
+        assert!(matches!(second, Err(Error::InUse)));
+        assert_eq!(open.sectors(), 4_152);
+        let larger = Form { total: 4_153, ..K };
+        assert!(matches!(open.format(larger), Err(Error::Refused(_))));
+        assert_eq!(open.format(K).expect("granted"), 74);
+        assert_eq!(open.create(NEW, AT).expect("granted"), 3);
+        drop(open);
+        drop(device);
+        let mut wanted = formatted(&start, K);
+        reference::create(&mut wanted, NEW, AT, u32::MAX);
+        assert!(file.bytes() == wanted, "{block}");
+    }
 }

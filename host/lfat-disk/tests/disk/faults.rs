@@ -79,9 +79,9 @@ fn short_disks() {
 }
 
 /// A disk that says that it is whole but cannot be read everywhere.
-struct Unreadable {
-    disk: Lying,
-    from: u64,
+pub struct Unreadable {
+    pub disk: Lying,
+    pub from: u64,
 }
 
 impl Disk for Unreadable {

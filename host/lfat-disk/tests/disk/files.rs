@@ -26,7 +26,7 @@ impl Temporary {
         fs::read(&self.0).expect("the file is there")
     }
 
-    fn file(&self) -> File {
+    pub fn file(&self) -> File {
         let mut options = OpenOptions::new();
         options
             .read(true)

@@ -12,7 +12,7 @@ fn put32(bytes: &mut [u8], at: usize, value: u32) {
     bytes[at..at + 4].copy_from_slice(&value.to_le_bytes());
 }
 
-fn entry(disk: &mut [u8], table: usize, index: usize, kind: u8, first: u32, count: u32) {
+pub fn entry(disk: &mut [u8], table: usize, index: usize, kind: u8, first: u32, count: u32) {
     let at = table * 512 + 446 + index * 16;
     disk[at + 4] = kind;
     put32(disk, at + 8, first);

@@ -32,7 +32,7 @@ pub fn writes(card: &[u8], operation: &Operation) -> Option<Vec<(usize, Vec<u8>)
 
 /// The cards that the writes leave, one after the other, are those that the library leaves with limits 1, 2, ..; gives the
 /// number of writes.
-fn check_prefixes(card: &[u8], operation: &Operation) -> usize {
+pub fn check_prefixes(card: &[u8], operation: &Operation) -> usize {
     let mut library = card.to_vec();
     let Some(writes) = writes(card, operation) else {
         call(&mut library, operation, NO_LIMIT);

@@ -1,5 +1,6 @@
 //! The test rack: pulls the plug after every store of an operation, then during recovery, and looks at what is left.
 
+mod format;
 mod random;
 mod recoveries;
 pub mod report;
@@ -14,8 +15,10 @@ pub use run::{run, Settings, Swap};
 use crate::args::{number, Args};
 use crate::at::At;
 use crate::failure::Failure;
+use crate::format::sectors;
 use crate::json;
 use crate::naming::{self, Known};
+use crate::numbers::{self, Numbers};
 use crate::output::{print, write_file};
 use crate::remedy::Remedy;
 use crate::source::Source;
@@ -24,45 +27,45 @@ use lfat_card::{LongName, Name};
 use lfat_disk::{Access, DiskCard, Error, Operation};
 use std::ffi::{OsStr, OsString};
 
-/// The operations, each with its second word after the name, if it has one.
-const OPERATIONS: [(&str, Option<&str>); 7] = [
-    ("create", None),
-    ("append", Some("FILE")),
-    ("put", Some("FILE")),
-    ("replace", Some("FILE")),
-    ("truncate", Some("SIZE")),
-    ("rm", None),
-    ("mv", Some("NEW")),
+/// The operations, each with the words after it: a name, and what else it takes.
+const OPERATIONS: [(&str, &[&str]); 8] = [
+    ("create", &["NAME"]),
+    ("append", &["NAME", "FILE"]),
+    ("put", &["NAME", "FILE"]),
+    ("replace", &["NAME", "FILE"]),
+    ("truncate", &["NAME", "SIZE"]),
+    ("rm", &["NAME"]),
+    ("mv", &["OLD", "NEW"]),
+    (FORMAT, &[]),
 ];
+
+/// The operation that is no file's.
+const FORMAT: &str = "format";
 
 /// The operation in words.
 struct Asked {
     verb: &'static str,
-    name: OsString,
-    /// What the second word is, and the word.
-    second: Option<(&'static str, OsString)>,
+    /// Each word after it, and what it is.
+    words: Vec<(&'static str, OsString)>,
 }
 
 impl Asked {
     fn parse(args: &mut Args) -> Result<Asked, Failure> {
         let asked = args.text("OPERATION")?;
         let known = OPERATIONS.iter().find(|(verb, _)| *verb == asked);
-        let &(verb, second) = known.ok_or_else(|| {
+        let &(verb, takes) = known.ok_or_else(|| {
             let known = OPERATIONS.map(|(verb, _)| verb).join(", ");
             Failure::Usage(format!("OPERATION: '{asked}' is none of {known}"))
         })?;
-        let name = args.word(if second == Some("NEW") { "OLD" } else { "NAME" })?;
-        let second = match second {
-            Some(what) => Some((what, args.word(what)?)),
-            None => None,
-        };
+        let words = takes.iter().map(|what| Ok((*what, args.word(what)?)));
+        let words = words.collect::<Result<_, Failure>>()?;
         args.end()?;
-        Ok(Asked { verb, name, second })
+        Ok(Asked { verb, words })
     }
 
     /// The second word, if it is such a one.
     fn second(&self, wanted: &str) -> Option<&OsString> {
-        let second = self.second.as_ref();
+        let second = self.words.get(1);
         second
             .filter(|(what, _)| *what == wanted)
             .map(|(_, word)| word)
@@ -76,7 +79,8 @@ impl Asked {
     /// The short name that calls take, and the long one of a new file. A create or put of a name that is there is left to the
     /// library, which refuses it.
     fn names(&self, known: &Known) -> Result<(Name, Option<LongName>), Failure> {
-        let text = naming::text(&self.name)?;
+        let name = self.words.first().map(|(_, word)| word.as_os_str());
+        let text = naming::text(name.unwrap_or_default())?;
         match (self.verb, Name::parse(&text)) {
             ("create" | "put", Ok(name)) => Ok((name, None)),
             ("create" | "put", Err(_)) => naming::new_file(known, &text),
@@ -99,7 +103,7 @@ impl Asked {
 
     /// Whether the operation dates the file.
     fn is_dated(&self) -> bool {
-        !matches!(self.verb, "rm" | "mv")
+        !matches!(self.verb, "rm" | "mv" | FORMAT)
     }
 
     /// The time that is given, which must be of use.
@@ -110,6 +114,18 @@ impl Asked {
             return Err(Failure::Usage(what));
         }
         Ok(at)
+    }
+
+    /// The numbers of a new card, which only a format takes.
+    fn numbers(&self, args: &Args) -> Result<Numbers, Failure> {
+        let given = numbers::OPTIONS.iter().find(|option| args.has(option));
+        match given {
+            Some(option) if self.verb != FORMAT => {
+                let what = format!("{option}: {} makes no card", self.verb);
+                Err(Failure::Usage(what))
+            }
+            _ => Numbers::of(args),
+        }
     }
 
     /// The calls: one, or two for a put.
@@ -184,6 +200,14 @@ pub fn rack(mut args: Args) -> Result<(), Failure> {
     let new = asked.new_name()?;
     let size = asked.size()?;
     let at = asked.at(&args)?;
+    let numbers = asked.numbers(&args)?;
+    if asked.verb == FORMAT {
+        let mut disk = target.open_whole(&args, Access::Read)?;
+        let form = numbers.form(&target, sectors(&disk))?;
+        let report = format::run(&mut disk, form, &settings);
+        let report = report.map_err(|error| target.failure(error))?;
+        return tell(&args, vec![report], &settings);
+    }
     let mut card = target.open(&args, Access::Read)?;
     let known = Known::on(&target, &mut card)?;
     let seconds = match asked.is_dated() {
@@ -216,11 +240,17 @@ pub fn rack(mut args: Args) -> Result<(), Failure> {
 
     let mut reports = Vec::new();
     for call in &calls {
-        let report = run(&mut card, call, &settings).map_err(|error| explain(&card, error))?;
-        if let Some(swap) = settings.swap {
+        reports.push(run(&mut card, call, &settings).map_err(|error| explain(&card, error))?);
+    }
+    tell(&args, reports, &settings)
+}
+
+/// Shows what was found.
+fn tell(args: &Args, reports: Vec<Report>, settings: &Settings) -> Result<(), Failure> {
+    if let Some(swap) = settings.swap {
+        for report in &reports {
             run::swapped(report.stores, swap)?;
         }
-        reports.push(report);
     }
     let text = match args.has("--json") {
         true => {

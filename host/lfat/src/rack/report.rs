@@ -5,6 +5,7 @@ use crate::json;
 use crate::naming::one_line;
 use lfat_card::{printed, DateTime};
 use lfat_disk::Operation;
+use std::fmt::Display;
 
 /// One cut and all that followed it.
 #[derive(Clone, Debug)]
@@ -13,10 +14,12 @@ pub struct Cut {
     pub made: usize,
     /// What the last of them was.
     pub last: Option<Stage>,
-    /// Recoveries called.
+    /// Recoveries called; of a format, formats begun again.
     pub recoveries: usize,
-    /// Sequences of recoveries that ended in the old state as they should, in the new one as they should, or otherwise.
+    /// Sequences of recoveries that ended in the old state as they should, in the new one as they should, or otherwise. Those of
+    /// formats end with the new card, and count as what was found before them: the old card, one that is refused, or the new one.
     pub old: usize,
+    pub refused: usize,
     pub new: usize,
     pub mismatch: usize,
 }
@@ -28,6 +31,7 @@ impl Cut {
             last,
             recoveries: 0,
             old: 0,
+            refused: 0,
             new: 0,
             mismatch: 0,
         }
@@ -85,6 +89,13 @@ impl Report<'_> {
             Operation::Delete { name } => format!("rm {}", printed(name)),
             Operation::Rename { old, new } => format!("mv {} to {}", printed(old), printed(new)),
             Operation::Recover => "recover".to_string(),
+            Operation::Format {
+                total,
+                per_cluster,
+                log_clusters,
+            } => {
+                format!("format {total} sectors, {per_cluster} per cluster, log of {log_clusters}")
+            }
         };
         let long = match self.long_entries {
             0 => String::new(),
@@ -102,7 +113,10 @@ impl Report<'_> {
             | Operation::Append { seconds, .. }
             | Operation::Replace { seconds, .. }
             | Operation::Truncate { seconds, .. } => DateTime::from_seconds(seconds).ok(),
-            Operation::Delete { .. } | Operation::Rename { .. } | Operation::Recover => None,
+            Operation::Delete { .. }
+            | Operation::Rename { .. }
+            | Operation::Recover
+            | Operation::Format { .. } => None,
         }
     }
 
@@ -117,20 +131,25 @@ impl Report<'_> {
         rows.chain([("all", self.cuts.iter().collect())]).collect()
     }
 
+    /// What is counted of each cut.
+    fn columns(&self) -> &'static [Column] {
+        match self.operation {
+            Operation::Format { .. } => &OF_A_FORMAT,
+            _ => &COLUMNS,
+        }
+    }
+
     /// A row for each stage of the stores, and a total.
     pub fn table(&self) -> String {
+        let heads = self.columns().iter().map(|(head, _)| *head);
         let mut text = format!(
-            "{}\n\n{:<16}{:>8}{:>12}{:>10}{:>10}{:>10}\n",
+            "{}\n\n{}",
             self.title(),
-            "last store made",
-            "cuts",
-            "recoveries",
-            "old",
-            "new",
-            "mismatch"
+            row("last store made", "cuts", heads)
         );
         for (name, cuts) in self.stages() {
-            text += &row(name, &cuts);
+            let sums = self.columns().iter().map(|(_, of)| sum(&cuts, of));
+            text += &row(name, cuts.len(), sums);
         }
         if self.cuts.len() <= self.stores {
             text += &format!(
@@ -149,15 +168,22 @@ impl Report<'_> {
     /// The same as a JSON object.
     pub fn json(&self) -> String {
         let rows = self.stages().into_iter().map(|(name, cuts)| {
-            let sums = sums(&cuts);
-            json::object(&[
-                ("last", &json::text(name)),
-                ("cuts", &cuts.len()),
-                ("recoveries", &sums[0]),
-                ("old", &sums[1]),
-                ("new", &sums[2]),
-                ("mismatch", &sums[3]),
-            ])
+            let (name, count) = (json::text(name), cuts.len());
+            let heads = self.columns().iter().map(|(head, _)| head.to_lowercase());
+            let heads: Vec<String> = heads.collect();
+            let sums: Vec<usize> = self
+                .columns()
+                .iter()
+                .map(|(_, of)| sum(&cuts, of))
+                .collect();
+            let mut fields: Vec<(&str, &dyn Display)> = vec![("last", &name), ("cuts", &count)];
+            fields.extend(
+                heads
+                    .iter()
+                    .zip(&sums)
+                    .map(|(head, sum)| (head.as_str(), sum as &dyn Display)),
+            );
+            json::object(&fields)
         });
         json::object(&[
             ("operation", &json::text(&self.title())),
@@ -174,21 +200,34 @@ impl Report<'_> {
     }
 }
 
-/// Recoveries, and sequences that ended as old, as new or otherwise.
-fn sums(cuts: &[&Cut]) -> [usize; 4] {
-    let of: [fn(&Cut) -> usize; 4] = [
-        |cut| cut.recoveries,
-        |cut| cut.old,
-        |cut| cut.new,
-        |cut| cut.mismatch,
-    ];
-    of.map(|of| cuts.iter().map(|cut| of(cut)).sum())
+/// The head of a column, and what it counts of a cut.
+type Column = (&'static str, fn(&Cut) -> usize);
+
+const COLUMNS: [Column; 4] = [
+    ("recoveries", |cut| cut.recoveries),
+    ("old", |cut| cut.old),
+    ("new", |cut| cut.new),
+    ("mismatch", |cut| cut.mismatch),
+];
+
+const OF_A_FORMAT: [Column; 5] = [
+    ("formats", |cut| cut.recoveries),
+    ("old", |cut| cut.old),
+    ("BOOT", |cut| cut.refused),
+    ("new", |cut| cut.new),
+    ("mismatch", |cut| cut.mismatch),
+];
+
+fn sum(cuts: &[&Cut], of: &fn(&Cut) -> usize) -> usize {
+    cuts.iter().map(|cut| of(cut)).sum()
 }
 
-fn row(name: &str, cuts: &[&Cut]) -> String {
-    let [recoveries, old, new, mismatch] = sums(cuts);
-    format!(
-        "{name:<16}{:>8}{recoveries:>12}{old:>10}{new:>10}{mismatch:>10}\n",
-        cuts.len()
-    )
+/// A line of the table.
+fn row(name: &str, cuts: impl Display, others: impl Iterator<Item = impl Display>) -> String {
+    let mut row = format!("{name:<16}{cuts:>8}");
+    for (index, other) in others.enumerate() {
+        let width = if index == 0 { 12 } else { 10 };
+        row += &format!("{other:>width$}");
+    }
+    row + "\n"
 }

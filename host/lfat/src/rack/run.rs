@@ -37,7 +37,7 @@ pub struct Settings {
 /// Which two stores are swapped.
 #[derive(Clone, Copy, Debug, PartialEq, Eq)]
 pub enum Swap {
-    /// The last two: root directory and commit mark.
+    /// The last two: root directory and commit mark, or of a format the end of the log and the boot sector.
     Last,
     /// Two of them, counted from 1.
     Two(usize, usize),
@@ -176,7 +176,7 @@ pub fn swapped(count: usize, swap: Swap) -> Result<(usize, usize), Failure> {
     Ok((one, other))
 }
 
-fn make_swap(stores: &mut [(usize, &[u8])], swap: Swap) {
+pub fn make_swap(stores: &mut [(usize, &[u8])], swap: Swap) {
     if let Ok((one, other)) = swapped(stores.len(), swap) {
         stores.swap(one - 1, other - 1);
     }

@@ -13,15 +13,17 @@ const STRIP: f64 = 44.0;
 const ROW: f64 = 130.0;
 
 /// Colours that a colour-blind reader tells apart, and their meanings.
-const LEGEND: [(&str, &str); 3] = [
+const LEGEND: [(&str, &str); 4] = [
     ("#7f9fc4", "old: as before the operation"),
     ("#f0b429", "new: as after it"),
     ("#b3123c", "mismatch"),
+    ("#b9bec4", "BOOT: to be formatted again"),
 ];
 
 fn outcome(cut: &Cut) -> usize {
     match cut {
         Cut { mismatch: 1.., .. } => 2,
+        Cut { refused: 1.., .. } => 3,
         Cut { new: 1.., .. } => 1,
         _ => 0,
     }
@@ -38,8 +40,14 @@ pub fn draw(reports: &[Report]) -> String {
         svg += &strip(report, ROW * index as f64 + 30.0);
     }
     let y = height - 30.0;
-    for (index, (colour, words)) in LEGEND.iter().enumerate() {
-        let x = LEFT + 300.0 * index as f64;
+    // The last is found of formats only.
+    let cuts = || reports.iter().flat_map(|report| &report.cuts);
+    let shown = match cuts().any(|cut| cut.refused > 0) {
+        true => LEGEND.len(),
+        false => LEGEND.len() - 1,
+    };
+    for (index, (colour, words)) in LEGEND[..shown].iter().enumerate() {
+        let x = LEFT + 900.0 / shown as f64 * index as f64;
         svg += &format!(
             "<rect x=\"{x}\" y=\"{y}\" width=\"14\" height=\"14\" fill=\"{colour}\"/>\n\
              <text x=\"{}\" y=\"{}\">{words}</text>\n",
@@ -88,13 +96,17 @@ fn cells(cuts: &[Cut], left: f64, top: f64, width: f64) -> String {
         let sum = |of: fn(&Cut) -> usize| cell.iter().map(of).sum::<usize>();
         svg += &format!(
             "<rect x=\"{x:.2}\" y=\"{top}\" width=\"{:.2}\" height=\"{STRIP}\" fill=\"{}\">\
-             <title>cut after {} to {} stores, the last: {}; {} old, {} new, {} mismatch</title></rect>\n",
+             <title>cut after {} to {} stores, the last: {}; {} old, {}{} new, {} mismatch</title></rect>\n",
             width * cell.len() as f64 - gap,
             LEGEND[outcome(&cell[0])].0,
             cell[0].made,
             cell[cell.len() - 1].made,
             cell[0].stage(),
             sum(|cut| cut.old),
+            match sum(|cut| cut.refused) {
+                0 => String::new(),
+                count => format!("{count} BOOT, "),
+            },
             sum(|cut| cut.new),
             sum(|cut| cut.mismatch)
         );

@@ -6,7 +6,7 @@ use crate::support::points;
 /// A folder with an empty card and a path of 1,300 bytes.
 fn start(name: &str) -> Folder {
     let folder = Folder::new(name);
-    folder.lfat("blank card").done();
+    folder.lfat("format card --size 4150s --log 8").done();
     folder.write("path", &points(1_300));
     folder
 }
@@ -187,7 +187,7 @@ fn help_everywhere() {
     let overview = folder.lfat("--help").done().text();
     assert_eq!(folder.lfat("help").done().text(), overview);
     let commands = [
-        "blank", "ls", "get", "fits", "put", "append", "truncate", "rm", "mv", "recover", "log",
+        "format", "ls", "get", "fits", "put", "append", "truncate", "rm", "mv", "recover", "log",
         "info", "rack",
     ];
     for command in commands {
@@ -220,6 +220,14 @@ fn help_everywhere() {
             "created, written (as 2026-11-17T19:30:58) and accessed",
         ),
         ("log", "stamp"),
+        (
+            "format",
+            "[--size SIZE] [--cluster N] [--log N] [--yes] [--json] [--limit N]\n",
+        ),
+        ("format", "\n  --yes "),
+        ("format", "rounded down to whole sectors"),
+        ("format", "\n  --partition N "),
+        ("rack", "mv OLD NEW; format."),
     ] {
         let help = folder.lfat(&format!("{command} --help")).done().text();
         assert!(help.contains(words), "{words}: {help}");

@@ -1,7 +1,7 @@
 //! Dates that mtools and fsck.fat find are those that `ls -l` shows, and theirs are shown right. Needs both.
 
 use crate::support::cli::Folder;
-use crate::support::long::{assert_clean, blank_folder, lfat, tool, HULL};
+use crate::support::long::{assert_clean, formatted_folder, lfat, tool, HULL};
 use std::fs::File;
 use std::time::{Duration, UNIX_EPOCH};
 
@@ -32,7 +32,7 @@ fn even(time: &str) -> String {
 /// Files of six times: mdir shows the day and the minute, a copy has the second; all files are whole.
 #[test]
 fn ours_as_mtools_have_them() {
-    let folder = blank_folder("dates-mdir");
+    let folder = formatted_folder("dates-mdir");
     folder.lfat("rm card ROUTE.CUT").done();
     for (at, time) in TIMES.iter().enumerate() {
         folder
@@ -82,7 +82,7 @@ fn ours_as_mtools_have_them() {
 /// What append, truncate and put --replace set; a rename by either side keeps it.
 #[test]
 fn changed_files_as_mtools_have_them() {
-    let folder = blank_folder("dates-changed");
+    let folder = formatted_folder("dates-changed");
     let day = |name: &str| {
         let text = tool(&folder, "mdir", &["-i", "card", "::"]);
         let line = text.lines().find(|line| line.starts_with(name));
@@ -125,7 +125,7 @@ fn changed_files_as_mtools_have_them() {
 /// Files that mtools dated, with `mcopy -m` from files of this machine.
 #[test]
 fn theirs_as_we_show_them() {
-    let folder = blank_folder("dates-mcopy");
+    let folder = formatted_folder("dates-mcopy");
     folder.lfat("rm card ROUTE.CUT").done();
     // Seconds since 1970 began in Greenwich, and the local times in the three zones.
     for (at, (seconds, times)) in [
@@ -177,7 +177,7 @@ fn theirs_as_we_show_them() {
 /// fsck.fat prints the dates of two files of one name, seconds included.
 #[test]
 fn as_fsck_prints_them() {
-    let folder = blank_folder("dates-fsck");
+    let folder = formatted_folder("dates-fsck");
     folder
         .lfat("put -f card ROUTE.CUT path --at 2026-11-17T19:30:59")
         .done();

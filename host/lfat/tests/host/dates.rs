@@ -270,7 +270,7 @@ fn bad_texts() {
         "ls card",
         "get card ROUTE.CUT",
         "fits card 5",
-        "blank new",
+        "format new",
     ] {
         let line = format!("{line} --at 2026-11-17T19:30:58");
         folder.lfat(&line).failed(2, "unknown option --at");

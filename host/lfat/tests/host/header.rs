@@ -19,7 +19,7 @@ fn constants_source() -> String {
         source +=
             &format!("printf(\"%d %s\\n\", (int)LFAT_{code}, lfat_code_name(LFAT_{code}));\n");
     }
-    source += "printf(\"%s %s\\n\", lfat_code_name(19), lfat_code_name(0xFFFFFFFFu));\n\
+    source += "printf(\"%s %s\\n\", lfat_code_name(20), lfat_code_name(0xFFFFFFFFu));\n\
                printf(\"%lu %lu\\n\", (unsigned long)LFAT_CODE(UINT64_C(255) << 32 | 7), \
                (unsigned long)LFAT_COUNT(UINT64_C(255) << 32 | 7));\n\
                printf(\"%lx %d %d %d %d %d\\n\", (unsigned long)LFAT_NO_LIMIT, LFAT_SECTOR_BYTES, \
@@ -106,6 +106,17 @@ fn naming_source() -> String {
     )
 }
 
+/// The example that formats, over what comes on standard input; prints what it tells, and the card.
+fn formatting_source() -> String {
+    let example = example("Example: make an empty card");
+    assert!(example.contains("lfat_format(card, card_len, 16384, 2, 16, LFAT_NO_LIMIT)"));
+    format!(
+        "#include \"lfat.h\"\n#include <stdio.h>\nstatic uint8_t card[16384 * 512];\n\
+         int main(void) {{\nsize_t card_len = fread(card, 1, sizeof card, stdin);\n{{\n{example}\n}}\n\
+         fwrite(card, 1, card_len, stdout);\nreturn 0;\n}}\n"
+    )
+}
+
 /// An example that reads ROUTE.CUT; prints what it used.
 fn reading_source(words: &str) -> String {
     let example = example(words);
@@ -186,6 +197,14 @@ fn check(compiler: &str, standard: &str) -> Option<()> {
         assert_eq!(fitting.printed(&input), words.as_bytes(), "{bytes}");
     }
     assert_eq!(fitting.printed(&[b"1\n", &cut[..]].concat()), b"UNCLEAN\n");
+
+    let formatting = program("formatting", formatting_source())?;
+    let mut card = vec![0xA5; 16_384 * 512];
+    let short = [b"WINDOW\n", &card[512..]].concat();
+    assert!(formatting.printed(&card[512..]) == short);
+    let printed = formatting.printed(&card);
+    reference::format(&mut card, 16_384, 2, 16, u32::MAX);
+    assert!(printed == card);
 
     let whole = program(
         "whole",

@@ -3,8 +3,7 @@
 use crate::support::cli::Folder;
 use crate::support::random::Random;
 use crate::support::{points, spec};
-use lfat::blank::Blank;
-use lfat_card::{Answer, Card, DateTime, Name, Refusal};
+use lfat_card::{Card, DateTime, Name, Refusal};
 use std::fs::{self, OpenOptions};
 use testkit::dates::{random_seconds, LAST_SECOND};
 
@@ -97,13 +96,11 @@ fn same_as_in_memory() {
 #[test]
 fn largest_card() {
     let folder = Folder::new("largest");
-    folder
-        .lfat("blank card --clusters 65524 --cluster-sectors 64")
-        .done();
+    folder.lfat("format card --size 2G").done();
     let path = folder.path().join("card");
     assert_eq!(
         fs::metadata(&path).expect("the card").len(),
-        4_194_081 * 512
+        4_194_144 * 512
     );
     let data = points(100_000);
     folder.write("data", &data);
@@ -116,55 +113,11 @@ fn largest_card() {
     folder.lfat("info card").done();
 }
 
-/// Empty cards of many layouts are clean; what can be no card is not made.
-#[test]
-fn blank_cards() {
-    for (clusters, sectors_per_cluster, root_entries, log_sectors) in [
-        (4_085, 1, 512, 8),
-        (65_524, 1, 16, 128),
-        (5_000, 64, 512, 128),
-        (4_085, 2, 4_096, 2),
-    ] {
-        let blank = Blank {
-            clusters,
-            sectors_per_cluster,
-            root_entries,
-            log_sectors,
-        };
-        let (mut window, total) = blank.front().expect("a card");
-        window.resize(total * 512, 0);
-        assert_eq!(lfat_card::calls::list(&window, &mut []), Answer::Done(0));
-        let log = lfat_disk::volume::Volume::open(&window).and_then(|volume| volume.log());
-        assert_eq!(log.map(|log| log.len()), Some(log_sectors));
-    }
-    let folder = Folder::new("blank");
-    for (options, words) in [
-        ("--clusters 4084", "4085 to 65524"),
-        ("--clusters 65525", "4085 to 65524"),
-        ("--cluster-sectors 3", "1, 2, 4"),
-        ("--cluster-sectors 128", "1, 2, 4"),
-        ("--root-entries 500", "multiple of 16"),
-        ("--root-entries 0", "multiple of 16"),
-        ("--log-sectors 0", "1 to 128"),
-        ("--log-sectors 129", "1 to 128"),
-        ("--log-sectors 3 --cluster-sectors 2", "whole clusters"),
-        ("--clusters many", "no number"),
-    ] {
-        folder
-            .lfat(&format!("blank card {options}"))
-            .failed(2, words);
-        assert!(!folder.path().join("card").exists());
-    }
-    folder.write("card", b"something");
-    folder.lfat("blank card").failed(3, "card: File exists");
-    assert_eq!(folder.read("card"), b"something");
-}
-
 /// Two programs do not write to one image at the same time.
 #[test]
 fn image_in_use() {
     let folder = Folder::new("in-use");
-    folder.lfat("blank card").done();
+    folder.lfat("format card").done();
     let before = folder.read("card");
     let path = folder.path().join("card");
     let file = OpenOptions::new().write(true).open(path).expect("the card");

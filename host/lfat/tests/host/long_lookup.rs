@@ -2,7 +2,7 @@
 
 use crate::json::check;
 use crate::refusals::folder_with;
-use crate::support::long::{assert_clean, blank_folder, lfat, HULL};
+use crate::support::long::{assert_clean, formatted_folder, lfat, HULL};
 use crate::support::{card_with_route, mark_read_only, points, ALL};
 use testkit::cards::Card;
 use testkit::characters::bytes_of_text;
@@ -168,7 +168,7 @@ fn renamed_to_a_long_name() {
 /// Cut after every store: no such file, an empty one, or the whole one, and the log tells of the long name.
 #[test]
 fn cut() {
-    let folder = blank_folder("long-cut");
+    let folder = formatted_folder("long-cut");
     let card = folder.read("card");
     for limit in 0..10 {
         folder.write("card", &card);

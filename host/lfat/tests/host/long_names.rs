@@ -3,23 +3,14 @@
 use crate::json::check;
 use crate::refusals::folder_with;
 use crate::support::cli::{Folder, Run};
+use crate::support::long::tool;
 use crate::support::{card_with_route, mark_read_only, points};
 use reference::CardSpec;
-use std::process::Command;
 use testkit::cards::Card;
 
 /// Runs one of mtools on the card.
 fn mtool(folder: &Folder, program: &str, words: &[&str]) -> String {
-    let output = Command::new(program)
-        .args(["-i", "card"])
-        .args(words)
-        .current_dir(folder.path())
-        .envs([("MTOOLSRC", "/dev/null"), ("LC_ALL", "C.UTF-8")])
-        .output()
-        .expect("mtools is there");
-    let errors = String::from_utf8_lossy(&output.stderr);
-    assert!(output.status.success(), "{program} {words:?}: {errors}");
-    String::from_utf8_lossy(&output.stdout).into_owned()
+    tool(folder, program, &[&["-i", "card"], words].concat())
 }
 
 /// Names that mcopy writes, with what is told of each by `rm`.
@@ -31,11 +22,11 @@ const NAMES: [(&str, &str, &str); 5] = [
     ("KEEL.CUT", "KEEL.CUT", ""),
 ];
 
-/// A blank card with these names.
+/// A new card with these names.
 fn folder(name: &str) -> Folder {
     let folder = Folder::new(name);
     folder.write("path", &points(700));
-    folder.lfat("blank card").done();
+    folder.lfat("format card --size 4150s --log 8").done();
     for (name, _, _) in NAMES {
         mtool(&folder, "mcopy", &["path", &format!("::/{name}")]);
     }

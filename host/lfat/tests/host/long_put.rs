@@ -2,13 +2,13 @@
 
 use crate::json::check;
 use crate::refusals::folder_with;
-use crate::support::long::{assert_clean, blank_folder, lfat, tool, HULL};
+use crate::support::long::{assert_clean, formatted_folder, lfat, tool, HULL};
 use crate::support::points;
 use testkit::characters::bytes_of_text;
 
 #[test]
 fn put_and_read() {
-    let folder = blank_folder("long-put");
+    let folder = formatted_folder("long-put");
     let run = lfat(&folder, &["put", "card", HULL, "path"]).done();
     assert_eq!(
         run.text(),
@@ -73,8 +73,8 @@ fn put_and_read() {
 #[test]
 fn short_names_of_mtools() {
     let folder = folder_with("short-names", &[]);
-    folder.lfat("blank --root-entries 2048 card.new").done();
-    folder.lfat("blank --root-entries 2048 tool").done();
+    folder.lfat("format card.new").done();
+    folder.lfat("format tool").done();
     let mut names: Vec<String> = [
         "a+b=c;d,1.cut",
         "two.dots.in it",
@@ -163,7 +163,7 @@ fn capitals() {
 /// Characters outside 16 bits are surrogate pairs; 208 units are taken, 209 are not.
 #[test]
 fn characters_and_lengths() {
-    let folder = blank_folder("units");
+    let folder = formatted_folder("units");
     let boat = "\u{1F6F6}\u{1F6F6} σχέδιο 航路.cut";
     let run = lfat(&folder, &["put", "card", boat, "path"]).done();
     assert_eq!(

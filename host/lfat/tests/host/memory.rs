@@ -19,9 +19,7 @@ fn peak(folder: &Folder, line: &str) -> usize {
 #[test]
 fn a_large_file() {
     let folder = Folder::new("memory");
-    folder
-        .lfat("blank card --clusters 65524 --cluster-sectors 4")
-        .done();
+    folder.lfat("format card --size 128M").done();
     let data = points(48 << 20);
     folder.write("large", &data);
     folder.write("small", &data[..100_000]);
@@ -55,11 +53,25 @@ fn a_large_file() {
     assert!(peak(&folder, "put -f card LARGE small") < 20_000);
 }
 
+/// The largest card takes no more memory than its tables.
+#[test]
+fn a_new_card() {
+    let folder = Folder::new("memory-format");
+    for line in [
+        "format card --size 2G",
+        "format card",
+        "rack card format --depth 0 --random 0",
+    ] {
+        let most = peak(&folder, line);
+        assert!(most < 20_000, "{line}: {most} kB");
+    }
+}
+
 /// A source without an end does not fit, and is not read to the end that it has not.
 #[test]
 fn an_endless_file() {
     let folder = Folder::new("endless");
-    folder.lfat("blank card").done();
+    folder.lfat("format card").done();
     let card = folder.read("card");
     folder.lfat("put card A /dev/zero").failed(1, "NOSPACE");
     folder.lfat("put -f card A /dev/zero").failed(1, "NOSPACE");

@@ -87,7 +87,7 @@ fn paths_that_are_no_text() {
         .done();
     let back = std::fs::read(folder.path().join(word(b"b\xFFack")));
     assert_eq!(back.expect("written"), points(100));
-    let run = folder.lfat_words(&[word(b"blank"), word(b"n\xFFew")]);
+    let run = folder.lfat_words(&[word(b"format"), word(b"n\xFFew")]);
     run.done();
     let run = folder.lfat_words(&[
         word(b"rack"),

@@ -73,16 +73,14 @@ fn never_onto_the_card() {
 }
 
 #[test]
-fn a_failed_blank_leaves_nothing() {
-    let folder = folder_with("blank-failed", &[]);
+fn a_failed_format_leaves_nothing() {
+    let folder = folder_with("format-failed", &[]);
     let names = folder.names();
-    let run = folder.lfat_with_writes(0, "blank new");
-    assert_eq!(
-        run.failed(3, "new: No space left").errors().lines().count(),
-        1
-    );
+    let run = folder.lfat_with_writes(0, "format new");
+    let errors = run.failed(3, "lfat: new: No space left on device").errors();
+    assert!(errors.ends_with("(os error 28)\n"), "{errors}");
     folder
-        .lfat("blank no/such/folder")
+        .lfat("format no/such/folder")
         .failed(3, "No such file");
     assert_eq!(folder.names(), names);
 }

@@ -102,5 +102,5 @@ fn what_is_not_there() {
     let run = folder.lfat("recover other").failed(1, "BOOT");
     assert!(run
         .errors()
-        .contains("it has partitions 1 (type 0x83), 2 (type 0x06). Another is named as other:N."));
+        .contains("it has partitions 1 (type 0x83), 2 (type 0x06). Another is named as other:N;"));
 }

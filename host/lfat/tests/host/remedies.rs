@@ -1,6 +1,7 @@
 //! What a refusal or a recovery tells the user to do, and that it can be done.
 
 use crate::refusals::folder_with;
+use crate::support::long::tool;
 use crate::support::{card_with_route, points, set_fats, ROUTE};
 use reference::card_k;
 use std::fs::OpenOptions;
@@ -28,8 +29,8 @@ fn what_is_missing() {
         .lfat("")
         .failed(2, "COMMAND is missing; 'lfat --help'");
     folder
-        .lfat("format card")
-        .failed(2, "there is no command 'format'; 'lfat --help'");
+        .lfat("blank card")
+        .failed(2, "there is no command 'blank'; 'lfat --help'");
 }
 
 /// A put that is cut between its two calls leaves an empty file; what the next put says helps.
@@ -103,29 +104,23 @@ fn no_room_beside_the_old_bytes() {
     }
 }
 
-/// A card without a log: what the refusal says leads to one that has it.
+/// A card without a log, as other systems make it: what the refusal says leads to one that has it.
 #[test]
 fn a_card_without_a_log() {
     let folder = folder_with("no-log", &[]);
-    folder.lfat("blank made").done();
-    folder.lfat("put made ROUTE.CUT path").done();
-    let mut card = folder.read("made");
-    (2..10).for_each(|cluster| set_fats(&mut card, cluster, 0));
-    folder.write("card", &card);
-    folder
-        .lfat("ls card")
-        .failed(1, "'lfat blank NEW.IMG' makes a card that is");
-    folder.lfat("blank NEW.IMG").done();
-    let status = Command::new("mcopy")
-        .args(["-i", "card", "::ROUTE.CUT", "off"])
-        .current_dir(folder.path())
-        .status();
-    assert!(status.expect("mtools is there").success());
-    folder.lfat("put NEW.IMG ROUTE.CUT off").done();
-    assert_eq!(
-        folder.lfat("get NEW.IMG ROUTE.CUT").done().bytes(),
-        points(1_300)
+    tool(
+        &folder,
+        "mkfs.fat",
+        &["-F", "16", "-s", "1", "-C", "made", "4096"],
     );
+    tool(&folder, "mcopy", &["-i", "made", "path", "::ROUTE.CUT"]);
+    let line = "Copy the files off with any FAT program; then 'lfat format --yes' makes it an empty card with a log, and 'lfat put' puts them back.\n";
+    folder.lfat("ls made").failed(1, line);
+    tool(&folder, "mcopy", &["-i", "made", "::ROUTE.CUT", "off"]);
+    folder.lfat("format --yes made").done();
+    folder.lfat("put made ROUTE.CUT off").done();
+    let back = folder.lfat("get made ROUTE.CUT").done();
+    assert_eq!(back.bytes(), points(1_300));
 }
 
 /// What recovery did, in words: dropped, finished, nothing. An append of four sectors; a replace by three.

@@ -45,10 +45,10 @@ fn wrong_usage() {
     let folder = folder_with("usage", &card);
     folder.lfat("").failed(2, "COMMAND is missing");
     folder
-        .lfat("format card")
-        .failed(2, "there is no command 'format'");
+        .lfat("blank card")
+        .failed(2, "there is no command 'blank'");
     for line in [
-        "blank", "ls", "get", "fits", "put", "append", "truncate", "rm", "mv", "recover", "log",
+        "format", "ls", "get", "fits", "put", "append", "truncate", "rm", "mv", "recover", "log",
         "info", "rack",
     ] {
         let run = folder.lfat(line).failed(2, "lfat: IMAGE ");

@@ -1,18 +1,23 @@
-//! The worked card in C: all twelve calls.
+//! The worked card in C: all thirteen calls.
 
 use crate::support::c::{build, top};
 use crate::support::cli::Folder;
 use std::process::Stdio;
 
 #[test]
-fn all_twelve_calls() {
+fn all_thirteen_calls() {
     let folder = Folder::new("worked-card");
     let program = folder.path().join("worked");
     build("gcc", "c99", &top().join("examples/worked.c"), &program).expect("gcc is there");
     let run = folder.run(&program, "", Stdio::null()).done();
     let text = run.text();
-    assert_eq!(text.lines().count(), 58);
+    assert_eq!(text.lines().count(), 64);
     for line in [
+        "    format, 3 sectors per cluster: SIZE 0",
+        "    format, a sector more than there is: WINDOW 0",
+        "    format, cut after 73 stores: STOPPED 73",
+        "    no card until formatted: BOOT 0",
+        "    format: DONE 74",
         "    fits, no bytes: DONE 0",
         "    fits 1300, in clusters 10 to 12: DONE 12",
         "    fits, a byte more: NO 0",

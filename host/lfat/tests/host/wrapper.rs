@@ -104,7 +104,7 @@ fn names_as_the_library_has_them() {
 
 #[test]
 fn refusals_are_errors() {
-    for number in 1..=18 {
+    for number in 1..=19 {
         let refusal = Refusal::with_number(number).expect("a ground");
         assert_eq!(refusal.number(), number);
         let error: Box<dyn std::error::Error> = Box::new(refusal);
@@ -112,7 +112,7 @@ fn refusals_are_errors() {
         assert!(text.starts_with(refusal.name()) && text.ends_with(refusal.meaning()));
     }
     assert_eq!(Refusal::with_number(0), None);
-    assert_eq!(Refusal::with_number(19), None);
+    assert_eq!(Refusal::with_number(20), None);
 }
 
 #[test]

@@ -6,7 +6,7 @@ use crate::root::UNUSED;
 use crate::store::{Store, SECTOR_BYTES};
 use crate::volume::Volume;
 
-const MOST_SECTORS: u32 = 128;
+pub const MOST_LOG_SECTORS: u32 = 128;
 
 /// The log table and the sector at which it starts on the card.
 #[derive(Clone, Copy)]
@@ -29,7 +29,7 @@ impl<'a> Journal<'a> {
         }
         let clusters = u32::from(last - first) + 1;
         let sectors = clusters * volume.geometry.sectors_per_cluster;
-        if sectors > MOST_SECTORS {
+        if sectors > MOST_LOG_SECTORS {
             return Err(Ground::Logarea);
         }
         let first_sector = volume.geometry.cluster_start(first);

@@ -4,6 +4,6 @@ mod area;
 pub mod record;
 mod scan;
 
-pub use area::Journal;
+pub use area::{Journal, MOST_LOG_SECTORS};
 pub use record::Record;
 pub use scan::{scan, PendingGroup};

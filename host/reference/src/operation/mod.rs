@@ -4,6 +4,7 @@ mod append;
 mod create;
 mod create_long;
 mod delete;
+mod format;
 mod rename;
 mod replace;
 mod truncate;
@@ -13,6 +14,7 @@ use crate::program::Program;
 use crate::recovery;
 use crate::store::{self, Store};
 use crate::transaction::Planned;
+use format::FreshCard;
 
 /// A writing call with what it was given. Seconds are those since 1980 began.
 #[derive(Clone, Copy, Debug, PartialEq, Eq)]
@@ -50,9 +52,15 @@ pub enum Operation<'a> {
         new: &'a [u8],
     },
     Recover,
+    /// An empty card of so many sectors.
+    Format {
+        total: u32,
+        per_cluster: u32,
+        log_clusters: u32,
+    },
 }
 
-/// The call's plan, unless it is the recovery.
+/// The call's plan, if it is one that the log holds.
 fn planned<'a, 'd>(
     card: &'a [u8],
     operation: &Operation<'d>,
@@ -81,24 +89,38 @@ fn planned<'a, 'd>(
         } => truncate::plan(card, name, size, seconds),
         Operation::Delete { name } => delete::plan(card, name),
         Operation::Rename { old, new } => rename::plan(card, old, new),
-        Operation::Recover => return None,
+        Operation::Recover | Operation::Format { .. } => return None,
     })
+}
+
+/// The card that a format is to make.
+fn fresh(card: &[u8], operation: &Operation) -> Option<Result<FreshCard, Ground>> {
+    match *operation {
+        Operation::Format {
+            total,
+            per_cluster,
+            log_clusters,
+        } => Some(format::plan(card, total, per_cluster, log_clusters)),
+        _ => None,
+    }
 }
 
 /// The stores that the call would make on the card as it stands, given a large
 /// enough limit.
 pub fn plan(card: &[u8], operation: &Operation) -> Result<Vec<Store>, Ground> {
-    match planned(card, operation) {
-        Some(planned) => planned.map(Planned::stores),
-        None => recovery::plan(card),
+    match (planned(card, operation), fresh(card, operation)) {
+        (Some(planned), _) => planned.map(Planned::stores),
+        (_, Some(fresh)) => fresh.map(|fresh| fresh.stores()),
+        _ => recovery::plan(card),
     }
 }
 
 /// The same stores in segments. Bytes of the caller's data are borrowed.
 pub fn program<'d>(card: &[u8], operation: &Operation<'d>) -> Result<Program<'d>, Ground> {
-    match planned(card, operation) {
-        Some(planned) => planned.map(Planned::program),
-        None => recovery::program(card),
+    match (planned(card, operation), fresh(card, operation)) {
+        (Some(planned), _) => planned.map(Planned::program),
+        (_, Some(fresh)) => fresh.map(|fresh| fresh.program()),
+        _ => recovery::program(card),
     }
 }
 
@@ -186,4 +208,23 @@ pub fn rename(card: &mut [u8], old: &[u8], new: &[u8], limit: u32) -> Answer {
 /// Finishes or undoes what a power cut left behind.
 pub fn recover(card: &mut [u8], limit: u32) -> Answer {
     run(card, &Operation::Recover, limit)
+}
+
+/// Writes an empty card, with its log in the clusters from 2 on.
+pub fn format(
+    card: &mut [u8],
+    total: u32,
+    per_cluster: u32,
+    log_clusters: u32,
+    limit: u32,
+) -> Answer {
+    run(
+        card,
+        &Operation::Format {
+            total,
+            per_cluster,
+            log_clusters,
+        },
+        limit,
+    )
 }

@@ -2,7 +2,7 @@
 
 use reference::{Answer, Ground};
 
-const WORDS: [&str; 18] = [
+const WORDS: [&str; 19] = [
     "SHORT",
     "BOOT",
     "WINDOW",
@@ -21,6 +21,7 @@ const WORDS: [&str; 18] = [
     "LOCKED",
     "LONGNAME",
     "CLOCK",
+    "SIZE",
 ];
 
 #[test]
@@ -43,4 +44,5 @@ fn answers_encode_as_code_and_count() {
     assert_eq!(Answer::Refused(Ground::Locked).encode(), 16 << 32);
     assert_eq!(Answer::Refused(Ground::Longname).encode(), 17 << 32);
     assert_eq!(Answer::Refused(Ground::Clock).encode(), 18 << 32);
+    assert_eq!(Answer::Refused(Ground::Size).encode(), 19 << 32);
 }

@@ -3,6 +3,7 @@
 use crate::support::{pattern, planned_sectors};
 use reference::*;
 use testkit::cards::Card;
+use testkit::fresh::FRESH_K;
 use testkit::{ALL, AT, OTHER, PANEL, ROUTE};
 
 /// Card K with a file and a full log.
@@ -72,6 +73,7 @@ fn every_operation() {
             old: ROUTE,
             new: OTHER,
         },
+        FRESH_K.operation(),
     ] {
         check_every_limit(&card.bytes, &operation);
     }

@@ -4,30 +4,46 @@
 //! that there are 4,085 to 65,524 clusters: sectors of 512 bytes, N sectors per cluster, 2 FATs, 1 reserved sector, root entries
 //! a multiple of 16, nothing rounded up for alignment. It has no log: the run of clusters is marked 0xFFF6 in both FATs here.
 //! fsck.fat 4.2 takes 0xFFF6 for a link out of range, so it is given a copy whose run is marked 0xFFF7, bad.
+//!
+//! A card that the library formatted has zeros where mkfs.fat writes heads, sectors per track and a label. mtools 4.0 take it if
+//! MTOOLS_SKIP_CHECK is set; fsck.fat asks for a label, so the copy gets one.
 
-use std::path::PathBuf;
+use lfat_card::calls;
+use std::fs::File;
+use std::io::Write;
+use std::ops::Range;
+use std::path::{Path, PathBuf};
 use std::process::{Command, Output};
+use testkit::fresh::Fresh;
 use testkit::mtools::free_bytes;
+use testkit::ALL;
 
-const LOG: std::ops::Range<usize> = 40..44;
+/// The clusters of the log on a card that mkfs.fat made.
+const LOG: Range<usize> = 40..44;
 
-fn run(program: &str, arguments: &[&str]) -> Output {
+fn command(program: &str, arguments: &[&str]) -> Command {
     let path = std::env::var("PATH").unwrap_or_default() + ":/usr/sbin:/sbin";
-    Command::new(program)
+    let mut command = Command::new(program);
+    command
         .args(arguments)
         .env("PATH", path)
         .env("MTOOLSRC", "/dev/null")
         .env("LC_ALL", "C.UTF-8")
-        .env("TZ", "UTC")
-        .output()
-        .unwrap_or_else(|error| panic!("{program} of dosfstools or mtools: {error}"))
+        .env("TZ", "UTC");
+    command
+}
+
+fn run(mut command: Command) -> Output {
+    let output = command.output();
+    output.unwrap_or_else(|error| panic!("{command:?} of dosfstools or mtools: {error}"))
 }
 
 /// What a tool prints; it must succeed.
-fn printed(program: &str, arguments: &[&str]) -> Vec<u8> {
-    let output = run(program, arguments);
+fn printed(command: Command) -> Vec<u8> {
+    let words = format!("{command:?}");
+    let output = run(command);
     let errors = String::from_utf8_lossy(&output.stderr);
-    assert!(output.status.success(), "{program} {arguments:?}: {errors}");
+    assert!(output.status.success(), "{words}: {errors}");
     output.stdout
 }
 
@@ -35,6 +51,9 @@ fn printed(program: &str, arguments: &[&str]) -> Vec<u8> {
 pub struct Image {
     pub file: PathBuf,
     pub card: Vec<u8>,
+    log: Range<usize>,
+    /// Formatted by the library.
+    is_fresh: bool,
 }
 
 impl Image {
@@ -44,7 +63,7 @@ impl Image {
         kib: usize,
         root_entries: usize,
     ) -> Image {
-        let file = PathBuf::from(env!("CARGO_TARGET_TMPDIR")).join(name);
+        let file = path_of(name);
         let _ = std::fs::remove_file(&file);
         let options = format!(
             "-F 16 -S 512 -s {sectors_per_cluster} -f 2 -R 1 -r {root_entries} -a -n WORKSHOP -C"
@@ -52,13 +71,35 @@ impl Image {
         let (path, kib) = (file.to_str().expect("plain path"), kib.to_string());
         let mut arguments: Vec<&str> = options.split(' ').collect();
         arguments.extend([path, &kib]);
-        printed("mkfs.fat", &arguments);
+        printed(command("mkfs.fat", &arguments));
         let mut image = Image {
             card: Vec::new(),
             file,
+            log: LOG,
+            is_fresh: false,
         };
         image.load();
-        mark_log(&mut image.card, 0xFFF6);
+        mark_log(&mut image.card, LOG, 0xFFF6);
+        image.save();
+        image
+    }
+
+    /// A card that the library formats in a window of these bytes.
+    pub fn fresh(name: &str, asked: Fresh, byte: u8) -> Image {
+        let Fresh {
+            total,
+            per_cluster,
+            log_clusters,
+        } = asked;
+        let mut card = vec![byte; asked.window()];
+        let answer = calls::format(&mut card, total, per_cluster, log_clusters, ALL);
+        assert_eq!(answer, calls::Answer::Done(asked.stores()), "{asked:?}");
+        let image = Image {
+            card,
+            file: path_of(name),
+            log: 2..2 + log_clusters as usize,
+            is_fresh: true,
+        };
         image.save();
         image
     }
@@ -68,12 +109,16 @@ impl Image {
     }
 
     pub fn save(&self) {
-        std::fs::write(&self.file, &self.card).expect("the image");
+        write(&self.file, &self.card).expect("the image");
     }
 
     pub fn tool(&self, program: &str, arguments: &[&str]) -> Vec<u8> {
         let file = self.file.to_str().expect("plain path");
-        printed(program, &[&["-i", file], arguments].concat())
+        let mut command = command(program, &[&["-i", file], arguments].concat());
+        if self.is_fresh {
+            command.env("MTOOLS_SKIP_CHECK", "1");
+        }
+        printed(command)
     }
 
     /// Has mtools write a file, over one that is there.
@@ -110,9 +155,14 @@ impl Image {
     pub fn checked(&self) -> (bool, String) {
         let copy = self.file.with_extension("copy");
         let mut card = self.card.clone();
-        mark_log(&mut card, 0xFFF7);
-        std::fs::write(&copy, card).expect("the copy");
-        let output = run("fsck.fat", &["-n", copy.to_str().expect("plain path")]);
+        mark_log(&mut card, self.log.clone(), 0xFFF7);
+        if self.is_fresh {
+            card[38] = 0x29;
+            card[43..54].copy_from_slice(b"NO NAME    ");
+        }
+        write(&copy, &card).expect("the copy");
+        let path = copy.to_str().expect("plain path");
+        let output = run(command("fsck.fat", &["-n", path]));
         std::fs::remove_file(copy).expect("the copy");
         let text = String::from_utf8_lossy(&output.stdout).into_owned();
         (output.status.success(), text)
@@ -125,11 +175,26 @@ impl Drop for Image {
     }
 }
 
+/// Writes a file, but for the zeros at its end, which a file system need not keep.
+fn write(path: &Path, bytes: &[u8]) -> std::io::Result<()> {
+    let block = [0; 4_096];
+    let mut blocks = bytes.chunks(block.len());
+    let last = blocks.rposition(|part| *part != block[..part.len()]);
+    let used = last.map_or(0, |last| (last + 1) * block.len());
+    let mut file = File::create(path)?;
+    file.write_all(&bytes[..used.min(bytes.len())])?;
+    file.set_len(bytes.len() as u64)
+}
+
+fn path_of(name: &str) -> PathBuf {
+    PathBuf::from(env!("CARGO_TARGET_TMPDIR")).join(name)
+}
+
 /// Marks the log's clusters in both FATs.
-fn mark_log(card: &mut [u8], value: u16) {
+fn mark_log(card: &mut [u8], log: Range<usize>, value: u16) {
     let fat_bytes = 512 * usize::from(u16::from_le_bytes([card[22], card[23]]));
     for fat in [512, 512 + fat_bytes] {
-        for cluster in LOG {
+        for cluster in log.clone() {
             card[fat + 2 * cluster..][..2].copy_from_slice(&value.to_le_bytes());
         }
     }

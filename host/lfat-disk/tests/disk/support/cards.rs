@@ -126,6 +126,7 @@ impl fmt::Debug for Verb {
             Operation::Delete { .. } => "delete".to_string(),
             Operation::Rename { .. } => "rename".to_string(),
             Operation::Recover => "recover".to_string(),
+            Operation::Format { total, .. } => format!("format {total} sectors"),
         };
         match self {
             Verb::Calls(calls) => {

@@ -3,6 +3,13 @@
 use std::path::{Path, PathBuf};
 use std::process::Command;
 
+/// The library, where `lfat-card` is linked with it too.
+fn library() -> PathBuf {
+    let folder = std::env::var_os("LFAT_LIB_DIR").map(PathBuf::from);
+    let folder = folder.unwrap_or_else(|| top().join("target/staticlib"));
+    folder.join("liblfat.a")
+}
+
 /// The top of the repository.
 pub fn top() -> PathBuf {
     Path::new(env!("CARGO_MANIFEST_DIR")).join("../..")
@@ -16,7 +23,7 @@ pub fn build(compiler: &str, standard: &str, source: &Path, program: &Path) -> O
         .arg("-I")
         .arg(top().join("include"))
         .arg(source)
-        .arg(top().join("target/staticlib/liblfat.a"))
+        .arg(library())
         .arg("-o")
         .arg(program)
         .output()

@@ -20,6 +20,7 @@ pub fn tool(folder: &Folder, program: &str, words: &[&str]) -> String {
         .current_dir(folder.path())
         .envs([
             ("MTOOLSRC", "/dev/null"),
+            ("MTOOLS_SKIP_CHECK", "1"),
             ("LC_ALL", "C.UTF-8"),
             ("PATH", &path),
         ])
@@ -30,18 +31,21 @@ pub fn tool(folder: &Folder, program: &str, words: &[&str]) -> String {
     String::from_utf8_lossy(&output.stdout).into_owned()
 }
 
-/// A folder with a blank card, on which ROUTE.CUT is, and the file `path`, both of 1,300 bytes.
-pub fn blank_folder(name: &str) -> Folder {
+/// A folder with a new card, laid out as card K, on which ROUTE.CUT is, and the file `path`, both of 1,300 bytes.
+pub fn formatted_folder(name: &str) -> Folder {
     let folder = Folder::new(name);
     folder.write("path", &points(1_300));
-    folder.lfat("blank card").done();
+    folder.lfat("format card --size 4150s --log 8").done();
     folder.lfat("put card ROUTE.CUT path").done();
     folder
 }
 
-/// fsck.fat finds nothing on a blank card with files; the log's clusters are marked bad for it, which it knows.
+/// fsck.fat finds nothing on a new card with files. It is given a copy: the log's clusters are marked bad there, which it knows, and the
+/// boot sector has a label, which it asks for.
 pub fn assert_clean(folder: &Folder) {
     let mut copy = folder.read("card");
+    copy[38] = 0x29;
+    copy[43..54].copy_from_slice(b"NO NAME    ");
     for fat in [1, 17] {
         for cluster in 2..10 {
             copy[fat * 512 + 2 * cluster] = 0xF7;
