@@ -2,40 +2,39 @@
 use Prim.Native.Nat.{ℕ, _+_, _-_, _*_, _/_, _%_, _≤_, _<_}
 use native.Mathlib.Omega.{arith}
 use mathlib.Core.Path.{_≡_, refl, sym, ap, _∙_}
-use mathlib.Core.Logic.{⊎-elim, inl}
-use mathlib.Core.Bool.{true, false, not}
-use mathlib.Core.List.{List, [], _∷_, _++_, map}
-use lib.Dec.{ltb, leb, eqb}
+use mathlib.Core.Logic.{inl}
+use mathlib.Core.Bool.{true, not}
+use mathlib.Core.List.{[], _∷_, _++_, map}
+use lib.Dec.{ltb}
 use borrow.Author.Tests.{lt-ltb, le-ltb}
-use Rattle.model.specs.Bytes.{Bytes, pick, zeros}
+use Rattle.model.specs.Bytes.{Bytes, zeros}
 use Rattle.model.specs.Scan.{range}
 use Rattle.model.specs.Sector.{Card, Window, Store, clip, store, put, after}
 use Rattle.model.specs.Boot.{layout, arrange, boot-ok}
-use Rattle.model.specs.Fat.{Fat, fat1-of, fat2-of, entry, fats-agree}
+use Rattle.model.specs.Fat.{fat1-of, fat2-of, entry, fats-agree}
 use Rattle.model.specs.Chain.{cluster-sector}
 use Rattle.model.specs.Root.{root-place, slot-at, first-bytes, root-ok}
 use Rattle.model.specs.Log.{area, run, run-ok, log-of}
-use Rattle.model.specs.Pending.{pending, pending-in}
+use Rattle.model.specs.Pending.{pending}
 use Rattle.model.specs.Ground.{granted}
 use Rattle.model.specs.Volume.{mount, locate, clean}
 use Rattle.model.specs.Promises.{Shape}
 use Rattle.model.specs.declared.Area.{Area}
 use Rattle.model.specs.declared.Fields.{Fields}
 use Rattle.model.specs.declared.Layout.{Layout}
-use Rattle.model.specs.declared.Volume.{Volume}
 use Rattle.model.specs.declared.Pending.the-variants as Pending
 use Rattle.model.specs.declared.Ground.the-variants as Ground
-use Rattle.model.proofs.All.{All, all-image}
+use Rattle.model.proofs.All.{all-image}
 use Rattle.model.proofs.Indices.{indices-all0, indices-has0}
-use Rattle.model.proofs.Cards.{clip-clip, put-in, put-out, after-append, after-snoc}
-use Rattle.model.proofs.Changes.{Covers, covers-image, after-is}
+use Rattle.model.proofs.Cards.{clip-clip, put-in, put-out, after-snoc}
+use Rattle.model.proofs.Changes.{covers-image, after-is}
 use Rattle.model.proofs.Fats.{entry-clip, agree-of}
-use Rattle.model.proofs.Order.{Ordered, ordered-ok}
+use Rattle.model.proofs.Order.{ordered-ok}
 use Rattle.model.proofs.Pendings.{Quiet, quiet-zeros, quiet-calm}
 use Rattle.model.proofs.Grounds.{passed}
-use Rattle.model.proofs.Volumes.{layout-of, first-fat, area-of, volume-of, Fit, clean-same}
+use Rattle.model.proofs.Volumes.{layout-of, area-of, Fit, clean-same}
 use Rattle.operations.specs.Program.{stores}
-use Rattle.formatting.specs.Fresh.{fresh-boot, fresh-fat, fresh-entry, fresh-fields}
+use Rattle.formatting.specs.Fresh.{fresh-boot, fresh-fat, fresh-entry}
 use Rattle.formatting.specs.Format.{form-ok, fresh-volume, fresh-table, fresh-tables, format-stores}
 use Rattle.formatting.proofs.Boot.{Stands, layout-read, boot-read}
 use Rattle.formatting.proofs.Fat.{fresh-read, run-is, run-fine}

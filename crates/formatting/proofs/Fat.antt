@@ -1,18 +1,15 @@
 -- The FAT of a fresh card: its entries, and where LOGAREA finds the log.
-use Prim.Native.Nat.{ℕ, _+_, _-_, _*_, _/_, _%_, _^_, _<_, _≤_}
+use Prim.Native.Nat.{ℕ, _+_, _-_, _*_, _/_, _%_, _<_, _≤_}
 use native.Mathlib.Omega.{arith}
-use mathlib.Core.Path.{_≡_, refl, sym, ap, _∙_}
-use mathlib.Core.Logic.{_⊎_, inl, inr, ⊎-elim}
-use mathlib.Core.Bool.{Bool, true, false, _&&_, not}
-use lib.Dec.{eqb, leb, ltb}
-use borrow.Author.Tests.{lt-ltb, le-ltb, ne-eqb, eq-eqb, le-leb, lt-leb}
-use Rattle.model.specs.Bytes.{Bytes, le, byte-of, pick}
-use Rattle.model.specs.Scan.{every}
-use Rattle.model.specs.Fat.{Fat, wide-entry, entry, is-free, is-reserved}
+use mathlib.Core.Path.{_≡_}
+use mathlib.Core.Logic.{_⊎_, ⊎-elim}
+use mathlib.Core.Bool.{true, not}
+use borrow.Author.Tests.{lt-ltb, le-ltb, ne-eqb, eq-eqb, le-leb}
+use Rattle.model.specs.Bytes.{le, byte-of}
+use Rattle.model.specs.Fat.{Fat, wide-entry, entry}
 use Rattle.model.specs.Log.{marked, run, run-ok, most-sectors}
 use Rattle.model.specs.declared.Layout.{Layout}
-use Rattle.model.specs.declared.Run.{Run}
-use Rattle.model.proofs.Tests.{less?, same?, each-every, by-pick}
+use Rattle.model.proofs.Tests.{less?, same?, each-every}
 use Rattle.model.proofs.Scan.{first-is, all-of}
 use Rattle.model.proofs.Searches.{count-add, count-all, count-zero}
 use Rattle.formatting.specs.Fresh.{wide-fat, log-mark, fresh-entry, fresh-fat}

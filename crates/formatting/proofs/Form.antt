@@ -7,14 +7,13 @@ use mathlib.Core.Logic.{_⊎_, inl, inr}
 use mathlib.Core.Bool.{Bool, true, false, not}
 use lib.Dec.{ltb}
 use borrow.Author.Tests.{leb-true, not-false, ltb-false}
-use Rattle.model.specs.Scan.{every, first-from}
+use Rattle.model.specs.Scan.{first-from}
 use Rattle.model.specs.Sector.{Window}
 use Rattle.model.specs.Boot.{arrange, fields-ok, size-ok, fat-holds}
 use Rattle.model.specs.Log.{most-sectors}
 use Rattle.model.specs.Ground.{refused, granted, _when_, _>>_}
 use Rattle.model.specs.Promises.{Shape}
 use Rattle.model.specs.declared.Fields.{Fields}
-use Rattle.model.specs.declared.Layout.{Layout}
 use Rattle.model.specs.declared.Ground.the-variants as Ground
 use Rattle.model.proofs.Tests.{told, every-at}
 use Rattle.model.proofs.Scan.{first-le, first-ge}

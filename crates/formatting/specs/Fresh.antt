@@ -1,13 +1,12 @@
 -- A fresh card: its numbers, its boot sector and its FATs.
 use Prim.Native.Nat.{ℕ, _+_, _-_, _*_, _/_, _%_}
-use mathlib.Core.Bool.{Bool, _&&_}
+use mathlib.Core.Bool.{_&&_}
 use lib.Dec.{leb, ltb, eqb}
 use Rattle.model.specs.Bytes.{Bytes, pick, patch, byte-of, zeros}
 use Rattle.model.specs.Scan.{first-from}
 use Rattle.model.specs.Boot.{arrange, fat-holds}
 use Rattle.model.specs.Fat.{Fat}
 use Rattle.model.specs.declared.Fields.{Fields}
-use Rattle.model.specs.declared.Layout.{Layout}
 
 -- ---- the numbers
 

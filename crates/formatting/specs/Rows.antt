@@ -1,20 +1,19 @@
 -- Fresh cards worked out by hand, as numbers: sizes, sectors stored, bytes, grounds.
-use Prim.Native.Nat.{ℕ, _+_, _*_}
+use Prim.Native.Nat.{ℕ, _+_}
 use mathlib.Core.Path.{_≡_}
 use mathlib.Core.List.{List, [], _∷_, _++_, map}
 use mathlib.Core.Bool.{Bool, true, false}
-use lib.ListN.{getD, length, replicate}
-use Rattle.model.specs.Bytes.{Bytes, zeros, le}
+use lib.ListN.{getD, replicate}
+use Rattle.model.specs.Bytes.{zeros, le}
 use Rattle.model.specs.Scan.{range}
 use Rattle.model.specs.Sector.{Card, Window, Store, store}
 use Rattle.model.specs.Boot.{arrange}
-use Rattle.model.specs.Ground.{Answer, refused, granted}
 use Rattle.model.specs.declared.Ground.the-variants as Ground
 use Rattle.model.specs.declared.Outcome.{Outcome}
 use Rattle.model.specs.declared.Outcome.the-variants.{Refused, Done, Stopped}
-use Rattle.operations.specs.Program.{Program, stores}
-use Rattle.operations.specs.Outcome.{outcome, made, largest, outcome-number}
-use Rattle.formatting.specs.Fresh.{fewest, fresh-fields, fresh-boot, fresh-fat, write-fields}
+use Rattle.operations.specs.Program.{stores}
+use Rattle.operations.specs.Outcome.{outcome, largest, outcome-number}
+use Rattle.formatting.specs.Fresh.{fewest, fresh-fields, fresh-boot}
 use Rattle.formatting.specs.Format.{form-ok, format-stores, format}
 
 -- The FAT size of a card of so many sectors, so many to a cluster, and its clusters; whether there is such a card, with so long a log.

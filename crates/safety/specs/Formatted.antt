@@ -10,7 +10,7 @@ use Rattle.model.specs.Bytes.{Bytes, Span}
 use Rattle.model.specs.Sector.{Window, Store, after}
 use Rattle.model.specs.Boot.{fields, arrange, fat-holds}
 use Rattle.model.specs.Fat.{fat1-of, entry, is-free}
-use Rattle.model.specs.Ground.{Answer, refused, granted}
+use Rattle.model.specs.Ground.{refused, granted}
 use Rattle.model.specs.Volume.{examine, clean}
 use Rattle.model.specs.declared.Volume.{Volume}
 use Rattle.model.specs.declared.Outcome.the-variants.{Done}

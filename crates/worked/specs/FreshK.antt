@@ -1,7 +1,7 @@
 -- Card K from the bench: a window of garbage, formatted with 4,150 sectors, 1 per cluster and 8 log clusters.
-use Prim.Native.Nat.{ℕ, _*_}
+use Prim.Native.Nat.{_*_}
 use mathlib.Core.Path.{_≡_}
-use mathlib.Core.List.{List, [], _∷_, map}
+use mathlib.Core.List.{[], _∷_, map}
 use Rattle.model.specs.Sector.{Card, Window}
 use Rattle.model.specs.Ground.{granted}
 use Rattle.model.specs.Volume.{clean}

@@ -1,4 +1,3 @@
-use mathlib.Core.Path.{_∙_}
 use Rattle.call_format.proofs.Laws.{fat-low, fat-high}
 use borrow.Author.Needs.{needs}
 use Rattle.call_format.proofs.fat_byte.Statement.{statement}

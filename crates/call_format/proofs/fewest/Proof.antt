@@ -2,16 +2,12 @@ use Prim.Native.Nat.{_-_, _≤_}
 use native.Mathlib.Omega.{arith}
 use mathlib.Core.Path.{_∙_, sym, ap}
 use mathlib.Core.Bool.{false}
-use Rattle.model.specs.Boot.{fields-ok, arrange, fat-holds}
+use Rattle.model.specs.Boot.{arrange, fat-holds}
 use Rattle.model.proofs.Scan.{Sofar, sofar-none, sofar-more}
 use Rattle.call_format.proofs.Laws.{plain-with, narrow-with, holds-with, fewest-here, fewest-past}
 use borrow.Author.Needs.{needs}
 use Rattle.call_format.proofs.fewest.Statement.{statement}
 use Rattle.call_format.proofs.fewest.Tie as tie
-use Rattle.call_format.proofs.fewest.Reads as reads
-use Rattle.call_format.proofs.fewest.Lts as lts
-use Rattle.boot.proofs.fat_holds.Reads as fat-holds-reads
-use Rattle.call_format.proofs.with_fats.Reads as with-fats-reads
 
 abbrev Inv-loop : tie.InvT-loop
 Inv-loop total factor n₀ n = (1 ≤ n) × (n ≤ 65535) × Sofar (holds-with total factor) false 1 n

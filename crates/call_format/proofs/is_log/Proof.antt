@@ -1,6 +1,5 @@
 use native.Mathlib.Omega.{arith}
 use borrow.Author.Tests.{le-leb}
-use borrow.Author.Needs.{needs}
 use Rattle.call_format.proofs.Laws.{log-none, log-many, log-product}
 use Rattle.call_format.proofs.is_log.Statement.{statement}
 use Rattle.call_format.proofs.is_log.Tie as tie

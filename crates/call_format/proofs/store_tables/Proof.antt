@@ -1,10 +1,10 @@
 use mathlib.Core.Path.{_≡_, refl}
 use mathlib.Core.Bool.{true}
-use Prim.Native.Nat.{_+_, _-_, _*_, _≤_, _<_}
+use Prim.Native.Nat.{_-_, _*_, _≤_, _<_}
 use native.Mathlib.Omega.{arith}
 use lib.ListN.{length}
 use borrow.Author.Tests.{not-true, not-false}
-use Rattle.model.specs.Promises.{Held, Ran, up-to}
+use Rattle.model.specs.Promises.{Ran, up-to}
 use Rattle.model.proofs.Runs.{turns-none, turns-more, turns-cut}
 use Rattle.formatting.proofs.Card.{tables}
 use Rattle.call_format.proofs.Laws.{log-product, table-turn, table-turns, tables-within}

@@ -2,10 +2,6 @@ use Rattle.lfat.proofs.Laws.{called}
 use borrow.Author.Needs.{needs}
 use Rattle.lfat.proofs.lfat_format.Statement.{statement}
 use Rattle.lfat.proofs.lfat_format.Tie as tie
-use Rattle.lfat.proofs.lfat_format.Reads as reads
-use Rattle.lfat.proofs.lfat_format.Lts as lts
-use Rattle.lfat.proofs.number_of.Reads as number-of-reads
-use Rattle.call_format.proofs.format.Reads as format-reads
 
 returns : tie.Need-returns
 returns c = let format = c .before .before .before .format in called (c .number-of .ensures) (format .ensures .answer) (format .ensures .card)

@@ -10,10 +10,6 @@ use Rattle.log_write.proofs.Laws.{clear-turn, clear-turns, clear-end}
 use borrow.Author.Needs.{needs}
 use Rattle.log_write.proofs.clear_all.Statement.{statement}
 use Rattle.log_write.proofs.clear_all.Tie as tie
-use Rattle.log_write.proofs.clear_all.Reads as reads
-use Rattle.log_write.proofs.clear_all.Lts as lts
-use Rattle.sector.proofs.store_zeros.Reads as store-zeros-reads
-use Rattle.log_write.proofs.from_end.Reads as from-end-reads
 
 abbrev Inv-loop : tie.InvT-loop
 Inv-loop w₀ a limit made₀ k₀ w made k = (k ≤ a .sectors) × (length w ≡ length w₀) × Ran limit (up-to (clear-turn a) k) w₀ w made true

@@ -9,9 +9,6 @@ use Rattle.sector_build.proofs.Laws.{rest-next}
 use borrow.Author.Needs.{needs}
 use Rattle.sector_build.proofs.put.Statement.{statement}
 use Rattle.sector_build.proofs.put.Tie as tie
-use Rattle.sector_build.proofs.put.Reads as reads
-use Rattle.sector_build.proofs.put.Lts as lts
-use Rattle.sector_build.proofs.low.Reads as low-reads
 
 abbrev Inv-loop : tie.InvT-loop
 Inv-loop out₀ at n v rest₀ k₀ out rest k = (k ≤ n) × (length out ≡ length out₀) × (rest ≡ v / 256 ^ k)
