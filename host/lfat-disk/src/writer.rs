@@ -36,7 +36,8 @@ impl<D: Disk> Writer<'_, D> {
     /// (crates/safety/specs/Demand3.antt): on a card that lets no store pass a barrier, any choice of the stores since the
     /// last one, then any recoveries cut in the same way, end in the state before the call or in the one after it. The root sectors
     /// of a new long name are barriers as well: they reach the disk in the list's order, of which `demand3` speaks. Of a format the two
-    /// stores of the boot sector are barriers: while it is zeros there is no card, whatever else has reached the disk.
+    /// stores of the boot sector are barriers: while it is zeros there is no card, whatever else has reached the disk (`format-held-back`,
+    /// crates/safety/specs/Formatted.antt).
     fn segment(&mut self, segment: &Segment) -> io::Result<()> {
         for extent in &segment.stores {
             self.extent(extent)?;
