@@ -1,4 +1,5 @@
 // The boot sector, read into a layout.
+#![tactic(auto)]
 ghost use Rattle.std.specs.Prelude.{◌≡◌, true, ◌+◌, ◌≤◌, ◌<◌, length};
 ghost use Rattle.model.specs.Sector.{card_of};
 ghost use Rattle.model.specs.Boot.{total_sectors, fields, arrange, signed, fields_ok, fat_holds};

@@ -1,4 +1,5 @@
 // How a call that stores ends.
+#![tactic(auto)]
 ghost use Rattle.std.specs.Prelude.{◌≡◌};
 ghost use Rattle.call_outcome.specs.Did.{ended_as};
 

@@ -1,4 +1,5 @@
 // Entries of a FAT: read, classed, counted and sought; the log's run; the two FATs compared.
+#![tactic(auto)]
 ghost use Rattle.std.specs.Prelude.{◌≡◌, true, false, ◌+◌, ◌-◌, ◌*◌, ◌%◌, ◌≤◌, ◌<◌, min, eqb, length};
 ghost use Rattle.model.specs.Bytes.{bytes_of};
 ghost use Rattle.model.specs.Scan.{first_from, count_from, nth_from};

@@ -1,4 +1,5 @@
 // Lists a log table: the table is standard input, its text goes to standard output.
+#![tactic(auto)]
 
 fn print(table: &[u8]) {
     let mut out = [0u8; 4096];

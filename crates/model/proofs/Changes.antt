@@ -45,6 +45,7 @@ Covers n [] = ⊥
 Covers n (s ∷ ss) = (n ≡ s.sector) ⊎ Covers n ss
 
 pub covers_left : (n : ℕ) (a b : List Store) → Covers n a → Covers n (a ++ b)
+covers_left n [] b x' = elim x' [ ]
 covers_left n (s ∷ a) b (inl e) = inl e
 covers_left n (s ∷ a) b (inr h) = inr (covers_left n a b h)
 
@@ -53,6 +54,7 @@ covers_right n [] b h = h
 covers_right n (s ∷ a) b h = inr (covers_right n a b h)
 
 pub covers_image : (f : ℕ → Store) (n k : ℕ) (ks : List ℕ) → n ≡ (f k).sector → Has k ks → Covers n (map f ks)
+covers_image f n k [] e x'' = elim x'' [ ]
 covers_image f n k (j ∷ ks) e (inl h) = inl (e ∙ ap (λ i. (f i).sector) h)
 covers_image f n k (j ∷ ks) e (inr h) = inr (covers_image f n k ks e h)
 

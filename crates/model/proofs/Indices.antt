@@ -25,6 +25,7 @@ all_mem P [] h = tt
 all_mem P (x ∷ xs) h = (h x (Memᴰ.head refl), all_mem P xs (λ y m. h y (Memᴰ.tail m)))
 
 pub mem_all : {A : Type 0} (P : A → Type 0) (xs : List A) → All P xs → (x : A) → Memᴰ x xs → P x
+mem_all {A = A} P [] h x x4 = elim x4 [ ]
 mem_all P (y ∷ xs) h x (Memᴰ.head e) = subst P (sym e) h.0
 mem_all P (y ∷ xs) h x (Memᴰ.tail m) = mem_all P xs h.1 x m
 

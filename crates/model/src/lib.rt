@@ -1,4 +1,5 @@
 // The types that the definitions and the code share.
+#![tactic(auto)]
 
 // What the boot sector says of the sizes. `factor` is sectors per cluster, `fatsize` sectors per FAT, `entries` root entries.
 #[derive(Drop)]

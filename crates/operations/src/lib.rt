@@ -1,1 +1,2 @@
 // What each call does, as definitions: see specs/. Nothing here has a body.
+#![tactic(auto)]
