@@ -1,16 +1,12 @@
 // The clock: the date and time words of a number of seconds since 1980 began.
 #![tactic(auto)]
 ghost use Rattle.std.specs.Prelude.{◌≡◌, ◌/◌, ◌≤◌, ◌<◌};
-ghost use Rattle.model.specs.Calendar.{is_leap, year_days, year_of, month_of, moment, date_word, time_word, stamp_of, last_second};
-ghost use Rattle.clock.specs.Months.{leap_days, days_before};
+ghost use Rattle.model.specs.Calendar.{is_leap, year_days, month_days, year_of, month_of, moment, date_word, time_word, stamp_of, last_second};
 
 use model::Elapsed;
 
 // The last second of 2107.
 pub const LAST_SECOND: u32 = 4039286399;
-
-// The days before each month of a common year.
-const MONTH_TABLE: [u32; 12] = [0, 31, 59, 90, 120, 151, 181, 212, 243, 273, 304, 334];
 
 // Every fourth year but 2100.
 fn is_leap(year: u32) -> bool
@@ -27,6 +23,22 @@ fn year_days(year: u32) -> u32
         return 366;
     }
     365
+}
+
+// The days of a month.
+fn month_days(year: u32, month: u32) -> u32
+    ensures { result ≡ month_days year month }
+{
+    match month {
+        2 => {
+            if is_leap(year) {
+                return 29;
+            }
+            28
+        }
+        4 | 6 | 9 | 11 => 30,
+        _ => 31,
+    }
 }
 
 // The year that a number of days since 1980 began reaches: years are counted off.
@@ -52,39 +64,26 @@ fn year_of(days: u32) -> Elapsed
     }
 }
 
-// The leap days before a month: one, once February of a leap year is over.
-fn leap_days(year: u32, month: u32) -> u32
-    ensures { (result ≡ leap_days year month) × (result ≤ 1) }
-{
-    if is_leap(year) && 2 < month {
-        return 1;
-    }
-    0
-}
-
-// The days before a month, from 1 to 12: the table's, and the leap day.
-fn days_before(year: u32, month: u32) -> u32
-    requires { (1 ≤ month) × (month ≤ 12) }
-    ensures { result ≡ days_before year month }
-{
-    MONTH_TABLE[(month - 1) as usize] + leap_days(year, month)
-}
-
-// The month that a number of days of a year reaches: the last one that has begun by then.
+// The month that a number of days of a year reaches.
 fn month_of(year: u32, days: u32) -> Elapsed
-    requires { days < year_days year }
     ensures { result ≡ month_of year days }
 {
-    let mut month = 12;
-    loop {
-        let before = days_before(year, month);
-        if before <= days {
+    let mut month = 1;
+    let mut left = days;
+    while month < 13 {
+        let n = month_days(year, month);
+        if left < n {
             return Elapsed {
                 unit: month,
-                days: days - before,
+                days: left,
             };
         }
-        month -= 1;
+        left -= n;
+        month += 1;
+    }
+    Elapsed {
+        unit: month,
+        days: left,
     }
 }
 

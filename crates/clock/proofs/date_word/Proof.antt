@@ -1,16 +1,12 @@
 use mathlib.Core.Path.{◌≡◌}
 use Prim.Native.Nat.{ℕ, ◌/◌, ◌≤◌, ◌<◌}
 use native.Mathlib.Omega.{arith}
-use Rattle.model.specs.Calendar.{year_days, year_of, month_of, moment, last_second}
+use Rattle.model.specs.Calendar.{year_of, month_of, moment, last_second}
 use Rattle.model.specs.declared.Elapsed.{Elapsed}
-use Rattle.model.proofs.Calendar.{Reached, year_reached, month_reached, month_long}
+use Rattle.model.proofs.Calendar.{year_reached, month_reached, month_long}
 use borrow.Author.Rules.{rules}
 use Rattle.clock.proofs.date_word.Statement.{statement}
 use Rattle.clock.proofs.date_word.Tie as tie
-
--- One of the 128 years is reached, and not all its days have elapsed.
-in_year : (s : ℕ) → s ≤ last_second → (y : Elapsed) → y ≡ year_of (s / 86400) → Reached year_days 128 1980 y
-in_year s h y e = rw (← e) at (year_reached (s / 86400) (omega arith))
 
 -- How large the parts of the date are.
 abbrev Small : Elapsed → Elapsed → Type 0
@@ -18,7 +14,7 @@ Small y m = (1980 ≤ y.unit) × (y.unit < 2108) × (m.unit < 13) × (m.days < 3
 
 small : (s : ℕ) → s ≤ last_second → (y m : Elapsed) → y ≡ year_of (s / 86400) → m ≡ month_of y.unit y.days → Small y m
 small s h y m e f =
-    let r = in_year s h y e in
+    let r = rw (← e) at (year_reached (s / 86400) (omega arith)) in
     let q = rw (← f) at (month_reached y.unit y.days r.2) in
     (r.0, r.1, q.1, omega (arith, q.2, (month_long y.unit m.unit).1))
 
@@ -26,9 +22,6 @@ parts : (c : tie.After-month-of) → Small c.before.year_of.result c.month_of.re
 parts c =
     small c.before.before.args.seconds c.before.before.requires c.before.year_of.result c.month_of.result c.before.year_of.ensures
     c.month_of.ensures
-
-month-of-requires : tie.Need-month-of-requires
-month-of-requires c κs = (in_year c.before.args.seconds c.before.requires c.year_of.result c.year_of.ensures).2
 
 sub-result : tie.Need-overflow-sub-result
 sub-result c = omega (arith, parts c.before)
@@ -57,4 +50,4 @@ returns c =
 pub date_word_spec : {M : Type 1} → statement M
 date_word_spec =
     tie.close
-    (tie.spec (λ c κs. search rules) month-of-requires sub-result mul-result mul-result-2 add-result add-result-2 add-result-3 returns)
+    (tie.spec (λ c κs. search rules) (λ c κs. search rules) sub-result mul-result mul-result-2 add-result add-result-2 add-result-3 returns)

@@ -1,33 +1,30 @@
-use Prim.Native.Nat.{◌+◌, ◌-◌, ◌<◌, ◌≤◌}
+use Prim.Native.Nat.{◌-◌}
 use native.Mathlib.Omega.{arith}
 use Rattle.model.specs.Calendar.{month_days}
-use Rattle.clock.specs.Months.{days_before}
-use Rattle.clock.proofs.Months.{before_last, begins_later, month_at}
+use Rattle.model.proofs.Calendar.{Counts, counts_start, counts_on, counts_here, counts_end}
 use borrow.Author.Rules.{rules}
 use Rattle.clock.proofs.month_of.Statement.{statement}
 use Rattle.clock.proofs.month_of.Tie as tie
 
--- The days end within the month at hand or before it.
 abbrev invariant-loop : tie.invariant-loop
-invariant-loop year days month₀ month = (1 ≤ month) × (month ≤ 12) × (days < days_before year month + month_days year month)
+invariant-loop year days month₀ left₀ month left = Counts (month_days year) 12 1 days month left
 
 abbrev decreases-loop : tie.decreases-loop
-decreases-loop year days month₀ month = month
+decreases-loop year days month₀ left₀ month left = 13 - month
 
 loop-holds : tie.Need-loop-init invariant-loop decreases-loop
-loop-holds c = (omega arith, omega arith, omega (arith, before_last c.args.year))
+loop-holds c = counts_start
 
 returns : tie.Need-returns invariant-loop decreases-loop
-returns c =
-    let turn = c.before.before in
-    month_at _ _ _ turn.loop.invariant.0 turn.loop.invariant.1 c.before.days_before.ensures c.if1.true turn.loop.invariant.2
+returns c = counts_here c.before.before.before.loop.invariant (omega arith) c.before.month_days.ensures c.if1.true
 
 loop-again : tie.Need-loop-preserved invariant-loop decreases-loop
-loop-again c =
-    let turn = c.before.before in
-    begins_later turn.before.args.year _ _ turn.loop.invariant.0 turn.loop.invariant.1 c.before.days_before.ensures c.if1.false
+loop-again c = counts_on c.before.before.before.loop.invariant (omega arith) c.before.month_days.ensures c.if1.false
+
+returns-2 : tie.Need-returns-2 invariant-loop decreases-loop
+returns-2 c = counts_end c.before.loop.invariant (omega arith)
 
 pub month_of_spec : {M : Type 1} → statement M
 month_of_spec =
     tie.close
-    (tie.spec invariant-loop decreases-loop loop-holds (λ c κs. search rules) returns (λ c. search rules) (λ c. search rules) loop-again)
+    (tie.spec invariant-loop decreases-loop loop-holds (λ c κs. search rules) returns (λ c. search rules) (λ c. search rules) loop-again returns-2)

@@ -1,2 +1,0 @@
-pub mod Months
-pub mod MonthRows
