@@ -1,5 +1,6 @@
 // The clock: the date and time words of a number of seconds since 1980 began.
 #![tactic(auto)]
+
 ghost use Rattle.std.specs.Prelude.{◌≡◌, ◌/◌, ◌≤◌, ◌<◌};
 ghost use Rattle.model.specs.Calendar.{is_leap, year_days, month_days, year_of, month_of, moment, date_word, time_word, stamp_of, last_second};
 

@@ -7,8 +7,7 @@ use borrow.Author.Tests.{ne_eqb}
 use Rattle.model.specs.Scan.{any}
 use Rattle.model.specs.Calendar.{month_days}
 use borrow.Author.Rules.{rules}
-use Rattle.clock.proofs.month_days.Statement.{statement}
-use Rattle.clock.proofs.month_days.Tie as tie
+use Rattle.clock.proofs.month_days.Goals as goal
 
 -- The months that have 30 days, and those that are neither these nor the second.
 short : (y m : ℕ) → OneOf (4 ∷ 6 ∷ 9 ∷ 11 ∷ []) m → 30 ≡ month_days y m
@@ -29,19 +28,16 @@ long y m other h =
       ne_eqb m 11 (λ e. h (inr (inr (inr e)))),
     )
 
-returns : tie.Need-returns
+pub returns-then-is_leap : goal.returns-then-is_leap
 unfolding month_days
-returns c = rw (c.before.before.match.keys1, sym c.before.is_leap.ensures ∙ c.if1.true)
+returns-then-is_leap c = rw (c.in-2.is, sym c.is_leap.ensures ∙ c.if-is_leap.true)
 
-returns-2 : tie.Need-returns-2
+pub returns-else-is_leap : goal.returns-else-is_leap
 unfolding month_days
-returns-2 c = rw (c.before.before.match.keys1, sym c.before.is_leap.ensures ∙ c.if1.false)
+returns-else-is_leap c = rw (c.in-2.is, sym c.is_leap.ensures ∙ c.if-is_leap.false)
 
-returns-3 : tie.Need-returns-3
-returns-3 c = short c.before.args.year c.before.args.month c.match.keys2
+pub returns-in-4 : goal.returns-in-4
+returns-in-4 c = short c.args.year c.args.month c.in-4.is
 
-returns-4 : tie.Need-returns-4
-returns-4 c = long c.before.args.year c.before.args.month c.match.rest.0.1 c.match.rest.1
-
-pub month_days_spec : {M : Type 1} → statement M
-month_days_spec = tie.close (tie.spec (λ c κs. search rules) returns returns-2 returns-3 returns-4)
+pub returns-in_default : goal.returns-in_default
+returns-in_default c = long c.args.year c.args.month c.in_default.in_default-own.rest.0.1 c.in_default.in_default-own.rest.1
