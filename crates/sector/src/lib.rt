@@ -1,5 +1,6 @@
 // Bytes and numbers of a card's sectors; whole sectors compared, loaded, and stored as far as a limit allows.
 #![tactic(auto)]
+
 ghost use Rattle.std.specs.Prelude.{◌≡◌, ℕ, ◌+◌, ◌*◌, ◌≤◌, ◌<◌, length, get_or, not, [], ◌∷◌, eqb};
 ghost use Rattle.model.specs.Sector.{card_of, clip, store};
 ghost use Rattle.model.specs.Promises.{Number, Ran};

@@ -1,0 +1,6 @@
+use Rattle.sector.proofs.Stored.{zeros_ran}
+use borrow.Author.Rules.{rules}
+use Rattle.sector.proofs.store_zeros.Goals as goal
+
+pub returns : goal.returns
+returns c = zeros_ran _ _ _ _ _ _ c.store_sector.ensures
