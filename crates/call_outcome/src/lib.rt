@@ -1,5 +1,6 @@
 // How a call that stores ends.
 #![tactic(auto)]
+
 ghost use Rattle.std.specs.Prelude.{◌≡◌};
 ghost use Rattle.call_outcome.specs.Did.{ended_as};
 

@@ -1,5 +1,6 @@
 // One sector of a FAT: loaded with an entry changed, and stored where it differs.
 #![tactic(auto)]
+
 ghost use Rattle.std.specs.Prelude.{◌≡◌, [], ◌∷◌, ℕ, ◌+◌, ◌*◌, ◌%◌, ◌≤◌, ◌<◌, ◌-◌, length, get_or};
 ghost use Rattle.model.specs.Bytes.{bytes_of, patch};
 ghost use Rattle.model.specs.Sector.{card_of, store};

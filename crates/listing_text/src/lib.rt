@@ -1,5 +1,6 @@
 // Text into a lent buffer, from a place on; each function answers where its text ends.
 #![tactic(auto)]
+
 ghost use Rattle.std.specs.Prelude.{◌≡◌, [], ◌∷◌, ◌++◌, ◌+◌, ◌≤◌, ◌<◌, length};
 ghost use Rattle.model.specs.Bytes.{bytes_of, part};
 ghost use Rattle.model.specs.Text.{decimal};

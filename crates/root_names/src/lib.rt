@@ -1,5 +1,6 @@
 // Names of 8 and 3 bytes: the rule that they keep, the numbers in them, and the slots that a name takes; the text of a long name.
 #![tactic(auto)]
+
 ghost use Rattle.std.specs.Prelude.{◌≡◌, ℕ, ◌+◌, ◌*◌, ◌%◌, ◌<◌, ◌≤◌, Bool, ◌||◌, map, length};
 ghost use Rattle.model.specs.Bytes.{bytes_of, part, view};
 ghost use Rattle.model.specs.Scan.{any, among};

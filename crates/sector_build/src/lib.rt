@@ -1,5 +1,6 @@
 // Root entries and log records, built field by field, and laid into a sector.
 #![tactic(auto)]
+
 ghost use Rattle.std.specs.Prelude.{◌≡◌, ◌+◌, ◌*◌, ◌%◌, ◌≤◌, ◌<◌, length};
 ghost use Rattle.model.specs.Bytes.{bytes_of, overlay, patch};
 ghost use Rattle.operations.specs.Finish.{set_name, set_stamp, new_entry};

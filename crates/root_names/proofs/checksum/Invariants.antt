@@ -1,0 +1,11 @@
+use Rattle.std.proofs.Common.{◌≡◌, ℕ, ◌+◌, ◌-◌, ◌%◌, ◌≤◌, refl, ap, ◌∙◌, arith, rules}
+use Rattle.model.specs.Bytes.{bytes_of, part}
+use Rattle.model.specs.Long.{turned, sum_of}
+use Rattle.model.proofs.ReadBack.{sum_more}
+use Rattle.root_names.proofs.checksum.Given as goal
+
+abbrev pub invariant-loop-i : goal.invariant-loop-i
+invariant-loop-i l = (l.i ≤ 11) × (l.sum ≡ sum_of l.i (part (bytes_of l.s) l.at))
+
+abbrev pub decreases-loop-i : goal.decreases-loop-i
+decreases-loop-i l = 11 - l.i

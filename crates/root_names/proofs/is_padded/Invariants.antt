@@ -1,0 +1,13 @@
+use Rattle.std.proofs.Common.{◌+◌, ◌-◌, ◌≤◌, true, ◌||◌, eqb, ltb, get_or, sym, arith, rules, le-ltb, lt-ltb, eq-eqb, ne_eqb}
+use Rattle.model.specs.Bytes.{bytes_of, part}
+use Rattle.model.specs.Root.{stem_length, padded}
+use Rattle.model.proofs.Scan.{Sofar, sofar_more, sofar_cut, all_of, all_not}
+use Rattle.root_names.proofs.is_padded.Given as goal
+
+abbrev pub invariant-loop-i : goal.invariant-loop-i
+invariant-loop-i l =
+    (l.i ≤ l.n) × (stem_length l.n (part (bytes_of l.s) l.at) ≤ l.i) × Sofar (λ m. ltb m (stem_length l.n (part (bytes_of l.s) l.at)) || eqb (get_or l.s
+    (l.at + m) 0) 32) true 0 l.i
+
+abbrev pub decreases-loop-i : goal.decreases-loop-i
+decreases-loop-i l = l.n - l.i

@@ -1,0 +1,7 @@
+use Rattle.std.proofs.Common.{refl, rules}
+use Rattle.model.specs.Long.{turned}
+use Rattle.root_names.proofs.turn.Goals as goal
+
+pub returns : goal.returns
+unfolding turned
+returns c = refl

@@ -1,0 +1,17 @@
+use mathlib.Core.Path.{◌≡◌, refl, sym, ap, ◌∙◌, fun_ext}
+use Prim.Native.Nat.{ℕ, ◌-◌, ◌/◌, ◌%◌, ◌^◌, ◌≤◌}
+use native.Mathlib.Nat.{div-one}
+use native.Mathlib.Omega.{arith}
+use lib.ListN.{length, get_or}
+use Rattle.model.specs.Bytes.{bytes_of, byte_of, overlay}
+use Rattle.model.proofs.Overlays.{overlay_none, overlay_more}
+use Rattle.sector_build.proofs.Laws.{rest_next}
+use borrow.Author.Rules.{rules}
+use Rattle.sector_build.proofs.put.Given as goal
+
+abbrev pub invariant-loop-k : goal.invariant-loop-k
+invariant-loop-k l = (l.k ≤ l.n) × (length l.out ≡ length l.initial.out) × (l.rest ≡ l.v / 256 ^ l.k)
+    × ((i : ℕ) → get_or l.out i 0 ≡ overlay l.k (byte_of l.v) l.at (bytes_of l.initial.out) i)
+
+abbrev pub decreases-loop-k : goal.decreases-loop-k
+decreases-loop-k l = l.n - l.k

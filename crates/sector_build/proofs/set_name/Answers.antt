@@ -1,0 +1,7 @@
+use mathlib.Core.Path.{ap, ◌∙◌}
+use Rattle.model.specs.Bytes.{Bytes, patch}
+use borrow.Author.Rules.{rules}
+use Rattle.sector_build.proofs.set_name.Goals as goal
+
+pub returns : goal.returns
+returns c = c.set_wide.ensures ∙ ap (λ (x : Bytes). patch 8 c.args.name.stem 0 x) c.set-e.ensures
