@@ -1,5 +1,6 @@
 // The boot sector, read into a layout.
 #![tactic(auto)]
+
 ghost use Rattle.std.specs.Prelude.{◌≡◌, true, ◌+◌, ◌≤◌, ◌<◌, length};
 ghost use Rattle.model.specs.Sector.{card_of};
 ghost use Rattle.model.specs.Boot.{total_sectors, fields, arrange, signed, fields_ok, fat_holds};
@@ -8,7 +9,7 @@ ghost use Rattle.boot.specs.Booted.{booted, sized, Placed, Narrow};
 use model::{Fields, Layout};
 
 // What a boot sector gives: nothing, where it breaks a rule.
-#[derive(Drop)]
+#[derive(Clone, Copy)]
 pub enum Booted {
     Bad,
     Good(Layout),

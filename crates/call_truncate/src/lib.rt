@@ -23,7 +23,7 @@ use root_lookup::Found;
 use volume::Examined;
 
 // The part of a chain that is freed: the last cluster kept before it, its first cluster, 0 where there is none, and how many it has.
-#[derive(Drop)]
+#[derive(Clone, Copy)]
 pub struct Tail {
     pub kept: u32,
     pub from: u32,

@@ -1,5 +1,6 @@
 // Entries of a FAT: read, classed, counted and sought; the log's run; the two FATs compared.
 #![tactic(auto)]
+
 ghost use Rattle.std.specs.Prelude.{◌≡◌, true, false, ◌+◌, ◌-◌, ◌*◌, ◌%◌, ◌≤◌, ◌<◌, min, eqb, length};
 ghost use Rattle.model.specs.Bytes.{bytes_of};
 ghost use Rattle.model.specs.Scan.{first_from, count_from, nth_from};
@@ -12,7 +13,7 @@ ghost use Rattle.fat_read.specs.Located.{holds, lacks, located, Locates};
 use model::{Area, Class, Layout};
 
 // Where the log was found.
-#[derive(Drop)]
+#[derive(Clone, Copy)]
 pub enum Located {
     Nowhere,
     At(Area),

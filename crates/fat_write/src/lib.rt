@@ -13,7 +13,7 @@ ghost use Rattle.fat_write.specs.Renew.{renewed, passed, exchanged};
 use model::{Layout, Progress};
 
 // A sector with its new values, and the new cluster that comes after it, with how many are left.
-#[derive(Drop)]
+#[derive(Clone, Copy)]
 pub struct Built {
     pub buf: [u8; 512],
     pub at: u32,
@@ -75,7 +75,7 @@ fn gains_links(s: u32, last: u32, at: u32, left: u32) -> bool
 }
 
 // What a sector's turn made, and the new cluster that comes after it, with how many are left.
-#[derive(Drop)]
+#[derive(Clone, Copy)]
 pub struct Turn {
     pub made: u32,
     pub whole: bool,

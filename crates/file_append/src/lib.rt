@@ -12,7 +12,7 @@ use model::{File, Layout, Progress};
 
 // Where an append stands: the cluster reached, how many of the file's clusters are passed, that one among them, and where
 // the search for the next free one begins.
-#[derive(Drop)]
+#[derive(Clone, Copy)]
 pub struct Cursor {
     pub cluster: u32,
     pub passed: u32,

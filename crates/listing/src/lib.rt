@@ -7,7 +7,7 @@ ghost use Rattle.listing_text.specs.Wrote.{Wrote};
 ghost use Rattle.listing.specs.Pieces.{heading, record_text, pieces, piece, Filled};
 
 // How many bytes of text were written, and the piece that is next.
-#[derive(Drop)]
+#[derive(Clone, Copy)]
 pub struct Part {
     pub count: usize,
     pub next: u32,

@@ -7,7 +7,7 @@ ghost use Rattle.listing_text.specs.Wrote.{Wrote};
 ghost use Rattle.listing_line.specs.Words.{place_text, operation_text, state_text, head_text, numbers, slot_text, size_text};
 
 // The numbers of a record that its line ends with.
-#[derive(Drop)]
+#[derive(Clone, Copy)]
 pub struct Numbers {
     pub slot: u32,
     pub first: u32,

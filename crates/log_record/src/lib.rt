@@ -1,5 +1,6 @@
 // Log records as they stand in a sector, and ground RECORD's rules for them.
 #![tactic(auto)]
+
 ghost use Rattle.std.specs.Prelude.{◌≡◌, ◌+◌, ◌*◌, ◌≤◌, ◌<◌, length};
 ghost use Rattle.model.specs.Sector.{card_of};
 ghost use Rattle.model.specs.Scan.{all};

@@ -13,7 +13,7 @@ ghost use Rattle.log_scan.specs.Place.{Lent, place_of, judged, Seen};
 use model::{Area, Layout, Operation, Pending};
 
 // Where a record stands in a log table: its sector, and its number there.
-#[derive(Drop)]
+#[derive(Clone, Copy)]
 pub enum Place {
     At(u32, u32),
     Nowhere,

@@ -2,7 +2,7 @@
 #![tactic(auto)]
 
 // What the boot sector says of the sizes. `factor` is sectors per cluster, `fatsize` sectors per FAT, `entries` root entries.
-#[derive(Drop)]
+#[derive(Clone, Copy)]
 pub struct Fields {
     pub factor: u32,
     pub reserved: u32,
@@ -12,7 +12,7 @@ pub struct Fields {
 }
 
 // Where the regions of a card begin, by sector, in their order on the card; `start` is the first data sector.
-#[derive(Drop)]
+#[derive(Clone, Copy)]
 pub struct Layout {
     pub factor: u32,
     pub fatsize: u32,
@@ -26,7 +26,7 @@ pub struct Layout {
 }
 
 // What a FAT value means.
-#[derive(Drop)]
+#[derive(Clone, Copy)]
 pub enum Class {
     Free,
     Next,
@@ -37,28 +37,28 @@ pub enum Class {
 }
 
 // The clusters marked as the log: the lowest of them, and how many there are.
-#[derive(Drop)]
+#[derive(Clone, Copy)]
 pub struct Run {
     pub start: u32,
     pub size: u32,
 }
 
 // Where the log lies: its first sector, and how many it has.
-#[derive(Drop)]
+#[derive(Clone, Copy)]
 pub struct Area {
     pub sector: u32,
     pub sectors: u32,
 }
 
 // A name, as the little-endian numbers in its 8 and its 3 bytes.
-#[derive(Drop)]
+#[derive(Clone, Copy)]
 pub struct Name {
     pub stem: u64,
     pub extension: u32,
 }
 
 // A root entry as a log record tells of it.
-#[derive(Drop)]
+#[derive(Clone, Copy)]
 pub struct Entry {
     pub slot: u32,
     pub name: Name,
@@ -66,7 +66,7 @@ pub struct Entry {
 }
 
 // A file: its entry, first cluster and size.
-#[derive(Drop)]
+#[derive(Clone, Copy)]
 pub struct File {
     pub entry: Entry,
     pub first: u32,
@@ -74,7 +74,7 @@ pub struct File {
 }
 
 // What a name means: no slot, a directory, or a file, and whether it is marked read-only.
-#[derive(Drop)]
+#[derive(Clone, Copy)]
 pub enum Lookup {
     Absent,
     Directory,
@@ -82,14 +82,14 @@ pub enum Lookup {
 }
 
 // What a call is to do with the file that it names.
-#[derive(Drop)]
+#[derive(Clone, Copy)]
 pub enum Access {
     Read,
     Write,
 }
 
 // A year or a month that a count of days has reached, and how many days of it have elapsed.
-#[derive(Drop)]
+#[derive(Clone, Copy)]
 pub struct Elapsed {
     pub unit: u32,
     pub days: u32,
@@ -97,7 +97,7 @@ pub struct Elapsed {
 
 // The operations that the log can hold, each with its own fields. `from` is DIR_Cluster, `count` how many entries of a long name stand
 // directly before the slot, or are to stand there, `stamp` the time (low two bytes) and the date (high two) that the entry gets.
-#[derive(Drop)]
+#[derive(Clone, Copy)]
 pub enum Operation {
     Create {
         entry: Entry,
@@ -143,7 +143,7 @@ pub enum Operation {
 
 // A log record. `count` is the long_name count, `number` the operation's, `high` the high word of first/last cluster, `cluster` its
 // low word, `from` DIR_Cluster.
-#[derive(Drop)]
+#[derive(Clone, Copy)]
 pub struct Record {
     pub name: Name,
     pub attributes: u32,
@@ -159,7 +159,7 @@ pub struct Record {
 
 // The plan of what is done once a group of log records stands in its sector, and of what recovery redoes: that sector, how many records
 // the group has, and the operation that they tell of. The characters of a long name stand beside it, in a slice of bytes.
-#[derive(Drop)]
+#[derive(Clone, Copy)]
 pub struct Plan {
     pub sector: u32,
     pub records: u32,
@@ -167,7 +167,7 @@ pub struct Plan {
 }
 
 // What is pending in the log: nothing, records that are no group, or the group in a sector.
-#[derive(Drop)]
+#[derive(Clone, Copy)]
 pub enum Pending {
     Nothing,
     Broken,
@@ -175,7 +175,7 @@ pub enum Pending {
 }
 
 // A card that passes grounds 1 to 6.
-#[derive(Drop)]
+#[derive(Clone, Copy)]
 pub struct Volume {
     pub layout: Layout,
     pub log: Area,
@@ -183,7 +183,7 @@ pub struct Volume {
 }
 
 // The grounds on which a call refuses.
-#[derive(Drop)]
+#[derive(Clone, Copy)]
 pub enum Ground {
     Short,
     Boot,
@@ -208,7 +208,7 @@ pub enum Ground {
 
 // How a call ends: refused; done, with its count (of stores, of bytes read, of entries) or the cluster that it gives; a no;
 // or stopped by the limit, with the stores made.
-#[derive(Drop)]
+#[derive(Clone, Copy)]
 pub enum Outcome {
     Refused(Ground),
     Done(u32),
@@ -217,7 +217,7 @@ pub enum Outcome {
 }
 
 // How many stores of a list were made, and whether those were all.
-#[derive(Drop)]
+#[derive(Clone, Copy)]
 pub struct Progress {
     pub made: u32,
     pub whole: bool,

@@ -13,14 +13,14 @@ ghost use Rattle.root_lookup.specs.Found.{found_of, Seated, Sits, Opens, vacancy
 use model::{Access, File, Ground, Layout, Lookup, Volume};
 
 // A file, or the ground on which there is none.
-#[derive(Drop)]
+#[derive(Clone, Copy)]
 pub enum Found {
     Missing(Ground),
     At(File),
 }
 
 // A free slot, or the ground on which there is none.
-#[derive(Drop)]
+#[derive(Clone, Copy)]
 pub enum Vacancy {
     Denied(Ground),
     Slot(u32),

@@ -108,7 +108,7 @@ pub fn has_slot(s: u32, n: u32, k: u32) -> bool
 }
 
 // The slots that an operation names: slot `slot` of a name, the `count` before it, and slot `to`, which is the same one where there is no other.
-#[derive(Drop)]
+#[derive(Clone, Copy)]
 pub struct NamedSlots {
     pub slot: u32,
     pub count: u32,

@@ -13,14 +13,14 @@ use fat_read::Located;
 use model::{Area, Ground, Layout, Pending, Volume};
 
 // A layout, or the ground on which there is none.
-#[derive(Drop)]
+#[derive(Clone, Copy)]
 pub enum Mounted {
     Unfit(Ground),
     Fit(Layout),
 }
 
 // A volume, or the ground on which there is none.
-#[derive(Drop)]
+#[derive(Clone, Copy)]
 pub enum Examined {
     Refused(Ground),
     Granted(Volume),

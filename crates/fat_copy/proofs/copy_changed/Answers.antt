@@ -28,7 +28,7 @@ returns c =
       k,
       index.ensures,
       renewal_one a.to (card_of a.w.now a.from) (card_of a.w.now a.to)
-          (sym differs.ensures ∙ not-false _ if1.false),
+          (sym differs.ensures ∙ not-false _ if1.false-raw),
       ← same,
     )
     (ran_lent a.w.now copy-sector.new.part a.to (omega arith) (omega arith) a.limit _ _ (bytes_of load.result)

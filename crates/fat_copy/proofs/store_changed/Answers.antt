@@ -12,4 +12,4 @@ pub returns : goal.returns
 returns c =
     let the-if1 = c.if-not-alters in
     let the-alters = c.alters in
-    rw (renewal_one _ _ _ (sym the-alters.ensures ∙ not-false _ the-if1.false)) c.store_sector.ensures
+    rw (renewal_one _ _ _ (sym the-alters.ensures ∙ not-false _ the-if1.false-raw)) c.store_sector.ensures

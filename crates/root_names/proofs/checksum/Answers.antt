@@ -13,7 +13,7 @@ loop-i-preserved c =
     let l = c.before.before.before.before in
     let a = l.args in (
       search rules,
-      c.wrapping_add_u8-sum.ensures
+      c.wrapping_add_u8-sum.ensures.value
           ∙ ap (λ (t : ℕ). (t + part (bytes_of a.s.now) a.at l.loop-i.i) % 256) (c.turn.ensures ∙ ap turned l.loop-i.invariant.1)
           ∙ sum_more l.loop-i.i (part (bytes_of a.s.now) a.at),
     )

@@ -1,5 +1,6 @@
 use Rattle.std.proofs.Common.{◌≡◌, ℕ, ◌+◌, ◌<◌, ◌≤◌, Bool, true, false, ◌||◌, List, [], ◌∷◌, sym, refl, ⊎_elim, arith, ne_eqb}
 use mir.Val.{has_key}
+use types.Run.{OneOf}
 use Rattle.model.specs.Scan.{any, between, all, all_from, walk}
 use Rattle.model.specs.LongName.{forbidden}
 use Rattle.model.proofs.Match.{like, ranged, keyed}
@@ -11,9 +12,9 @@ abbrev keys : List ℕ
 keys = 34 ∷ 42 ∷ 47 ∷ 58 ∷ 60 ∷ 92 ∷ 124 ∷ []
 
 -- On the n numbers from lo on, but for the keys.
-on : (v : Bool) (lo n : ℕ) → all (λ k. like v (forbidden (lo + k)) || has_key keys (lo + k)) n ≡ true → (c : goal.In_default-1)
-    → lo ≤ c.before.args.c → c.before.args.c < lo + n → v ≡ forbidden c.before.args.c
-on v lo n t c l h = sym (ranged forbidden v keys lo n t c.before.args.c c.match.rest.1 l h)
+on : (v : Bool) (lo n : ℕ) → all (λ k. like v (forbidden (lo + k)) || has_key keys (lo + k)) n ≡ true → (x : ℕ) → (OneOf keys x → ⊥)
+    → lo ≤ x → x < lo + n → v ≡ forbidden x
+on v lo n t x other l h = sym (ranged forbidden v keys lo n t x other l h)
 
 -- Above the last of them all are allowed.
 past : (k : ℕ) → 124 < k → false ≡ forbidden k
@@ -33,12 +34,12 @@ past k h =
 
 pub returns-in_default : goal.returns-in_default
 unfolding forbidden any between all_from walk
-returns-in_default c = on false 32 30 refl c.before.before (omega arith) (omega arith)
+returns-in_default c = on false 32 30 refl c.args.c c.in_default.in_default-own.rest.1 (omega arith) (omega arith)
 
 pub returns-in_default-2 : goal.returns-in_default-2
 unfolding forbidden any between all_from walk
 returns-in_default-2 c =
-    ⊎_elim (λ low. on false 64 61 refl c.before.before.before (omega arith) low) (λ high. past c.args.c high)
+    ⊎_elim (λ low. on false 64 61 refl c.args.c c.in_default.in_default-own.rest.1 (omega arith) low) (λ high. past c.args.c high)
     (less? c.args.c 125)
 
 pub returns-in-0-to-31 : goal.returns-in-0-to-31
@@ -47,8 +48,8 @@ returns-in-0-to-31 c = sym (keyed forbidden true keys refl _ c.in-0-to-31.in-0-t
 
 pub returns-in-0-to-31-2 : goal.returns-in-0-to-31-2
 unfolding forbidden any between all_from walk
-returns-in-0-to-31-2 c = on true 0 32 refl c.before (omega arith) (omega arith)
+returns-in-0-to-31-2 c = on true 0 32 refl c.args.c c.in-0-to-31.in_default-own.rest.1 (omega arith) (omega arith)
 
 pub returns-in-0-to-31-3 : goal.returns-in-0-to-31-3
 unfolding forbidden any between all_from walk
-returns-in-0-to-31-3 c = on true 62 2 refl c.before.before.before (omega arith) (omega arith)
+returns-in-0-to-31-3 c = on true 62 2 refl c.args.c c.in-0-to-31.in_default-own.rest.1 (omega arith) (omega arith)

@@ -1,0 +1,26 @@
+use mathlib.Core.Path.{◌∙◌}
+use Prim.Native.Nat.{◌-◌}
+use native.Mathlib.Omega.{arith}
+use Rattle.model.specs.Sector.{card_of}
+use Rattle.model.specs.Fat.{fat_at}
+use Rattle.model.proofs.Nths.{Seeks, seeks_start, seeks_pass, seeks_within, seeks_end}
+use Rattle.fat_read.specs.Located.{holds}
+use borrow.Author.Rules.{rules}
+use Rattle.fat_read.proofs.find_nth.Goals as goal
+
+pub loop-i-init : goal.loop-i-init
+loop-i-init c = seeks_start c.requires.2
+
+pub returns-then-left-found : goal.returns-then-left-found
+returns-then-left-found c =
+    c.pass_entries.ensures
+    ∙ seeks_within c.loop-i.invariant _ (omega (arith, c.sector_left-size.ensures))
+    (omega (arith, c.count_entries-found.ensures.0))
+
+pub loop-i-preserved : goal.loop-i-preserved
+loop-i-preserved c =
+    seeks_pass c.loop-i.invariant _ c.count_entries-found.ensures.0 (omega arith)
+    (omega (arith, c.sector_left-size.ensures)) (omega arith) (omega arith)
+
+pub returns : goal.returns
+returns c = seeks_end c.loop-i.invariant (omega arith)

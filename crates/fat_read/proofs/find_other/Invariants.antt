@@ -1,0 +1,18 @@
+use mathlib.Core.Path.{sym, ap, ◌∙◌}
+use mathlib.Core.Bool.{false, not}
+use Prim.Native.Nat.{◌+◌, ◌-◌, ◌≤◌}
+use native.Mathlib.Omega.{arith}
+use lib.Dec.{eqb}
+use borrow.Author.Tests.{not-true, not-false}
+use Rattle.model.specs.Sector.{card_of}
+use Rattle.model.specs.Fat.{fat1_of}
+use Rattle.model.proofs.Scan.{first_is, first_none, Sofar, sofar_none, sofar_more, sofar_cut}
+use Rattle.fat_read.specs.Located.{lacks}
+use borrow.Author.Rules.{rules}
+use Rattle.fat_read.proofs.find_other.Given as goal
+
+abbrev pub invariant-loop-i : goal.invariant-loop-i
+invariant-loop-i l = (l.k ≤ l.i) × (l.i ≤ l.k + l.n) × Sofar (lacks 0xFFF6 (fat1_of l.l (card_of l.w))) false l.k l.i
+
+abbrev pub decreases-loop-i : goal.decreases-loop-i
+decreases-loop-i l = l.end - l.i

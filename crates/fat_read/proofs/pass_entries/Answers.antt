@@ -1,0 +1,43 @@
+use mathlib.Core.Path.{sym, ◌∙◌}
+use mathlib.Core.Logic.{⊎_elim}
+use Prim.Native.Nat.{◌-◌}
+use native.Mathlib.Omega.{arith}
+use borrow.Author.Tests.{eq-eqb, ne_eqb}
+use Rattle.model.specs.Sector.{card_of}
+use Rattle.model.specs.Fat.{fat_at}
+use Rattle.model.proofs.Nths.{Seeks, seeks_start, seeks_hit, seeks_miss, seeks_here, seeks_end}
+use Rattle.fat_read.specs.Located.{holds}
+use borrow.Author.Rules.{rules}
+use Rattle.fat_read.proofs.pass_entries.Goals as goal
+
+pub loop-i-init : goal.loop-i-init
+loop-i-init c = seeks_start c.requires.2
+
+pub entry_at-requires : goal.entry_at-requires
+entry_at-requires c = omega (arith, c.loop-i.invariant.high)
+
+pub returns-then-left-eq1 : goal.returns-then-left-eq1
+returns-then-left-eq1 c =
+    seeks_here c.loop-i.invariant c.loop-i-test.true c.if-left-eq1.true
+    (eq-eqb _ _ (sym c.entry_at.ensures.0 ∙ c.if-entry_at-v.true))
+
+pub overflow_sub-left : goal.overflow_sub-left
+overflow_sub-left c = omega (arith, c.loop-i.invariant.some)
+
+pub overflow_add-i : goal.overflow_add-i
+overflow_add-i c = omega (arith, c.loop-i.invariant.high)
+
+pub loop-i-preserved : goal.loop-i-preserved
+loop-i-preserved c =
+    let o = c.loop-i in
+    let less = c.loop-i-test.true in
+    let e = c.entry_at.ensures.0 in
+    ⊎_elim
+    (λ u.
+    seeks_hit o.invariant less (omega (arith, u.2, u.1.left, o.invariant.some)) (omega (arith, u.2, u.1.left, o.invariant.some))
+    (eq-eqb _ _ (sym e ∙ u.0.taken)))
+    (λ u. seeks_miss o.invariant less u.1 (ne_eqb _ _ (λ q. u.0.left (e ∙ q))))
+    c.if-entry_at-v.branch
+
+pub returns : goal.returns
+returns c = seeks_end c.loop-i.invariant (omega arith)
