@@ -157,12 +157,14 @@ module _ (l : Layout) where
 
   leads_more : (e : ℕ → ℕ) (ks js : List ℕ) (m : ℕ) → Linked l e ks → m < length ks → Leads e m (ks ++ js)
   leads_more e ks js zero h less = tt
+  leads_more e [] js (suc m) h less = elim h [ ]
   leads_more e (k ∷ []) js (suc m) h less = absurd (omega arith)
   leads_more e (k ∷ (j ∷ r)) js (suc m) h less = (h.1.0, leads_more e (j ∷ r) js m h.1.1 (omega arith))
 
   leads_take : (e : ℕ → ℕ) (ks : List ℕ) (n m : ℕ) → Linked l e ks → m < length (take n ks) → Leads e m (take n ks)
   leads_take e ks n zero h less = tt
   leads_take e ks zero (suc m) h less = absurd (omega arith)
+  leads_take e [] (suc _) (suc m) h less = elim h [ ]
   leads_take e (k ∷ []) (suc zero) (suc m) h less = absurd (omega arith)
   leads_take e (k ∷ []) (suc (suc n)) (suc m) h less = absurd (omega arith)
   leads_take e (k ∷ (j ∷ r)) (suc zero) (suc m) h less = absurd (omega arith)
@@ -195,6 +197,7 @@ module _ (l : Layout) where
       kept = take n ks
 
       some : (ks : List ℕ) → Linked l (entry f) ks → 0 < length ks
+      some [] g = elim g [ ]
       some (k ∷ []) g = omega arith
       some (k ∷ (j ∷ r)) g = omega arith
 

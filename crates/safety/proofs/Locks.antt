@@ -23,6 +23,7 @@ use Rattle.safety.proofs.Sounds.{all_keep}
 named_unmarked : {size : ℕ} {c : Card} → Start size c → clean (window size c) ≡ granted (volume_of c Pending.Nothing)
     → (k : Call) (p : Program) → plan k (window size c) ≡ granted p → (s : ℕ) → Names (volume_of c Pending.Nothing) c k s
     → is_locked (slot_at (layout_of c) c s) ≡ false
+named_unmarked {size = size} {c = c} st is (Rattle.operations.specs.Calls.creates_long name text seconds) p h s e = elim e [ ]
 named_unmarked st is (creates n sec) p h s e = absurd e
 named_unmarked st is (appends n d sec) p h s e = rw e (append_granted st is n d sec p h).it.unmarked
 named_unmarked st is (truncates n m sec) p h s e = rw e (truncate_granted st is n m sec p h).it.unmarked

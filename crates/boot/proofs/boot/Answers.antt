@@ -10,7 +10,7 @@ use Rattle.boot.proofs.boot.Goals as goal
 
 pub returns-then-not-is_signed : goal.returns-then-not-is_signed
 unfolding booted boot_ok
-returns-then-not-is_signed c = (rw (every_not _ 0 (sym c.is_Signed.ensures ∙ not-true _ c.if-not-is_signed.true-raw)), tt)
+returns-then-not-is_signed c = (rw (every_not _ 0 (sym c.is_signed.ensures ∙ not-true _ c.if-not-is_signed.true-raw)), tt)
 
 pub returns-then-not-is_plain : goal.returns-then-not-is_plain
 unfolding booted boot_ok
@@ -26,11 +26,11 @@ arranged-requires c = (c.fields_of-f.ensures.1, sym c.is_plain.ensures ∙ not-f
 pub returns : goal.returns
 unfolding booted boot_ok sized layout every
 returns c =
-    let is_Signed = c.is_Signed in
+    let is_signed = c.is_signed in
     let if1 = c.if-not-is_signed in
     let fields-of = c.fields_of-f in (
       rw (
-        sym is_Signed.ensures ∙ not-false _ if1.false-raw,
+        sym is_signed.ensures ∙ not-false _ if1.false-raw,
         ← fields-of.ensures.0,
         sym c.is_plain.ensures
             ∙ not-false _ c.if-not-is_plain.false-raw,
