@@ -8,20 +8,18 @@ use mathlib.Core.List.{List, [], ◌∷◌}
 use lib.Dec.{eqb}
 use borrow.Author.Tests.{ne_eqb}
 use denote.Enum.Declared.{tag_of}
-use types.Run.{OneOf}
 use Rattle.model.specs.Bytes.{le, bytes_of, pick}
 use Rattle.model.specs.Scan.{count_from}
 use Rattle.model.specs.Sector.{card_of}
 use Rattle.model.specs.Fat.{fat_at, wide_entry, entry, class, in_range, is_reserved, is_end}
 use Rattle.model.specs.declared.Layout.{Layout}
 use Rattle.model.specs.declared.Class.{Class}
-use Rattle.model.specs.declared.Class.TheVariants.{Free, Next, Bad, End, Other}
+use Rattle.model.specs.declared.Class.TheVariants.{Free, Next, Reserved, Bad, End, Other}
 use Rattle.model.specs.contracts.Class.{the_type}
 use Rattle.model.proofs.Sectors.{le_in}
 use Rattle.model.proofs.Scan.{count_step}
 use Rattle.model.proofs.Tests.{told, or_false, between_is, between_low, between_high}
 use Rattle.model.proofs.Classes.{class_reserved}
-use Rattle.model.proofs.Match.{keyed}
 
 -- Entry k of a FAT lies in the two bytes from 2 * k on.
 pub flat : (xs : List ℕ) (fat k at r : ℕ) → at ≡ 512 * fat + 2 * k → r ≡ le 2 (bytes_of xs) at → r ≡ entry (fat_at (card_of xs) fat) k
@@ -40,9 +38,14 @@ unseen p i n k b at so h =
 abbrev pub marks : Class → Bool
 marks c = eqb (tag_of the_type c) 2
 
--- A class that is not Reserved, by the numbers of the others.
-pub not_reserved : (c : Class) → OneOf (0 ∷ 1 ∷ 3 ∷ 4 ∷ 5 ∷ []) (tag_of the_type c) → marks c ≡ false
-not_reserved c h = keyed (λ b. eqb b 2) false (0 ∷ 1 ∷ 3 ∷ 4 ∷ 5 ∷ []) refl (tag_of the_type c) h
+-- A class that is not Reserved.
+pub not_reserved : (c : Class) → (c ≡ Reserved → ⊥) → marks c ≡ false
+not_reserved Free h = refl
+not_reserved Next h = refl
+not_reserved Reserved h = absurd (h refl)
+not_reserved Bad h = refl
+not_reserved End h = refl
+not_reserved Other h = refl
 
 -- A value is reserved exactly if its class is.
 pub reserved_marks : (l : Layout) (v : ℕ) → l.clusters ≤ 65524 → is_reserved v ≡ marks (class l v)

@@ -21,9 +21,8 @@ returns-then-not-fat_holds c =
 pub returns : goal.returns
 unfolding arrange
 returns c =
-    let start = c.before.before.before.before.before.before.before.before.before in
-    let f = start.args.f in
-    let pre = start.requires in
+    let f = c.args.f in
+    let pre = c.requires in
     let clusters = c.clusters_of-clusters in
     let holds = c.fat_holds in
     let wide = sym holds.ensures ∙ not-false holds.result c.if-not-fat_holds.false-raw in

@@ -35,7 +35,7 @@ returns-in-65528-to-65535 c = sym (ended c.args.l c.args.v (omega arith) (omega 
 
 pub returns-in_default : goal.returns-in_default
 unfolding class in_range is_end between
-returns-in_default c = let one : c.args.v ≡ 1 = omega (arith, c.in_default-1.rest.0.0.1) in rw one
+returns-in_default c = let one : c.args.v ≡ 1 = omega (arith, c.in_default.in_default-own.rest.0.0.1) in rw one
 
 pub returns-in_default-2 : goal.returns-in_default-2
 returns-in_default-2 c = sym (over c.args.l c.args.v (omega arith) (omega arith))

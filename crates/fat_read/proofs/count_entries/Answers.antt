@@ -12,6 +12,7 @@ use Rattle.fat_read.specs.Located.{holds}
 use Rattle.fat_read.proofs.Laws.{flat}
 use borrow.Author.Rules.{rules}
 use Rattle.fat_read.proofs.count_entries.Goals as goal
+use Rattle.fat_read.proofs.count_entries.Goals.{then-pair-v, else-pair-v}
 
 pub loop-i-init : goal.loop-i-init
 loop-i-init c = (search rules, search rules, sym (count_none _ _))
@@ -26,14 +27,19 @@ loop-i-preserved c =
     let p = holds a.v (fat_at (card_of a.w.now) a.fat) in
     let i = o.i in
     let k = a.k + i in
-    let e = flat a.w.now a.fat k _ _ (omega arith) c.pair.ensures.is in (
-      search rules,
-      ⊎_elim (λ u. omega (arith, u.1)) (λ u. omega (arith, u.1)) c.if-pair-v.branch,
-      ⊎_elim
-          (λ u. u.1 ∙ count_hit p a.k i o.found k o.invariant.2 (omega arith) (eq-eqb _ _ (sym e ∙ u.0.taken)))
-          (λ u. u.1 ∙ count_miss p a.k i o.found k o.invariant.2 (omega arith) (ne_eqb _ _ (λ q. u.0.left (e ∙ q))))
-          c.if-pair-v.branch,
-    )
+    let e = flat a.w.now a.fat k _ _ (omega arith) c.pair.ensures.is in
+    elim c.if-pair-v.branch [
+      | then-pair-v u ↦ (
+        search rules,
+        omega arith,
+        u.found-is ∙ count_hit p a.k i o.found k o.invariant.2 (omega arith) (eq-eqb _ _ (sym e ∙ u.if-pair-v.true)),
+      )
+      | else-pair-v u ↦ (
+        search rules,
+        omega arith,
+        u.found-is ∙ count_miss p a.k i o.found k o.invariant.2 (omega arith) (ne_eqb _ _ (λ q. u.if-pair-v.false (e ∙ q))),
+      )
+    ]
 
 pub returns : goal.returns
 returns c = let a = c.args in

@@ -13,4 +13,4 @@ pub returns-in_default : goal.returns-in_default
 returns-in_default c =
     let args = c.args in
     sym (reserved_marks args.l args.v (omega arith) ∙ ap marks (sym c.classify-c.ensures) ∙ not_reserved
-    c.classify-c.result c.in_default.in_default-own.keys2)
+    c.classify-c.result c.in_default.not-Reserved)

@@ -9,6 +9,7 @@ use Rattle.model.proofs.Nths.{Seeks, seeks_start, seeks_hit, seeks_miss, seeks_h
 use Rattle.fat_read.specs.Located.{holds}
 use borrow.Author.Rules.{rules}
 use Rattle.fat_read.proofs.pass_entries.Goals as goal
+use Rattle.fat_read.proofs.pass_entries.Goals.{then-entry_at-v+else-left-eq1, else-entry_at-v}
 
 pub loop-i-init : goal.loop-i-init
 loop-i-init c = seeks_start c.requires.2
@@ -32,12 +33,11 @@ loop-i-preserved c =
     let o = c.loop-i in
     let less = c.loop-i-test.true in
     let e = c.entry_at.ensures.0 in
-    ⊎_elim
-    (λ u.
-    seeks_hit o.invariant less (omega (arith, u.2, u.1.left, o.invariant.some)) (omega (arith, u.2, u.1.left, o.invariant.some))
-    (eq-eqb _ _ (sym e ∙ u.0.taken)))
-    (λ u. seeks_miss o.invariant less u.1 (ne_eqb _ _ (λ q. u.0.left (e ∙ q))))
-    c.if-entry_at-v.branch
+    elim c.if-entry_at-v.branch [
+      | then-entry_at-v+else-left-eq1 u ↦ seeks_hit o.invariant less (omega (arith, u.left-is, u.if-left-eq1.false, o.invariant.some)) (omega (arith, u.left-is, u.if-left-eq1.false, o.invariant.some))
+          (eq-eqb _ _ (sym e ∙ u.if-entry_at-v.true))
+      | else-entry_at-v u ↦ seeks_miss o.invariant less u.left-is (ne_eqb _ _ (λ q. u.if-entry_at-v.false (e ∙ q)))
+    ]
 
 pub returns : goal.returns
 returns c = seeks_end c.loop-i.invariant (omega arith)

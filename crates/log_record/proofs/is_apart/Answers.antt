@@ -17,26 +17,21 @@ loop-i-init c = (search rules, sofar_none _ _ _ _ (omega arith))
 
 pub returns-then-has_slot : goal.returns-then-has_slot
 returns-then-has_slot c =
-    let d = c.before.before in
-    let l = d.before.before in
-    let a = l.args in
-    sym (all_not (apart (record_at (card_of a.log.now a.s)) a.k) 0 a.n l.loop-i.i (omega arith) (omega arith)
-    (ap (λ (r : Record). not (among (name_slots r.slot r.count) a.k)) (sym d.load-r.ensures)
+    let a = c.args in
+    sym (all_not (apart (record_at (card_of a.log.now a.s)) a.k) 0 a.n c.loop-i.i (omega arith) (omega arith)
+    (ap (λ (r : Record). not (among (name_slots r.slot r.count) a.k)) (sym c.load-r.ensures)
     ∙ ap not (sym c.has_slot.ensures ∙ c.if-has_slot.true)))
 
 pub loop-i-preserved : goal.loop-i-preserved
 loop-i-preserved c =
-    let d = c.before.before in
-    let l = d.before.before in
-    let a = l.args in (
+    let a = c.args in (
       search rules,
-      sofar_more (apart (record_at (card_of a.log.now a.s)) a.k) true 0 l.loop-i.i l.loop-i.invariant.1
-          (ap (λ (r : Record). not (among (name_slots r.slot r.count) a.k)) (sym d.load-r.ensures)
+      sofar_more (apart (record_at (card_of a.log.now a.s)) a.k) true 0 c.loop-i.i c.loop-i.invariant.1
+          (ap (λ (r : Record). not (among (name_slots r.slot r.count) a.k)) (sym c.load-r.ensures)
           ∙ ap not (sym c.has_slot.ensures ∙ c.if-has_slot.false)),
     )
 
 pub returns : goal.returns
 returns c =
-    let l = c.before in
-    let a = l.args in
-    sym (all_of0 (apart (record_at (card_of a.log.now a.s)) a.k) a.n (λ i less. l.loop-i.invariant.1 i (omega arith) (omega arith)))
+    let a = c.args in
+    sym (all_of0 (apart (record_at (card_of a.log.now a.s)) a.k) a.n (λ i less. c.loop-i.invariant.1 i (omega arith) (omega arith)))

@@ -13,18 +13,15 @@ returns-then-byte-eq0 c = rw (← c.byte.ensures.0, eq-eqb _ _ c.if-byte-eq0.tru
 pub returns-then-byte-ne1 : goal.returns-then-byte-ne1
 unfolding leads every
 returns-then-byte-ne1 c =
-    let first = c.before.before in
-    rw (← first.byte.ensures.0, ← c.byte-2.ensures.0, ne_eqb _ _ first.if-byte-eq0.false, ne_eqb _ _ c.if-byte-ne1.true)
+    rw (← c.byte.ensures.0, ← c.byte-2.ensures.0, ne_eqb _ _ c.if-byte-eq0.false, ne_eqb _ _ c.if-byte-ne1.true)
 
 pub returns : goal.returns
 unfolding leads every
 returns c =
-    let number = c.before in
-    let first = number.before.before in
     rw (
-      ← first.byte.ensures.0,
-      ← number.byte-2.ensures.0,
+      ← c.byte.ensures.0,
+      ← c.byte-2.ensures.0,
       ← c.byte-3.ensures.0,
-      ne_eqb _ _ first.if-byte-eq0.false,
-      eq-eqb _ _ number.if-byte-ne1.false,
+      ne_eqb _ _ c.if-byte-eq0.false,
+      eq-eqb _ _ c.if-byte-ne1.false,
     ) (sym (and-true _))

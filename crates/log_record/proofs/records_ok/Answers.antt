@@ -27,37 +27,27 @@ part_ok-requires c =
 pub returns-then-not-part_ok : goal.returns-then-not-part_ok
 unfolding records_ok
 returns-then-not-part_ok c =
-    let p = c.before in
-    let l = p.before.before in
-    let b = l.before.before.before.before.before in
-    let a = b.args in
+    let a = c.args in
     let rs = record_at (card_of a.log.now a.s) in
-    let many : a.m ≡ group_size rs = b.requires.1 in
-    sym (every_not _ 1 (all_not (part_ok a.entries a.z rs) 1 (group_size rs - 1) l.loop-k.k l.loop-k.invariant.0 (omega arith)
-    (sym p.part_ok.ensures ∙ not-true _ c.if-not-part_ok.true-raw)))
+    let many : a.m ≡ group_size rs = c.requires.m_value in
+    sym (every_not _ 1 (all_not (part_ok a.entries a.z rs) 1 (group_size rs - 1) c.loop-k.k c.loop-k.invariant.0 (omega arith)
+    (sym c.part_ok.ensures ∙ not-true _ c.if-not-part_ok.true-raw)))
 
 pub loop-k-preserved : goal.loop-k-preserved
 loop-k-preserved c =
-    let p = c.before in
-    let l = p.before.before in
-    let a = l.args in (
+    let a = c.args in (
       search rules,
       search rules,
-      sofar_more (part_ok a.entries a.z (record_at (card_of a.log.now a.s))) true 1 l.loop-k.k l.loop-k.invariant.2
-          (sym p.part_ok.ensures ∙ not-false _ c.if-not-part_ok.false-raw),
+      sofar_more (part_ok a.entries a.z (record_at (card_of a.log.now a.s))) true 1 c.loop-k.k c.loop-k.invariant.2
+          (sym c.part_ok.ensures ∙ not-false _ c.if-not-part_ok.false-raw),
     )
 
 pub returns : goal.returns
 unfolding records_ok
 returns c =
-    let l = c.before in
-    let t = l.before in
-    let o = t.before in
-    let r = o.before in
-    let b = r.before.before in
-    let a = b.args in
+    let a = c.args in
     let rs = record_at (card_of a.log.now a.s) in
-    let many : a.m ≡ group_size rs = b.requires.1 in
+    let many : a.m ≡ group_size rs = c.requires.m_value in
     let first : record_ok a.entries a.z (rs 0) ≡ true =
-    ap (record_ok a.entries a.z) (sym r.load-r.ensures) ∙ sym o.record_ok.ensures ∙ not-false _ t.if-not-record_ok.false-raw in
-    sym (each_every _ (first also all_of (part_ok a.entries a.z rs) 1 (group_size rs - 1) (λ k low less. l.loop-k.invariant.2 k low (omega arith)) also tt))
+    ap (record_ok a.entries a.z) (sym c.load-r.ensures) ∙ sym c.record_ok.ensures ∙ not-false _ c.if-not-record_ok.false-raw in
+    sym (each_every _ (first also all_of (part_ok a.entries a.z rs) 1 (group_size rs - 1) (λ k low less. c.loop-k.invariant.2 k low (omega arith)) also tt))
