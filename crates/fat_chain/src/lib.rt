@@ -1,5 +1,6 @@
 // Chains of clusters along FAT1, and the clusters that are free there.
 #![tactic(auto)]
+
 ghost use Rattle.std.specs.Prelude.{◌≡◌, ◌+◌, ◌-◌, ◌≤◌, ◌<◌, length};
 ghost use Rattle.model.specs.Scan.{first_from, nth_from};
 ghost use Rattle.model.specs.Sector.{card_of};

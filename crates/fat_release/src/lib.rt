@@ -1,6 +1,7 @@
 // Release: the marks of freed clusters, and a sector of FAT2 with them freed. A chain is walked once for each 32 sectors that hold
 // clusters.
 #![tactic(auto)]
+
 ghost use Rattle.std.specs.Prelude.{◌≡◌, false, ℕ, ◌+◌, ◌*◌, ◌/◌, ◌%◌, ◌≤◌, ◌<◌, eqb, length, get_or};
 ghost use Rattle.model.specs.Bytes.{pick};
 ghost use Rattle.model.specs.Fat.{entry};

@@ -1,5 +1,6 @@
 // The group in a log sector: whether RECORD takes its records, and the operation that they tell of.
 #![tactic(auto)]
+
 ghost use Rattle.std.specs.Prelude.{◌≡◌, ◌+◌, ◌*◌, ◌/◌, ◌≤◌, ◌<◌, length, ◌&&◌};
 ghost use Rattle.model.specs.Sector.{card_of};
 ghost use Rattle.model.specs.Scan.{all};

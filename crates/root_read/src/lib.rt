@@ -1,5 +1,6 @@
 // The root directory: its slots, and the slot of a name.
 #![tactic(auto)]
+
 ghost use Rattle.std.specs.Prelude.{◌≡◌, true, ◌+◌, ◌*◌, ◌/◌, ◌%◌, ◌≤◌, ◌<◌, eqb};
 ghost use Rattle.model.specs.Scan.{all_from};
 ghost use Rattle.model.specs.Sector.{card_of};

@@ -1,0 +1,17 @@
+use mathlib.Core.Path.{◌≡◌, ap, ◌∙◌}
+use mathlib.Core.Bool.{false}
+use Prim.Native.Nat.{ℕ, ◌+◌, ◌-◌, ◌/◌, ◌%◌, ◌<◌, ◌≤◌}
+use native.Mathlib.Omega.{arith}
+use lib.ListN.{get_or}
+use borrow.Author.Count.{below_more}
+use borrow.Author.Tests.{eqb-true, not-false}
+use Rattle.model.proofs.Tests.{or_false}
+use Rattle.fat_release.proofs.Laws.{bit_zero, mark_past}
+use borrow.Author.Rules.{rules}
+use Rattle.fat_release.proofs.has_mark.Given as goal
+
+abbrev pub invariant-loop-i : goal.invariant-loop-i
+invariant-loop-i l = (l.i ≤ 32) × (l.seen ≡ false → (m : ℕ) → m < l.i → get_or l.marks (l.at / 8 + m) 0 ≡ 0)
+
+abbrev pub decreases-loop-i : goal.decreases-loop-i
+decreases-loop-i l = 32 - l.i

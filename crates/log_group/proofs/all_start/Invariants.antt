@@ -1,0 +1,16 @@
+use Prim.Native.Nat.{◌-◌, ◌*◌, ◌≤◌}
+use native.Mathlib.Omega.{arith}
+use mathlib.Core.Path.{sym, ◌∙◌}
+use mathlib.Core.Bool.{true}
+use borrow.Author.Tests.{not-true, not-false}
+use Rattle.model.specs.Sector.{card_of}
+use Rattle.model.specs.Record.{starts}
+use Rattle.model.proofs.Scan.{Sofar, sofar_none, sofar_more, all_of0, all_not}
+use borrow.Author.Rules.{rules}
+use Rattle.log_group.proofs.all_start.Given as goal
+
+abbrev pub invariant-loop-k : goal.invariant-loop-k
+invariant-loop-k l = (l.k ≤ l.m) × Sofar (λ i. starts (card_of l.log l.s (32 * i))) true 0 l.k
+
+abbrev pub decreases-loop-k : goal.decreases-loop-k
+decreases-loop-k l = l.m - l.k

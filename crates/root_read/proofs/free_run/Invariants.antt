@@ -1,0 +1,20 @@
+use mathlib.Core.Path.{◌≡◌, sym, ◌∙◌}
+use mathlib.Core.Bool.{Bool, true, false}
+use Prim.Native.Nat.{ℕ, ◌+◌, ◌-◌, ◌≤◌, ◌<◌}
+use native.Mathlib.Omega.{arith}
+use borrow.Author.Tests.{not-true, not-false}
+use Rattle.model.specs.Scan.{all_from}
+use Rattle.model.specs.Sector.{card_of}
+use Rattle.model.specs.Root.{slot_at, vacant, free_run}
+use Rattle.model.proofs.Scan.{Sofar, sofar_none, sofar_more, sofar_cut, none_below, first_is0, all_of}
+use Rattle.root_read.proofs.Laws.{run_broken}
+use borrow.Author.Rules.{rules}
+use Rattle.root_read.proofs.free_run.Given as goal
+
+abbrev pub invariant-loop-k : goal.invariant-loop-k
+invariant-loop-k l =
+    (l.start ≤ l.k) × (l.k ≤ l.n) × (l.k < l.start + l.m) × Sofar (λ i. vacant (slot_at l.l (card_of l.w) i)) true l.start l.k
+    × Sofar (λ j. all_from (λ i. vacant (slot_at l.l (card_of l.w) i)) j l.m) false 0 l.start
+
+abbrev pub decreases-loop-k : goal.decreases-loop-k
+decreases-loop-k l = l.n - l.k

@@ -1,0 +1,7 @@
+use Rattle.model.specs.Root.{is_directory}
+use borrow.Author.Rules.{rules}
+use Rattle.root_read.proofs.is_directory.Goals as goal
+
+pub returns : goal.returns
+unfolding is_directory
+returns c = rw c.slot_byte.ensures.0
