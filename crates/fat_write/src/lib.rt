@@ -1,5 +1,6 @@
 // Renewal: FAT2 with the lowest free clusters linked after the last one kept, and the end of a chain freed, in one pass.
 #![tactic(auto)]
+
 ghost use Rattle.std.specs.Prelude.{◌≡◌, false, ℕ, ◌+◌, ◌*◌, ◌/◌, ◌%◌, ◌≤◌, ◌<◌, length, get_or, take};
 ghost use Rattle.model.specs.Sector.{card_of};
 ghost use Rattle.model.specs.Fat.{entry, fat1_of, fat2_of, free_clusters, link, write_fat};

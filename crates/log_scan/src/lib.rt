@@ -1,5 +1,6 @@
 // The log: the scan for pending records, and the group that they make.
 #![tactic(auto)]
+
 ghost use Rattle.std.specs.Prelude.{◌≡◌, ◌+◌, ◌-◌, ◌*◌, ◌/◌, ◌≤◌, ◌<◌, length, eqb};
 ghost use Rattle.model.specs.Sector.{card_of};
 ghost use Rattle.model.specs.Scan.{first_from, among};

@@ -1,5 +1,6 @@
 // Step 3: the log cleared if it is full, and the group of a change stored.
 #![tactic(auto)]
+
 ghost use Rattle.std.specs.Prelude.{◌≡◌, [], ◌∷◌, map, ◌+◌, ◌-◌, ◌*◌, ◌≤◌, ◌<◌, length, get_or};
 ghost use Rattle.model.specs.Bytes.{bytes_of, zeros};
 ghost use Rattle.model.specs.Sector.{card_of};

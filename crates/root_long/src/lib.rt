@@ -1,5 +1,6 @@
 // Long names: the checksum of a short one, the entries of its long name that stand before its slot, and the characters in them.
 #![tactic(auto)]
+
 ghost use Rattle.std.specs.Prelude.{◌≡◌, ◌*◌, ◌/◌, ◌≤◌, ◌<◌, eqb, length};
 ghost use Rattle.model.specs.Bytes.{bytes_of, view};
 ghost use Rattle.model.specs.Scan.{all};

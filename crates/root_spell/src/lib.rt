@@ -1,5 +1,6 @@
 // The slots of a new name: the entries of its long name, and its own.
 #![tactic(auto)]
+
 ghost use Rattle.std.specs.Prelude.{◌≡◌, ◌+◌, ◌-◌, ◌*◌, ◌%◌, ◌≤◌, ◌<◌, length};
 ghost use Rattle.model.specs.Bytes.{bytes_of};
 ghost use Rattle.model.specs.Long.{order_byte};

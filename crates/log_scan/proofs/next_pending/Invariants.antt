@@ -1,0 +1,17 @@
+use mathlib.Core.Path.{◌≡◌, sym, ◌∙◌}
+use mathlib.Core.Bool.{false}
+use Prim.Native.Nat.{ℕ, ◌+◌, ◌*◌, ◌-◌, ◌/◌, ◌≤◌}
+use native.Mathlib.Omega.{arith}
+use lib.ListN.{length}
+use Rattle.model.specs.Sector.{card_of}
+use Rattle.model.specs.Record.{pends}
+use Rattle.model.specs.Pending.{pending_at}
+use Rattle.model.proofs.Scan.{Sofar, sofar_none, sofar_more, sofar_cut, first_is, first_none}
+use borrow.Author.Rules.{rules}
+use Rattle.log_scan.proofs.next_pending.Given as goal
+
+abbrev pub invariant-loop-k : goal.invariant-loop-k
+invariant-loop-k l = (l.from ≤ l.k) × (l.k ≤ l.n) × Sofar (pending_at (card_of l.log)) false l.from l.k
+
+abbrev pub decreases-loop-k : goal.decreases-loop-k
+decreases-loop-k l = l.n - l.k

@@ -1,0 +1,18 @@
+use Prim.Native.Nat.{ℕ, ◌-◌, ◌*◌, ◌≤◌}
+use native.Mathlib.Omega.{arith}
+use mathlib.Core.Path.{◌≡◌, ap, ◌∙◌}
+use mathlib.Core.List.{List, map}
+use lib.ListN.{length, take}
+use lib.Seq.{take_all}
+use Rattle.model.specs.Bytes.{bytes_of, overlay}
+use Rattle.model.specs.Record.{record_bytes, operation_records, lay}
+use Rattle.model.specs.declared.Record.{Record}
+use Rattle.log_write.proofs.Laws.{lay_zeros, lay_next}
+use borrow.Author.Rules.{rules}
+use Rattle.log_write.proofs.lay_records.Given as goal
+
+abbrev pub invariant-loop-k : goal.invariant-loop-k
+invariant-loop-k l = (l.k ≤ l.n) × (length l.buf ≡ 512) × (bytes_of l.buf ≡ lay (map record_bytes (take l.k (operation_records l.o))))
+
+abbrev pub decreases-loop-k : goal.decreases-loop-k
+decreases-loop-k l = l.n - l.k
