@@ -26,12 +26,22 @@ leads c = eqb (tag_of the_type c) 1
 abbrev pub closes : Class → Bool
 closes c = eqb (tag_of the_type c) 4
 
--- A class that is not Next, and one that is not End, by the numbers of the others.
-pub not_next : (c : Class) → OneOf (0 ∷ 2 ∷ 3 ∷ 4 ∷ 5 ∷ []) (tag_of the_type c) → leads c ≡ false
-not_next c h = keyed (λ b. eqb b 1) false (0 ∷ 2 ∷ 3 ∷ 4 ∷ 5 ∷ []) refl (tag_of the_type c) h
+-- A class that is not Next, and one that is not End.
+pub not_next : (c : Class) → (c ≡ Next → ⊥) → leads c ≡ false
+not_next Free h = refl
+not_next Next h = absurd (h refl)
+not_next Reserved h = refl
+not_next Bad h = refl
+not_next End h = refl
+not_next Other h = refl
 
-pub not_end : (c : Class) → OneOf (0 ∷ 1 ∷ 2 ∷ 3 ∷ 5 ∷ []) (tag_of the_type c) → closes c ≡ false
-not_end c h = keyed (λ b. eqb b 4) false (0 ∷ 1 ∷ 2 ∷ 3 ∷ 5 ∷ []) refl (tag_of the_type c) h
+pub not_end : (c : Class) → (c ≡ End → ⊥) → closes c ≡ false
+not_end Free h = refl
+not_end Next h = refl
+not_end Reserved h = refl
+not_end Bad h = refl
+not_end End h = absurd (h refl)
+not_end Other h = refl
 
 -- The next clusters are those in range, and the ends those that end a chain.
 pub inside_leads : (l : Layout) (v : ℕ) → in_range l v ≡ leads (class l v)

@@ -12,4 +12,4 @@ returns-in-End c =
 pub returns-in_default : goal.returns-in_default
 returns-in_default c =
     let a = c.args in
-    sym (end_closes a.l a.v (omega arith) ∙ ap closes (sym c.classify-c.ensures) ∙ not_end c.classify-c.result c.in_default.in_default-own.keys2)
+    sym (end_closes a.l a.v (omega arith) ∙ ap closes (sym c.classify-c.ensures) ∙ not_end c.classify-c.result c.in_default.not-End)

@@ -11,4 +11,4 @@ returns-in-Next c =
 pub returns-in_default : goal.returns-in_default
 returns-in_default c =
     let a = c.args in
-    sym (inside_leads a.l a.k ∙ ap leads (sym c.classify-c.ensures) ∙ not_next c.classify-c.result c.in_default.in_default-own.keys2)
+    sym (inside_leads a.l a.k ∙ ap leads (sym c.classify-c.ensures) ∙ not_next c.classify-c.result c.in_default.not-Next)

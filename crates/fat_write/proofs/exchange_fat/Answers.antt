@@ -8,7 +8,7 @@ use borrow.Author.Rules.{rules}
 use Rattle.fat_write.proofs.exchange_fat.Goals as goal
 
 pub renew_fat-requires : goal.renew_fat-requires
-renew_fat-requires c = (c.requires, (refl, λ p. refl))
+renew_fat-requires c = record { held = c.requires; marks_len = (refl, λ p. refl) }
 
 pub returns : goal.returns
 returns c =

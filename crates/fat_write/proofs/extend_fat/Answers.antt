@@ -9,7 +9,7 @@ use Rattle.fat_write.proofs.extend_fat.Goals as goal
 
 pub renew_fat-requires : goal.renew_fat-requires
 unfolding chain
-renew_fat-requires c = ((search rules, search rules, tt), (refl, λ p. absurd (omega arith)))
+renew_fat-requires c = record { held = (search rules, search rules, tt); marks_len = (refl, λ p. absurd (omega arith)) }
 
 pub returns : goal.returns
 returns c =

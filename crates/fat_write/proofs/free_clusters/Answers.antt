@@ -14,7 +14,7 @@ use Rattle.fat_write.proofs.free_clusters.Goals as goal
 
 pub renew_all-requires : goal.renew_all-requires
 unfolding chain
-renew_all-requires c = ((search rules, search rules, no_new _ _, tt), (c.requires.marks_len.0, λ p. absurd (omega arith)))
+renew_all-requires c = record { held = (search rules, search rules, no_new _ _, tt); marks_len = (c.requires.marks_len.0, λ p. absurd (omega arith)) }
 
 pub returns-then-m-eq0 : goal.returns-then-m-eq0
 returns-then-m-eq0 c = let a = c.args in
@@ -29,10 +29,7 @@ returns-then-m-eq0 c = let a = c.args in
 pub renew_all-requires-2 : goal.renew_all-requires-2
 renew_all-requires-2 c =
     let h0 = c.requires in
-    let a = c.args in (
-      (search rules, search rules, no_new _ _, rw (own_chain a.l (card_of a.w.now) h0.0.0.fits.shape a.m a.old h0.0.1) h0.0.1),
-      h0.1,
-    )
+    let a = c.args in record { held = (search rules, search rules, no_new _ _, rw (own_chain a.l (card_of a.w.now) h0.held.0.fits.shape a.m a.old h0.held.1) h0.held.1); marks_len = h0.marks_len }
 
 pub returns : goal.returns
 returns c =
@@ -42,5 +39,5 @@ returns c =
     let x = card_of a.w.now in
     rw (write_same a.l (cut (fat1_of a.l x) a.last a.old a.m)
     (passed a.l (own_fat a.l a.w.now) a.last end_value 0 0 a.m a.old) (fat2_of a.l x)
-    (λ s j h b. passed_cut a.l x h0.0.0.fits.shape a.last a.old a.m h0.0.1 s j (omega arith) h))
+    (λ s j h b. passed_cut a.l x h0.held.0.fits.shape a.last a.old a.m h0.held.1 s j (omega arith) h))
     the-renew-all2.ensures

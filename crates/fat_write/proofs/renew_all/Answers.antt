@@ -37,18 +37,18 @@ mark_block-requires c =
     let h0 = c.requires in
     let a = c.args in
     let o = c.loop-s in
-    let same = fat_same a.l h0.0.0.fits.shape a.last a.value a.first a.n a.m a.old a.limit a.w.now o.w o.s o.made
+    let same = fat_same a.l h0.held.0.fits.shape a.last a.value a.first a.n a.m a.old a.limit a.w.now o.w o.s o.made
     o.invariant.3 in
-    (search rules, λ p. omega (arith, o.invariant.2, h0.1.1 p), search rules, rw same h0.0.3, rw same o.invariant.4)
+    (search rules, λ p. omega (arith, o.invariant.2, h0.marks_len.1 p), search rules, rw same h0.held.3, rw same o.invariant.4)
 
 pub renew_sector-p-requires : goal.renew_sector-p-requires
 renew_sector-p-requires c =
     let h0 = c.requires in
     let a = c.args in
     let o = c.loop-s in
-    let same = fat_same a.l h0.0.0.fits.shape a.last a.value a.first a.n a.m a.old a.limit a.w.now o.w o.s o.made
+    let same = fat_same a.l h0.held.0.fits.shape a.last a.value a.first a.n a.m a.old a.limit a.w.now o.w o.s o.made
     o.invariant.3 in
-    (search rules, search rules, search rules, rw same o.invariant.5.next, o.invariant.6, omega (arith, o.invariant.2, h0.1.0))
+    (search rules, search rules, search rules, rw same o.invariant.5.next, o.invariant.6, omega (arith, o.invariant.2, h0.marks_len.0))
 
 pub returns-then-not-p : goal.returns-then-not-p
 returns-then-not-p c =
@@ -58,7 +58,7 @@ returns-then-not-p c =
     let h0 = c.requires in
     let a = c.args in
     let o = c.loop-s in
-    let t = turn_same a.l h0.0.0.fits.shape a.last a.value a.first a.n a.m a.old a.limit a.w.now o.w o.s o.made
+    let t = turn_same a.l h0.held.0.fits.shape a.last a.value a.first a.n a.m a.old a.limit a.w.now o.w o.s o.made
     o.invariant.3
     the-mark-block.new.marks the-mark-block.ensures o.at o.left o.invariant.5 in
     rw (← write_turns a.l (passed a.l (own_fat a.l a.w.now) a.last a.value a.first a.n a.m a.old)
@@ -74,9 +74,9 @@ loop-s-preserved c =
     let h0 = c.requires in
     let a = c.args in
     let o = c.loop-s in
-    let same = fat_same a.l h0.0.0.fits.shape a.last a.value a.first a.n a.m a.old a.limit a.w.now o.w o.s o.made
+    let same = fat_same a.l h0.held.0.fits.shape a.last a.value a.first a.n a.m a.old a.limit a.w.now o.w o.s o.made
     o.invariant.3 in
-    let t = turn_same a.l h0.0.0.fits.shape a.last a.value a.first a.n a.m a.old a.limit a.w.now o.w o.s o.made
+    let t = turn_same a.l h0.held.0.fits.shape a.last a.value a.first a.n a.m a.old a.limit a.w.now o.w o.s o.made
     o.invariant.3
     the-mark-block.new.marks the-mark-block.ensures o.at o.left o.invariant.5 in (
       search rules,

@@ -26,16 +26,16 @@ renew_all-requires c =
     let find-entry = c.find_entry-first in
     let h0 = c.requires in
     let a = c.args in
-    let x = card_of a.w.now in (
-      (
+    let x = card_of a.w.now in record {
+      held = (
         search rules,
-        omega (arith, find-entry.ensures.2, h0.0.0.fits.shape.few),
-        new_first a.l x h0.0.0.fits.shape a.n find-entry.result h0.0.1
-            (find-entry.ensures.0 ∙ own_first a.l x 2 a.l.clusters (omega (arith, h0.0.0))),
-        rw (own_chain a.l x h0.0.0.fits.shape a.m a.old h0.0.2) h0.0.2,
-      ),
-      h0.1,
-    )
+        omega (arith, find-entry.ensures.2, h0.held.0.fits.shape.few),
+        new_first a.l x h0.held.0.fits.shape a.n find-entry.result h0.held.1
+            (find-entry.ensures.0 ∙ own_first a.l x 2 a.l.clusters (omega (arith, h0.held.0))),
+        rw (own_chain a.l x h0.held.0.fits.shape a.m a.old h0.held.2) h0.held.2,
+      );
+      marks_len = h0.marks_len;
+    }
 
 pub returns : goal.returns
 returns c =
@@ -46,8 +46,8 @@ returns c =
     let x = card_of a.w.now in
     let t = fat1_of a.l x in
     let r = the-find-entry.result in
-    let is = the-find-entry.ensures.0 ∙ own_first a.l x 2 a.l.clusters (omega (arith, h0.0.0)) in
+    let is = the-find-entry.ensures.0 ∙ own_first a.l x 2 a.l.clusters (omega (arith, h0.held.0)) in
     rw (write_same a.l (renewed a.last (take a.n (free_clusters a.l t)) (chain (entry t) a.m a.old) t)
     (passed a.l (own_fat a.l a.w.now) a.last r r a.n a.m a.old) (fat2_of a.l x)
-    (λ s j h b. passed_some a.l x h0.0.0.fits.shape a.last a.old a.m h0.0.2 a.n r h0.0.1 is (omega arith) s j h))
+    (λ s j h b. passed_some a.l x h0.held.0.fits.shape a.last a.old a.m h0.held.2 a.n r h0.held.1 is (omega arith) s j h))
     the-renew-all.ensures

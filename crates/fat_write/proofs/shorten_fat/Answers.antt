@@ -7,7 +7,7 @@ use borrow.Author.Rules.{rules}
 use Rattle.fat_write.proofs.shorten_fat.Goals as goal
 
 pub renew_fat-requires : goal.renew_fat-requires
-renew_fat-requires c = ((search rules, omega arith, c.requires.1), (refl, λ p. refl))
+renew_fat-requires c = record { held = (search rules, omega arith, c.requires.1); marks_len = (refl, λ p. refl) }
 
 pub returns : goal.returns
 returns c = let a = c.args in

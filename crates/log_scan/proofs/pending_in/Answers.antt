@@ -28,6 +28,5 @@ unfolding pending_in judged
 returns-in-At c =
     let a = c.args in
     let pre = c.requires in
-    let place = c.place-1 in
-    let n = a.a.sectors in let s = place.given.0.0 in let r = place.given.0.1.0 in let p = placed (first_pending n (card_of a.log.now)) n
-    s r (sym pre.1 ∙ place.given.1) in rw (p.at, lt-ltb (16 * s + r) (16 * n) (omega (arith, p.within, p.few))) c.judge.ensures
+    let n = a.a.sectors in let p = placed (first_pending n (card_of a.log.now)) n
+    c.in-At.s c.in-At.r (sym pre.1 ∙ c.in-At.is) in rw (p.at, lt-ltb (16 * c.in-At.s + c.in-At.r) (16 * n) (omega (arith, p.within, p.few))) c.judge.ensures

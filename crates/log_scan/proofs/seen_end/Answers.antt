@@ -13,7 +13,7 @@ overflow_add-a c =
     let a = c.args in
     let h = c.requires in
     let p = placed (first_pending a.a.sectors (log_of a.a (card_of a.w.now))) a.a.sectors _ _
-    (sym h.1.1 ∙ c.in-At.is) in
+    (sym h.sectors_bound.1 ∙ c.in-At.is) in
     omega (arith, p.within)
 
 pub operation_at-requires : goal.operation_at-requires
@@ -21,7 +21,7 @@ operation_at-requires c =
     let a = c.args in
     let h = c.requires in
     let p = placed (first_pending a.a.sectors (log_of a.a (card_of a.w.now))) a.a.sectors _ _
-    (sym h.1.1 ∙ c.in-At.is) in
+    (sym h.sectors_bound.1 ∙ c.in-At.is) in
     omega (arith, p.within)
 
 pub returns-in-Nowhere : goal.returns-in-Nowhere
@@ -30,6 +30,5 @@ returns-in-Nowhere c = rw c.in-Nowhere.is tt
 pub returns-in-At : goal.returns-in-At
 returns-in-At c =
     let a = c.args in
-    let the-place = c.place-1 in
-    rw the-place.given.1 (c.end_past.ensures ∙ ap (λ o. end_past o a.l.entries (first_bytes a.l (card_of a.w.now)))
+    rw c.in-At.is (c.end_past.ensures ∙ ap (λ o. end_past o a.l.entries (first_bytes a.l (card_of a.w.now)))
     c.operation_at.ensures)

@@ -32,47 +32,41 @@ pub returns-in-Create : goal.returns-in-Create
 unfolding operation_records
 returns-in-Create c =
     let a = c.args in
-    let o = c.o-1 in
-    rw o.given.1 (c.stamped.ensures
-    ∙ ap (λ (r : Record). get_or (r ∷ stamp_record o.given.0.1.1.0 ∷ []) a.k (record_in zeros)) c.record_about.ensures)
+    rw c.in-Create.is (c.stamped.ensures
+    ∙ ap (λ (r : Record). get_or (r ∷ stamp_record c.in-Create.stamp ∷ []) a.k (record_in zeros)) c.record_about.ensures)
 
 pub returns-in-Update : goal.returns-in-Update
 unfolding operation_records
 returns-in-Update c =
     let a = c.args in
-    let o = c.o-in-Update-1 in
-    rw o.given.1 (c.stamped-in-Update.ensures
-    ∙ ap (λ (r : Record). get_or (r ∷ stamp_record o.given.0.1.1.1.1.0 ∷ []) a.k (record_in zeros)) c.record_about-in-Update.ensures)
+    rw c.in-Update.is (c.stamped-in-Update.ensures
+    ∙ ap (λ (r : Record). get_or (r ∷ stamp_record c.in-Update.stamp ∷ []) a.k (record_in zeros)) c.record_about-in-Update.ensures)
 
 pub returns-in-Delete : goal.returns-in-Delete
 unfolding operation_records
 returns-in-Delete c =
     let pre = c.requires in
     let a = c.args in
-    let o3 = c.o-in-Delete-1 in
-    let less = rw o3.given.1 at (pre) in let first : a.k ≡ 0 = omega arith in rw (o3.given.1, first) c.record_about-in-Delete.ensures
+    let less = rw c.in-Delete.is at (pre) in let first : a.k ≡ 0 = omega arith in rw (c.in-Delete.is, first) c.record_about-in-Delete.ensures
 
 pub returns-in-Truncate : goal.returns-in-Truncate
 unfolding operation_records
 returns-in-Truncate c =
     let a = c.args in
-    let o = c.o-in-Truncate-1 in
-    rw o.given.1 (c.stamped-in-Truncate.ensures
-    ∙ ap (λ (r : Record). get_or (r ∷ stamp_record o.given.0.1.1.1.1.0 ∷ []) a.k (record_in zeros)) c.record_about-in-Truncate.ensures)
+    rw c.in-Truncate.is (c.stamped-in-Truncate.ensures
+    ∙ ap (λ (r : Record). get_or (r ∷ stamp_record c.in-Truncate.stamp ∷ []) a.k (record_in zeros)) c.record_about-in-Truncate.ensures)
 
 pub returns-else-k-eq0 : goal.returns-else-k-eq0
 unfolding operation_records
 returns-else-k-eq0 c =
     let pre = c.requires in
     let a = c.args in
-    let o5 = c.o-in-Rename-1 in
-    let less = rw o5.given.1 at (pre) in let second : a.k ≡ 1 = omega (arith, c.if-k-eq0.false) in rw (o5.given.1, second)
+    let less = rw c.in-Rename.is at (pre) in let second : a.k ≡ 1 = omega (arith, c.if-k-eq0.false) in rw (c.in-Rename.is, second)
     c.record_about-in-Rename.ensures
 
 pub returns-in-Replace : goal.returns-in-Replace
 unfolding operation_records
 returns-in-Replace c =
     let a = c.args in
-    let o = c.o-in-Replace-1 in
-    rw o.given.1 (c.stamped-in-Replace.ensures
-    ∙ ap (λ (r : Record). get_or (r ∷ stamp_record o.given.0.1.1.1.1.0 ∷ []) a.k (record_in zeros)) c.record_about-in-Replace.ensures)
+    rw c.in-Replace.is (c.stamped-in-Replace.ensures
+    ∙ ap (λ (r : Record). get_or (r ∷ stamp_record c.in-Replace.stamp ∷ []) a.k (record_in zeros)) c.record_about-in-Replace.ensures)
