@@ -1,5 +1,6 @@
 // An append's first step: the data sectors that get new bytes; how many clusters an append takes, and the first of them.
 #![tactic(auto)]
+
 ghost use Rattle.std.specs.Prelude.{◌≡◌, true, [], ◌∷◌, ℕ, ◌+◌, ◌-◌, ◌*◌, ◌/◌, ◌≤◌, ◌<◌, min, length, get_or};
 ghost use Rattle.model.specs.Bytes.{bytes_of, overlay, part, view, zeros};
 ghost use Rattle.model.specs.Sector.{card_of, clip};

@@ -1,5 +1,6 @@
 // A file along its chain: its clusters and their sectors, its last cluster, and its bytes read into a lent buffer.
 #![tactic(auto)]
+
 ghost use Rattle.std.specs.Prelude.{◌≡◌, ◌+◌, ◌*◌, ◌%◌, ◌≤◌, ◌<◌, min, length};
 ghost use Rattle.model.specs.Sector.{card_of};
 ghost use Rattle.model.specs.Fat.{fat1_of, entry};

@@ -1,5 +1,6 @@
 // Steps 3 to 6: the group of a change, and what it makes to be done; a recovery redoes steps 4 to 6 alone.
 #![tactic(auto)]
+
 ghost use Rattle.std.specs.Prelude.{◌≡◌, [], ◌∷◌, ◌+◌, ◌*◌, ◌≤◌, ◌<◌, length};
 ghost use Rattle.model.specs.Bytes.{bytes_of};
 ghost use Rattle.model.specs.Sector.{clip, card_of};

@@ -1,5 +1,6 @@
 // The root's part of a change.
 #![tactic(auto)]
+
 ghost use Rattle.std.specs.Prelude.{◌≡◌, map, ℕ, ◌+◌, ◌*◌, ◌/◌, ◌<◌, eqb, length, get_or};
 ghost use Rattle.model.specs.Bytes.{bytes_of};
 ghost use Rattle.model.specs.Scan.{any};

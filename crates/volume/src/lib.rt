@@ -1,5 +1,6 @@
 // Grounds 1 to 7 of a card, asked in order.
 #![tactic(auto)]
+
 ghost use Rattle.std.specs.Prelude.{◌≡◌};
 ghost use Rattle.model.specs.Sector.{card_of, window_of};
 ghost use Rattle.model.specs.Pending.{pending, is_broken, is_held};

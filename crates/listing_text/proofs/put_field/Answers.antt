@@ -10,7 +10,7 @@ put_decimal-requires c =
       arith,
       decimal_short c.args.n (omega arith),
       c.put_text-end.ensures.ends,
-      c.put_text-end.auto.0,
+      c.put_text-end.auto.out,
     )
 
 pub returns : goal.returns

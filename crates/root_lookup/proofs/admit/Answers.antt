@@ -1,0 +1,14 @@
+use Rattle.operations.specs.Calls.{admit}
+use borrow.Author.Rules.{rules}
+use Rattle.root_lookup.proofs.admit.Goals as goal
+
+pub returns-in-Absent : goal.returns-in-Absent
+unfolding admit
+returns-in-Absent c = rw c.in-Absent.is
+
+pub returns-in-Directory : goal.returns-in-Directory
+unfolding admit
+returns-in-Directory c = rw c.in-Directory.is
+
+pub returns-in-File : goal.returns-in-File
+returns-in-File c = rw c.in-File.is c.ask_mark.ensures

@@ -1,0 +1,19 @@
+use Prim.Native.Nat.{◌-◌, ◌*◌, ◌≤◌}
+use native.Mathlib.Omega.{arith}
+use mathlib.Core.Path.{◌≡◌, ◌∙◌, fun_ext}
+use lib.ListN.{length}
+use Rattle.model.specs.Bytes.{bytes_of, overlay}
+use Rattle.model.specs.Sector.{card_of}
+use Rattle.model.specs.Root.{slot_at}
+use Rattle.model.specs.Record.{with_text}
+use Rattle.model.proofs.Sectors.{part_zero}
+use Rattle.operations.specs.Finish.{effect}
+use Rattle.root_write.proofs.Laws.{Laid, laid_more}
+use borrow.Author.Rules.{rules}
+use Rattle.root_write.proofs.load_edited.Given as goal
+
+abbrev pub invariant-loop-i : goal.invariant-loop-i
+invariant-loop-i l = (l.i ≤ 16) × (length l.buf ≡ 512) × Laid (effect (with_text l.o (bytes_of l.text)) (slot_at l.l (card_of l.w))) l.r l.i (bytes_of l.buf)
+
+abbrev pub decreases-loop-i : goal.decreases-loop-i
+decreases-loop-i l = 16 - l.i
