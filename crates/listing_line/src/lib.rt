@@ -1,5 +1,6 @@
 // The line of one log record: it is put into a lent buffer, and has at most 119 bytes.
 #![tactic(auto)]
+
 ghost use Rattle.std.specs.Prelude.{◌≡◌, ◌+◌, ◌*◌, ◌/◌, ◌%◌, ◌≤◌, length};
 ghost use Rattle.model.specs.Bytes.{bytes_of, part};
 ghost use Rattle.model.specs.Listing.{record_line};

@@ -75,7 +75,7 @@ returns-then-not-t c =
     reached_cut a.l a.f a.w.now a.new.now a.limit pre.0.fits.shape pre.1 turn.w turn.p turn.q turn.made
     turn.invariant.2 (omega (arith, sectors-for.ensures, index.ensures)) advance.result advance.ensures sector-in.result
     sector-in.ensures.0 append_sector.new.w append_sector.result.made
-    (rw (not-true append_sector.result.whole c.if-not-t.true-raw) at append_sector.ensures)
+    (rw (not-true append_sector.result.whole c.if-not-t.true) at append_sector.ensures)
 
 pub loop-q-preserved : goal.loop-q-preserved
 loop-q-preserved c =
@@ -92,7 +92,7 @@ loop-q-preserved c =
       reached_more a.l a.f a.w.now a.new.now a.limit pre.0.fits.shape pre.1 turn.w turn.p turn.q turn.made
           turn.invariant.2 (omega (arith, sectors-for.ensures, index.ensures)) advance.result advance.ensures sector-in.result
           sector-in.ensures.0 append_sector.new.w append_sector.result.made
-          (rw (not-false append_sector.result.whole c.if-not-t.false-raw) at append_sector.ensures),
+          (rw (not-false append_sector.result.whole c.if-not-t.false) at append_sector.ensures),
     )
 
 pub returns : goal.returns

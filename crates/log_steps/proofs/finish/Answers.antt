@@ -14,7 +14,7 @@ unfolding finish
 returns-then-not-fats c =
     let a = c.args in
     let the-to-fat1 = c.to_fat1-fats in
-    let cut = not-true the-to-fat1.result.whole c.if-not-fats.true-raw in
+    let cut = not-true the-to-fat1.result.whole c.if-not-fats.true in
     rw cut (ran_stop a.limit (write_fat a.l a.l.fat1 (fat2_of a.l (card_of a.w.now)) (fat1_of a.l (card_of a.w.now)))
     a.w.now the-to-fat1.new.w the-to-fat1.result.made (rw cut at the-to-fat1.ensures)
     (root_stores a.l (with_text a.o (bytes_of a.text.now)) (card_of a.w.now)))
@@ -27,7 +27,7 @@ returns c =
     let the-to-fat1 = c.to_fat1-fats in
     let the-if1 = c.if-not-fats in
     let the-store-root = c.store_root-root in
-    let one = rw (not-false the-to-fat1.result.whole the-if1.false-raw) at the-to-fat1.ensures in
+    let one = rw (not-false the-to-fat1.result.whole the-if1.false) at the-to-fat1.ensures in
     rw (c.joined.ensures.0, c.joined.ensures.1) (ran_then a.limit (write_fat a.l a.l.fat1 (fat2_of a.l (card_of a.w.now))
     (fat1_of a.l (card_of a.w.now))) a.w.now the-to-fat1.new.w the-to-fat1.result.made one
     (root_stores a.l (with_text a.o (bytes_of a.text.now)) (card_of a.w.now)) the-store-root.new.w the-store-root.result.made

@@ -13,7 +13,7 @@ pub returns-then-not-cleared : goal.returns-then-not-cleared
 returns-then-not-cleared c =
     let a = c.args in
     let the-clear-log = c.clear_log-cleared in
-    let cut = not-true the-clear-log.result.whole c.if-not-cleared.true-raw in
+    let cut = not-true the-clear-log.result.whole c.if-not-cleared.true in
     rw cut (log_steps_cut a.limit a.v (with_text a.o (bytes_of a.text.now)) a.w.now _ _ (rw cut at the-clear-log.ensures))
 
 pub store_and_redo-done-requires : goal.store_and_redo-done-requires
@@ -44,5 +44,5 @@ returns c =
     let the-plan-for = c.plan_for in
     let the-store-and-redo = c.store_and_redo-done in
     rw (c.joined.ensures.0, c.joined.ensures.1) (log_steps_ran a.limit a.v (with_text a.o (bytes_of a.text.now)) a.w.now _ _
-    (rw (not-false the-clear-log.result.whole the-if1.false-raw) at the-clear-log.ensures) _ _ _
+    (rw (not-false the-clear-log.result.whole the-if1.false) at the-clear-log.ensures) _ _ _
     (rw (the-plan-for.ensures.0, the-group-sector.ensures) at the-store-and-redo.ensures))

@@ -14,7 +14,7 @@ pub returns-then-not-done : goal.returns-then-not-done
 returns-then-not-done c =
     let a = c.args in
     let the-finish = c.finish-done in
-    let cut = not-true the-finish.result.whole c.if-not-done.true-raw in
+    let cut = not-true the-finish.result.whole c.if-not-done.true in
     rw (cut, redo_stores a.l (planned a.p (bytes_of a.text.now)) (card_of a.w.now))
     (ran_stop a.limit (finish a.l (with_text a.p.operation (bytes_of a.text.now)) (card_of a.w.now)) a.w.now
     the-finish.new.w the-finish.result.made (rw cut at the-finish.ensures)
@@ -28,7 +28,7 @@ returns c =
     let the-finish = c.finish-done in
     let the-if1 = c.if-not-done in
     let the-commit = c.commit-marked in
-    let one = rw (not-false the-finish.result.whole the-if1.false-raw) at the-finish.ensures in
+    let one = rw (not-false the-finish.result.whole the-if1.false) at the-finish.ensures in
     rw (c.joined.ensures.0, c.joined.ensures.1, redo_stores a.l (planned a.p (bytes_of a.text.now)) (card_of a.w.now))
     (ran_then a.limit (finish a.l (with_text a.p.operation (bytes_of a.text.now)) (card_of a.w.now)) a.w.now
     the-finish.new.w the-finish.result.made one (commit (card_of a.w.now) (planned a.p (bytes_of a.text.now)) ∷ [])
