@@ -9,7 +9,7 @@ use Rattle.listing_line.proofs.put_record.Goals as goal
 pub returns : goal.returns
 returns c =
     let a = c.args in
-    let Numbers-of = c.Numbers-of in
+    let numbers_of-n = c.Numbers-of in
     let put-head = c.put_head-a in
     let index = c.index in
     let put-name = c.put_name-b in
@@ -19,7 +19,7 @@ returns c =
     let p = part (bytes_of xs) (32 * k) in (
       rw (
         line_is (k / 16) (k % 16) p,
-        ← Numbers-of.ensures,
+        ← numbers_of-n.ensures,
       )
           (wrote_then _ _ _ _ _ _ _ _ put-head.ensures.0
           (wrote_then _ _ _ _ _ _ _ _ (rw

@@ -22,17 +22,15 @@ store_and_redo-done-requires c =
     let h = c.requires in
     let the-group-sector = c.group_sector-s in
     let the-plan-for = c.plan_for in
-    let b = group_sector_in a.v.log (log_of a.v.log (card_of a.w.now)) (omega arith) in (
-      search rules,
-      (
-        rw the-plan-for.ensures.1 h.start_le_sector.1,
-        (
-          omega (arith, b, the-group-sector.ensures, the-plan-for.ensures.2),
-          omega (arith, b, the-group-sector.ensures, the-plan-for.ensures.2),
-          the-plan-for.ensures.3,
-        ),
-      ),
-    )
+    let b = group_sector_in a.v.log (log_of a.v.log (card_of a.w.now)) (omega arith) in record {
+      held = search rules;
+      slots = rw the-plan-for.ensures.1 h.slots;
+      start_le_sector = (
+        omega (arith, b, the-group-sector.ensures, the-plan-for.ensures.2),
+        omega (arith, b, the-group-sector.ensures, the-plan-for.ensures.2),
+        the-plan-for.ensures.3,
+      );
+    }
 
 pub returns : goal.returns
 unfolding new_group

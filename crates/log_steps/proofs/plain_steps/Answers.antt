@@ -6,4 +6,4 @@ use Rattle.log_steps.proofs.plain_steps.Goals as goal
 
 pub log_steps-requires : goal.log_steps-requires
 log_steps-requires c =
-    (search rules, (search rules, (c.requires.start_le_sector.1, record { even = refl; short = omega arith }, omega (arith, told_records c.args.o))))
+    record { held = search rules; start_le_sector = search rules; slots = (c.requires.slots, record { even = refl; short = omega arith }, omega (arith, told_records c.args.o)) }
