@@ -1,5 +1,6 @@
 // Create, with a long name or without, and rename: the calls that change the root directory and neither data nor FATs.
 #![tactic(auto)]
+
 ghost use Rattle.std.specs.Prelude.{true, ◌&&◌, ◌≡◌, [], ◌*◌, ◌%◌, ◌≤◌, ◌<◌, length};
 ghost use Rattle.model.specs.Bytes.{bytes_of, view};
 ghost use Rattle.model.specs.Record.{with_text};

@@ -1,5 +1,6 @@
 // Fits: a card that is clean, and whether so many bytes would find room there.
 #![tactic(auto)]
+
 ghost use Rattle.std.specs.Prelude.{◌≡◌};
 ghost use Rattle.model.specs.Sector.{card_of, window_of};
 ghost use Rattle.model.specs.Fat.{fat1_of, free_clusters};

@@ -1,5 +1,6 @@
 // Read, list and the reading of a long name: a card that is clean, and what they leave in a lent buffer.
 #![tactic(auto)]
+
 ghost use Rattle.std.specs.Prelude.{length, get_or, ◌≡◌, ℕ, ◌+◌, ◌*◌, ◌/◌, ◌≤◌, ◌<◌, min};
 ghost use Rattle.model.specs.Bytes.{view, bytes_of, overlay};
 ghost use Rattle.model.specs.Sector.{card_of, window_of};

@@ -9,7 +9,7 @@ use Rattle.listing_line.proofs.put_record.Goals as goal
 pub returns : goal.returns
 returns c =
     let a = c.args in
-    let numbers_of-n = c.Numbers-of in
+    let numbers_of-n = c.numbers_of-n in
     let put-head = c.put_head-a in
     let index = c.index in
     let put-name = c.put_name-b in

@@ -5,18 +5,13 @@ use Rattle.model.specs.Root.{slot_at}
 use Rattle.model.proofs.Laying.{overlay_same}
 use Rattle.root_read.proofs.Laws.{slot_byte}
 use borrow.Author.Rules.{rules}
-use Rattle.call_read.proofs.copy_slot.Statement.{statement}
-use Rattle.call_read.proofs.copy_slot.Tie as tie
+use Rattle.call_read.proofs.copy_slot.Goals as goal
 
-returns : tie.Need-returns
+pub returns : goal.returns
 returns c =
-    let a = c.before.before.before.before.before.before.before.args in
-    let start = c.before.before.before.slot_start in
+    let a = c.args in
+    let start = c.slot_start in
     let w = a.w.now in
-    λ i. c.before.before.copy.ensures i
+    λ i. c.copy.ensures i
     ∙ overlay_same 32 (part (bytes_of w) start.result) (slot_at a.l (card_of w) a.k) a.at (bytes_of a.out.now)
     (λ m h. slot_byte a.l w a.k start.result m start.ensures.0 h) i
-
-pub copy_slot_spec : {M : Type 1} → statement M
-copy_slot_spec =
-    tie.close (tie.spec (λ c κs. search rules) (λ c κs. search rules) (λ c. search rules) returns)

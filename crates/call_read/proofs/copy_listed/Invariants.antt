@@ -1,0 +1,20 @@
+use mathlib.Core.Path.{◌≡◌, refl}
+use Prim.Native.Nat.{◌-◌, ◌≤◌}
+use native.Mathlib.Omega.{arith}
+use lib.ListN.{length}
+use Rattle.model.specs.Sector.{card_of}
+use Rattle.model.specs.Root.{slot_at, listed}
+use Rattle.operations.specs.Reading.{shown, directory_listing}
+use Rattle.operations.specs.Promises.{Fills}
+use Rattle.call_read.specs.Filled.{shown_to}
+use Rattle.model.proofs.Scan.{indices_none}
+use Rattle.call_read.proofs.Entries.{listed_le, listing_none, listing_step, shown_past}
+use borrow.Author.Rules.{rules}
+use Rattle.call_read.proofs.copy_listed.Given as goal
+
+abbrev pub invariant-loop-k : goal.invariant-loop-k
+invariant-loop-k l = (l.k ≤ l.entries) × (l.n ≤ l.k) × (length l.out ≡ length l.initial.out)
+    × Fills (directory_listing l.l (card_of l.w) (shown_to l.l (card_of l.w) l.k) (length l.initial.out)) l.initial.out l.out l.n
+
+abbrev pub decreases-loop-k : goal.decreases-loop-k
+decreases-loop-k l = l.entries - l.k
