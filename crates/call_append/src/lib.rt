@@ -1,5 +1,6 @@
 // Append: grounds, data sectors, FAT2, and the steps through the log.
 #![tactic(auto)]
+
 ghost use Rattle.std.specs.Prelude.{◌≡◌, ◌<◌, length};
 ghost use Rattle.model.specs.Bytes.{view};
 ghost use Rattle.model.specs.Sector.{card_of, window_of};

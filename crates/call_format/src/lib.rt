@@ -1,5 +1,6 @@
 // Format: a fresh card, whatever the window holds.
 #![tactic(auto)]
+
 ghost use Rattle.std.specs.Prelude.{◌≡◌, true, ◌&&◌, [], ◌∷◌, ℕ, ◌+◌, ◌*◌, ◌≤◌, ◌<◌, leb, length, get_or};
 ghost use Rattle.model.specs.Bytes.{bytes_of, zeros, patch};
 ghost use Rattle.model.specs.Sector.{window_of, store};

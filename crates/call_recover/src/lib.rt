@@ -1,5 +1,6 @@
 // Recovery: a pending group is redone; where there is none, FAT2 becomes as FAT1 is.
 #![tactic(auto)]
+
 ghost use Rattle.model.specs.Sector.{card_of, window_of};
 ghost use Rattle.model.specs.Ground.{granted};
 ghost use Rattle.operations.specs.Plan.{recover_stores};

@@ -1,5 +1,6 @@
 // Replace: grounds, data sectors along new clusters, FAT2 with these linked and the old ones freed, and the steps through the log.
 #![tactic(auto)]
+
 ghost use Rattle.std.specs.Prelude.{◌≡◌, length};
 ghost use Rattle.model.specs.Bytes.{view};
 ghost use Rattle.model.specs.Sector.{card_of, window_of};

@@ -1,5 +1,6 @@
 // Truncate and delete: the calls that free clusters.
 #![tactic(auto)]
+
 ghost use Rattle.std.specs.Prelude.{[], ◌<◌, ◌≤◌};
 ghost use Rattle.model.specs.Bytes.{view};
 ghost use Rattle.model.specs.Sector.{card_of, window_of};

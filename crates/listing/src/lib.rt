@@ -1,5 +1,6 @@
 // The text of a log table, piece by piece: its heading, then the line of each record that has one.
 #![tactic(auto)]
+
 ghost use Rattle.std.specs.Prelude.{◌≡◌, ◌+◌, ◌*◌, ◌/◌, ◌≤◌, ◌<◌, length};
 ghost use Rattle.model.specs.Bytes.{view, bytes_of};
 ghost use Rattle.model.specs.Listing.{is_table};

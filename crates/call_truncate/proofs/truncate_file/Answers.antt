@@ -1,0 +1,21 @@
+use native.Mathlib.Omega.{arith}
+use Rattle.model.specs.Sector.{card_of}
+use Rattle.call_truncate.proofs.Cuts.{truncate_is}
+use Rattle.operations.specs.Finish.{edits, operation_edits}
+use borrow.Author.Rules.{rules}
+use Rattle.call_truncate.proofs.truncate_file.Goals as goal
+
+pub cut_at-c-requires : goal.cut_at-c-requires
+cut_at-c-requires c = (c.requires.ready.held, c.requires.chained.0.chain, omega arith)
+
+pub shorten-requires : goal.shorten-requires
+unfolding edits operation_edits
+shorten-requires c =
+    let h = c.requires in
+    record { ready = h.ready; inside = c.cut_at-c.ensures.inside; slots = ((h.chained.0.seated.slot, h.chained.0.seated.slot), tt) }
+
+pub returns : goal.returns
+returns c =
+    let a = c.args in
+    let the-cut-at = c.cut_at-c in
+    rw (truncate_is a.v (card_of a.w.now) a.f a.size a.stamp the-cut-at.result the-cut-at.ensures) c.shorten.ensures
