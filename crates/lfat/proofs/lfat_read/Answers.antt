@@ -1,0 +1,6 @@
+use Rattle.lfat.proofs.Laws.{answered}
+use borrow.Author.Rules.{rules}
+use Rattle.lfat.proofs.lfat_read.Goals as goal
+
+pub returns : goal.returns
+returns c = let read = c.read in answered c.number_of.ensures read.ensures.answer read.ensures.bytes
