@@ -34,7 +34,7 @@ use Rattle.file_read.specs.Files.{Proper}
 use Rattle.fat_write.specs.Allocate.{grown}
 use Rattle.fat_write.proofs.Extends.{extend_grown}
 use Rattle.fat_write.proofs.Kept.{free_kept, grown_kept}
-use Rattle.file_append.specs.Extents.{append_data, Room, first_of}
+use Rattle.file_append.specs.Extents.{append_data, Room, first_new}
 use Rattle.file_append.proofs.Apart.{append_off_log}
 use Rattle.file_append.proofs.Front.{front_kept, data_cut, data_then}
 use Rattle.log_steps.specs.Steps.{log_steps}
@@ -113,7 +113,7 @@ module _ (v : Volume) (xs : List ℕ) (f : File) (d : Span) (st : ℕ) (ready : 
   new_fat = grown v.layout (fat1_of v.layout c) (last_cluster old) n
 
   abbrev update : Change
-  update = plain (Update f.entry (last_cluster old) (first_of v.layout c n) (f.size + d.size) st)
+  update = plain (Update f.entry (last_cluster old) (first_new v.layout c n) (f.size + d.size) st)
 
   sh : Shape v.layout
   sh = ready.held.fits.shape
@@ -131,7 +131,7 @@ module _ (v : Volume) (xs : List ℕ) (f : File) (d : Span) (st : ℕ) (ready : 
     pub append_cut : Ran limit (chain_stores v.layout c f d last count) xs x m false → Ran limit (stores (append_stores v c f d st)) xs x m false
     append_cut so = rw append_is (operate_cut v ds new_fat update sh ready.lies.above off_log limit xs x m (rw (end, many) at so))
 
-    pub append_ran : Ran limit (chain_stores v.layout c f d last count) xs x m true → (from size : ℕ) → from ≡ first_of v.layout c count
+    pub append_ran : Ran limit (chain_stores v.layout c f d last count) xs x m true → (from size : ℕ) → from ≡ first_new v.layout c count
         → size ≡ f.size + d.size
         → (y : List ℕ) (k : ℕ) (w : Bool) → Ran (limit - m) (log_steps v (plain (Update f.entry last from size st)) (card_of x)) x y k w
         → Ran limit (stores (append_stores v c f d st)) xs y (m + k) w

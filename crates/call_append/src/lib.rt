@@ -30,7 +30,7 @@ fn store_chain(
     limit: u32,
 ) -> Progress
     requires held { Held l w.old × Room l (card_of w.old) f (length bytes.now) }
-    requires last_value { (last ≡ last_cluster (clusters_of l (fat1_of l (card_of w.old)) f)) × (n ≡ added l f (length bytes.now)) }
+    requires growth { (last ≡ last_cluster (clusters_of l (fat1_of l (card_of w.old)) f)) × (n ≡ added l f (length bytes.now)) }
     ensures { Ran limit (chain_stores l (card_of w.old) f (view bytes.now) last n) w.old w.new result.made result.whole }
 {
     let p = file_append::append_data(w, l, f, last, bytes, limit);
@@ -53,7 +53,7 @@ fn store_append(
     limit: u32,
 ) -> Progress
     requires ready { Ready v w.old × Room v.layout (card_of w.old) f (length bytes.now) × (f.entry.slot < v.layout.entries) }
-    requires last_value { (last ≡ last_cluster (clusters_of v.layout (fat1_of v.layout (card_of w.old)) f)) × (n ≡ added v.layout f (length bytes.now)) }
+    requires growth { (last ≡ last_cluster (clusters_of v.layout (fat1_of v.layout (card_of w.old)) f)) × (n ≡ added v.layout f (length bytes.now)) }
     ensures { Ran limit (stores (append_stores v (card_of w.old) f (view bytes.now) stamp)) w.old w.new result.made
         result.whole }
 {

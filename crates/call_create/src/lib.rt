@@ -41,7 +41,7 @@ fn create_at(
     limit: u32,
 ) -> Outcome
     requires ready { Ready v w.old }
-    requires slot_lt_entries { (slot < v.layout.entries) × (name_ok (view name.now) ≡ true) × (length text.now % 2 ≡ 0) × (length text.now ≤ 2 * most_characters) }
+    requires slot_and_names { (slot < v.layout.entries) × (name_ok (view name.now) ≡ true) × (length text.now % 2 ≡ 0) × (length text.now ≤ 2 * most_characters) }
     ensures { Did limit (granted (create_stores v (card_of w.old) slot (name_of (view name.now)) (view text.now) stamp))
         w.old w.new result }
 {
@@ -61,7 +61,7 @@ fn create_at(
 // Create with a text, once NAME and LONGNAME are asked.
 fn create_as(w: &mut [u8], v: Volume, name: &[u8], text: &[u8], stamp: u32, limit: u32) -> Outcome
     requires ready { Ready v w.old }
-    requires name_value { (name_ok (view name.now) ≡ true) × (length text.now % 2 ≡ 0) × (length text.now ≤ 2 * most_characters) }
+    requires names { (name_ok (view name.now) ≡ true) × (length text.now % 2 ≡ 0) × (length text.now ≤ 2 * most_characters) }
     ensures { Did limit (create_as v (card_of w.old) (view name.now) (view text.now) stamp) w.old w.new result }
 {
     let p = root_lookup::new_slot(w, v, name, text);
@@ -129,7 +129,7 @@ pub fn create_long(w: &mut [u8], name: &[u8], text: &[u8], seconds: u32, limit: 
 // The stores of a rename, once its slots are known.
 fn rename_to(w: &mut [u8], v: Volume, f: File, name: &[u8], to: u32, limit: u32) -> Outcome
     requires ready { Ready v w.old }
-    requires slot_lt_entries { (f.entry.slot < v.layout.entries) × (to < v.layout.entries) × (name_ok (view name.now) ≡ true) }
+    requires slots_and_name { (f.entry.slot < v.layout.entries) × (to < v.layout.entries) × (name_ok (view name.now) ≡ true) }
     ensures { Did limit (granted (rename_stores v (card_of w.old) f to (name_of (view name.now)))) w.old w.new result }
 {
     let l = v.layout;
@@ -149,7 +149,7 @@ fn rename_to(w: &mut [u8], v: Volume, f: File, name: &[u8], to: u32, limit: u32)
 // Rename of a file, whose new name keeps the name rule.
 fn rename_as(w: &mut [u8], v: Volume, f: File, name: &[u8], limit: u32) -> Outcome
     requires ready { Ready v w.old }
-    requires slot_lt_entries { (f.entry.slot < v.layout.entries) × (name_ok (view name.now) ≡ true) }
+    requires slot_and_name { (f.entry.slot < v.layout.entries) × (name_ok (view name.now) ≡ true) }
     ensures { Did limit (rename_as v (card_of w.old) f (view name.now)) w.old w.new result }
 {
     let none = [0u8; 0];

@@ -34,7 +34,7 @@ use Rattle.file_read.specs.Files.{Proper}
 use Rattle.fat_release.specs.Release.{Inside}
 use Rattle.fat_write.specs.Renew.{exchanged}
 use Rattle.fat_write.proofs.Kept.{free_kept, chain_kept, exchange_kept}
-use Rattle.file_append.specs.Extents.{append_data, Room, first_of}
+use Rattle.file_append.specs.Extents.{append_data, Room, first_new}
 use Rattle.file_append.proofs.Apart.{append_off_log}
 use Rattle.file_append.proofs.Front.{front_kept, data_cut, data_then}
 use Rattle.log_steps.specs.Steps.{log_steps}
@@ -123,7 +123,7 @@ module _ (v : Volume) (xs : List ℕ) (f : File) (d : Span) (st : ℕ) (ready : 
   new_fat = exchanged v.layout (fat1_of v.layout c) n f.first (needed v.layout f.size)
 
   abbrev change : Change
-  change = plain (Replace f.entry f.first (first_of v.layout c n) d.size st)
+  change = plain (Replace f.entry f.first (first_new v.layout c n) d.size st)
 
   sh : Shape v.layout
   sh = ready.held.fits.shape
@@ -149,7 +149,7 @@ module _ (v : Volume) (xs : List ℕ) (f : File) (d : Span) (st : ℕ) (ready : 
     pub replace_cut : Ran limit front xs x made false → Ran limit (stores (replace_stores v c f d st)) xs x made false
     replace_cut so = rw replace_is (operate_cut v ds new_fat change sh ready.lies.above off_log limit xs x made (rw many at so))
 
-    pub replace_ran : Ran limit front xs x made true → (from size : ℕ) → from ≡ first_of v.layout c count → size ≡ d.size
+    pub replace_ran : Ran limit front xs x made true → (from size : ℕ) → from ≡ first_new v.layout c count → size ≡ d.size
         → (y : List ℕ) (k : ℕ) (w : Bool) → Ran (limit - made) (log_steps v (plain (Replace f.entry f.first from size st)) (card_of x)) x y k w
         → Ran limit (stores (replace_stores v c f d st)) xs y (made + k) w
     replace_ran so from size first total y k w next =

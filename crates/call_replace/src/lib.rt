@@ -35,7 +35,7 @@ fn store_exchange(
     limit: u32,
 ) -> Progress
     requires held { Held l w.old × Room l (card_of w.old) g (length bytes.now) × (0 ≡ last_cluster (clusters_of l (fat1_of l (card_of w.old)) g)) }
-    requires n_value { (n ≡ added l g (length bytes.now)) × Inside l (chain (entry (fat1_of l (card_of w.old))) m old) }
+    requires taken { (n ≡ added l g (length bytes.now)) × Inside l (chain (entry (fat1_of l (card_of w.old))) m old) }
     ensures { Ran limit (exchange_stores l (card_of w.old) g (view bytes.now) n old m) w.old w.new result.made result.whole }
 {
     let p = file_append::append_data(w, l, g, 0, bytes, limit);
@@ -49,7 +49,7 @@ fn store_exchange(
 // Steps 1 and 2 of a replace of file f.
 fn store_fresh(w: &mut [u8], l: Layout, f: File, n: u32, bytes: &[u8], limit: u32) -> Progress
     requires held { Held l w.old × files.Proper l (card_of w.old) f × Room l (card_of w.old) (emptied f) (length bytes.now) }
-    requires n_value { n ≡ added l (emptied f) (length bytes.now) }
+    requires taken { n ≡ added l (emptied f) (length bytes.now) }
     ensures { Ran limit (exchange_stores l (card_of w.old) (emptied f) (view bytes.now) n f.first (needed l f.size))
         w.old w.new result.made result.whole }
 {
@@ -82,7 +82,7 @@ fn store_replace(
     limit: u32,
 ) -> Progress
     requires ready { Ready v w.old × Chained v (card_of w.old) f × Room v.layout (card_of w.old) (emptied f) (length bytes.now) }
-    requires n_value { n ≡ added v.layout (emptied f) (length bytes.now) }
+    requires taken { n ≡ added v.layout (emptied f) (length bytes.now) }
     ensures { Ran limit (stores (replace_stores v (card_of w.old) f (view bytes.now) stamp)) w.old w.new result.made
         result.whole }
 {

@@ -77,8 +77,8 @@ pub fn copy_changed(w: &mut [u8], from: u32, to: u32, limit: u32) -> Progress
 
 // n sectors onto n others, rising. The two ranges have no sector in common.
 fn copy_fat(w: &mut [u8], from: u32, to: u32, n: u32, limit: u32) -> Progress
-    requires n_in_bounds { (512 * (from + n) ≤ length w.old) × (512 * (to + n) ≤ length w.old) }
-    requires n_bound { (from + n < 4294967296) × (to + n < 4294967296) × (n ≤ (from - to) + (to - from)) }
+    requires within { (512 * (from + n) ≤ length w.old) × (512 * (to + n) ≤ length w.old) }
+    requires apart { (from + n < 4294967296) × (to + n < 4294967296) × (n ≤ (from - to) + (to - from)) }
     ensures { Ran limit (copies (card_of w.old) from to n) w.old w.new result.made result.whole }
 {
     let mut made = 0;

@@ -18,7 +18,7 @@ use Rattle.model.specs.declared.File.{File}
 use Rattle.model.proofs.Tests.{clash, every_at}
 use Rattle.model.proofs.Scan.{all_at, first_ge}
 use Rattle.model.proofs.All.{All, all_map}
-use Rattle.model.proofs.Indices.{all_get_d}
+use Rattle.model.proofs.Indices.{all_get_or}
 use Rattle.model.proofs.Cards.{Away}
 use Rattle.model.proofs.Chains.{meet, in_cluster}
 use Rattle.operations.specs.Plan.{added, append_sector}
@@ -71,4 +71,4 @@ module _ (l : Layout) (c : Card) (f : File) (d : Span) (sh : Shape l) (h : Prope
       let z : s % l.factor / l.factor < 1 = rw (div-eq_of_lt j) (omega arith) in
       let m = meet l sh.factor_low ks (k.0 ∷ []) q (s % l.factor) low (k.1, tt) among z (sym e ∙ k.3 ∙ sym (only l k.0 (s % l.factor) j)) in
       let same : get_or ks (q / l.factor) 0 ≡ k.0 = m.0 ∙ ap (λ i. get_or (k.0 ∷ []) i 0) (div-eq_of_lt j) in
-      clash k.2 (rw same at (all_get_d (λ k. marked t k ≡ false) ks (extended_unmarked l t f d.size sh h) (q / l.factor) among)))
+      clash k.2 (rw same at (all_get_or (λ k. marked t k ≡ false) ks (extended_unmarked l t f d.size sh h) (q / l.factor) among)))

@@ -29,7 +29,7 @@ use Rattle.operations.proofs.Added.{added_sum}
 use Rattle.file_read.specs.Files.{Proper}
 use Rattle.file_append.specs.declared.Cursor.{Cursor}
 use Rattle.fat_read.specs.Located.{holds}
-use Rattle.file_append.specs.Extents.{extended, Room, first_of, moved}
+use Rattle.file_append.specs.Extents.{extended, Room, first_new, moved}
 
 -- ---- the clusters
 
@@ -120,7 +120,7 @@ taken_first (suc n) k ks js pos e = ap (λ (zs : List ℕ). get_or (take (suc n)
 
 -- The first new cluster is the lowest free one.
 pub first_is_free : (l : Layout) (c : Card) (n r : ℕ) → 0 < n → n ≤ length (free_clusters l (fat1_of l c))
-    → r ≡ first_from (holds 0 (fat1_of l c)) 2 (l.clusters + 2 - 2) → r ≡ first_of l c n
+    → r ≡ first_from (holds 0 (fat1_of l c)) 2 (l.clusters + 2 - 2) → r ≡ first_new l c n
 unfolding free_clusters
 first_is_free l c n r pos enough e =
     let z : l.clusters + 2 - 2 ≡ l.clusters = omega arith in

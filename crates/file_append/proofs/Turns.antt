@@ -14,7 +14,7 @@ use Rattle.model.specs.Fat.{fat1_of}
 use Rattle.model.specs.declared.Layout.{Layout}
 use Rattle.model.specs.declared.File.{File}
 use Rattle.model.proofs.All.{All, all_map}
-use Rattle.model.proofs.Indices.{Distinct, all_get_d}
+use Rattle.model.proofs.Indices.{Distinct, all_get_or}
 use Rattle.model.proofs.Cards.{Away}
 use Rattle.model.proofs.Runs.{upto_away, ran_away, turns_none, turns_more, turns_cut}
 use Rattle.model.proofs.Chains.{one_place, in_cluster}
@@ -153,7 +153,7 @@ module _ (l : Layout) (f : File) (e d : List ℕ) (limit : ℕ) (sh : Shape l) (
         -- which is one of the card's.
         pub there_in : (2 ≤ r.cluster) × (r.cluster < 2 + l.clusters)
         there_in =
-            let a = all_get_d (λ k. (2 ≤ k) × (k < 2 + l.clusters)) (clusters l f e d)
+            let a = all_get_or (λ k. (2 ≤ k) × (k < 2 + l.clusters)) (clusters l f e d)
             (extended_in l (fat1_of l (card_of e)) f (length d) sh room.chain) (q / l.factor) among in
             (rw there.is a.0, rw there.is a.1)
 

@@ -25,8 +25,8 @@ pub record Room (l : Layout) (c : Card) (f : File) (n : ℕ) : Type 0 where
   pub small : f.size + n < 4294967296
 
 -- The first of n new clusters, 0 if there is none.
-abbrev pub first_of : Layout → Card → ℕ → ℕ
-first_of l c n = get_or (take n (free_clusters l (fat1_of l c))) 0 0
+abbrev pub first_new : Layout → Card → ℕ → ℕ
+first_new l c n = get_or (take n (free_clusters l (fat1_of l c))) 0 0
 
 -- A cursor moved to cluster number x: where it is, or at the next free cluster.
 unfoldable pub moved : Layout → Fat → Cursor → ℕ → Cursor

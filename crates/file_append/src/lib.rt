@@ -7,7 +7,7 @@ ghost use Rattle.model.specs.Sector.{card_of, clip};
 ghost use Rattle.model.specs.Fat.{fat1_of, free_clusters};
 ghost use Rattle.model.specs.Promises.{Fits, Held, Ran};
 ghost use Rattle.operations.specs.Plan.{clusters_of, last_cluster, appended, append_sector, added};
-ghost use Rattle.file_append.specs.Extents.{append_data, Room, first_of, moved};
+ghost use Rattle.file_append.specs.Extents.{append_data, Room, first_new, moved};
 
 use model::{File, Layout, Progress};
 
@@ -36,7 +36,7 @@ pub fn added_clusters(l: Layout, f: File, n: usize) -> u64
 // The first of n new clusters, 0 if there is none.
 pub fn first_new(w: &[u8], l: Layout, n: u32) -> u32
     requires { Held l w.now × (n ≤ length (free_clusters l (fat1_of l (card_of w.now)))) }
-    ensures { result ≡ first_of l (card_of w.now) n }
+    ensures { result ≡ first_new l (card_of w.now) n }
 {
     if n == 0 {
         return 0;

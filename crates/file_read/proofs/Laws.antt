@@ -13,7 +13,7 @@ use Rattle.model.specs.Chain.{chain, needed, keeps_chain, cluster_sector, file_s
 use Rattle.model.specs.Promises.{Fits, Shape}
 use Rattle.model.specs.declared.Layout.{Layout}
 use Rattle.model.specs.declared.File.{File}
-use Rattle.model.proofs.Indices.{all_get_d}
+use Rattle.model.proofs.Indices.{all_get_or}
 use Rattle.model.proofs.Overlays.{overlay_none}
 use Rattle.model.proofs.Laying.{overlay_same, overlay_next}
 use Rattle.model.proofs.Sectors.{byte_in}
@@ -47,7 +47,7 @@ pub link_inside : (l : Layout) → Fits l → (e : ℕ → ℕ) (k size : ℕ) �
     → (2 ≤ links e i k) × (links e i k < 2 + l.clusters)
 link_inside l fits e k size h i less =
     let u : Used l e (get_or (chain e (needed l size) k) i 0) =
-    all_get_d (Used l e) (chain e (needed l size) k) (chain_used l fits.shape.few e fits.shape.factor_low k size h) i
+    all_get_or (Used l e) (chain e (needed l size) k) (chain_used l fits.shape.few e fits.shape.factor_low k size h) i
     (rw (chain_length e (needed l size) k) less) in
     let z = chain_at e (needed l size) k i less in
     (rw z at u.low, rw z at u.high)

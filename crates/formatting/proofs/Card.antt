@@ -49,7 +49,7 @@ pub record Fresh (f : Fields) (n : ℕ) (x : Card) : Type 0 where
   pub boot : x 0 ≡ clip (fresh_boot f)
   pub rest : (k : ℕ) → k < tables (arrange f) n → x ((arrange f).fat1 + k) ≡ clip (fresh_table (arrange f) n k)
 
--- The tables that are stored: at sector l .fat1 + k, the k-th.
+-- The tables that are stored: at sector l.fat1 + k, the k-th.
 module _ (l : Layout) (n : ℕ) (c : Card) where
   pub table_stored : (k : ℕ) → k < tables l n → after (fresh_tables l n) c (l.fat1 + k) ≡ clip (fresh_table l n k)
   unfolding fresh_tables

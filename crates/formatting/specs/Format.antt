@@ -30,7 +30,7 @@ fresh_table l n k = pick (ltb k l.fatsize) (fresh_fat n k) (pick (ltb k (2 * l.f
 unfoldable pub fresh_tables : Layout → ℕ → List Store
 fresh_tables l n = map (λ k. store (l.fat1 + k) (fresh_table l n k)) (range 0 (l.start - l.fat1 + n * l.factor))
 
--- "An all_zero boot sector is stored first, then both FATs, the root and the log sectors, rising, and the true boot sector last. No others
+-- "An all-zero boot sector is stored first, then both FATs, the root and the log sectors, rising, and the true boot sector last. No others
 -- are stored." No store passes one of the boot sector.
 unfoldable pub format_stores : Fields → ℕ → Program
 format_stores f n = segment [] (store 0 zeros) (segment (fresh_tables (arrange f) n) (store 0 (fresh_boot f)) (ending []))

@@ -120,7 +120,7 @@ fn most_counted(number: u32) -> u32
     0
 }
 
-// The long_name count, which is not above the slot.
+// The long-name count, which is not above the slot.
 fn count_ok(r: Record) -> bool
     ensures { result ≡ count_ok r }
 {
@@ -260,8 +260,8 @@ fn part_ok(log: &[u8], s: u32, k: u32, operation: u32, entries: u32, z: u32) -> 
 
 // The m records of the group in sector s.
 pub fn records_ok(log: &[u8], s: u32, m: u32, entries: u32, z: u32) -> bool
-    requires s_in_bounds { (512 * s + 512 ≤ length log.now) × (m ≤ 16) }
-    requires m_value { m ≡ group_size (record_at (card_of log.now s)) }
+    requires within { (512 * s + 512 ≤ length log.now) × (m ≤ 16) }
+    requires counted { m ≡ group_size (record_at (card_of log.now s)) }
     ensures { result ≡ records_ok entries z (record_at (card_of log.now s)) }
 {
     let r = load(log, s, 0);

@@ -147,7 +147,7 @@ fn end_past(w: &[u8], l: Layout, o: Operation, z: u32) -> u32
 // The same for the group of the record at a place; z where there is none.
 fn seen_end(w: &[u8], l: Layout, a: Area, z: u32, place: Place) -> u32
     requires held { Held l w.now × (z ≡ end_slot l.entries (first_bytes l (card_of w.now))) × (z ≤ l.entries) }
-    requires sectors_bound { (a.sector + a.sectors ≤ l.total)
+    requires area { (a.sector + a.sectors ≤ l.total)
         × (place ≡ place_of (first_pending a.sectors (log_of a (card_of w.now))) a.sectors) }
     ensures { Seen l a (card_of w.now) place result }
 {
@@ -160,7 +160,7 @@ fn seen_end(w: &[u8], l: Layout, a: Area, z: u32, place: Place) -> u32
 // What is pending on a card, whose first pending record stands at `place`; z is its lowest slot beginning 0.
 pub fn pending_of(w: &[u8], l: Layout, a: Area, z: u32, place: Place) -> Pending
     requires held { Held l w.now × (z ≡ end_slot l.entries (first_bytes l (card_of w.now))) × (z ≤ l.entries) }
-    requires sectors_bound { (a.sector + a.sectors ≤ l.total) × (a.sectors ≤ 128)
+    requires area { (a.sector + a.sectors ≤ l.total) × (a.sectors ≤ 128)
         × (place ≡ place_of (first_pending a.sectors (log_of a (card_of w.now))) a.sectors) }
     ensures { result ≡ pending l a (card_of w.now) }
 {

@@ -54,7 +54,7 @@ fn finish(w: &mut [u8], l: Layout, o: Operation, text: &[u8], limit: u32) -> Pro
 pub fn redo(w: &mut [u8], l: Layout, p: Plan, text: &[u8], limit: u32) -> Progress
     requires held { Held l w.old }
     requires slots { Slots l.entries (with_text p.operation (bytes_of text.now)) × Texted text.now }
-    requires start_le_sector { (l.start ≤ p.sector) × (p.sector < l.total) × (p.records ≤ 16) }
+    requires group_within { (l.start ≤ p.sector) × (p.sector < l.total) × (p.records ≤ 16) }
     ensures { Ran limit (stores (redo l (planned p (bytes_of text.now)) (card_of w.old))) w.old w.new result.made
         result.whole }
 {
@@ -71,7 +71,7 @@ pub fn redo(w: &mut [u8], l: Layout, p: Plan, text: &[u8], limit: u32) -> Progre
 fn store_and_redo(w: &mut [u8], l: Layout, p: Plan, text: &[u8], limit: u32) -> Progress
     requires held { Held l w.old }
     requires slots { Slots l.entries (with_text p.operation (bytes_of text.now)) × Texted text.now × Room p.operation text.now }
-    requires start_le_sector { (l.start ≤ p.sector) × (p.sector < l.total) × (p.records ≤ 16) }
+    requires group_within { (l.start ≤ p.sector) × (p.sector < l.total) × (p.records ≤ 16) }
     ensures { Ran limit (group_steps l (planned p (bytes_of text.now)) (card_of w.old)) w.old w.new result.made
         result.whole }
 {
@@ -99,7 +99,7 @@ fn plan_for(s: u32, o: Operation, text: &[u8]) -> Plan
 // The log cleared if it is full, then the group of an operation with a text stored and redone.
 pub fn log_steps(w: &mut [u8], v: Volume, o: Operation, text: &[u8], limit: u32) -> Progress
     requires held { Held v.layout w.old }
-    requires start_le_sector { (v.layout.start ≤ v.log.sector) × (1 ≤ v.log.sectors) × (v.log.sector + v.log.sectors ≤ v.layout.total) }
+    requires log_within { (v.layout.start ≤ v.log.sector) × (1 ≤ v.log.sectors) × (v.log.sector + v.log.sectors ≤ v.layout.total) }
     requires slots { Slots v.layout.entries (with_text o (bytes_of text.now)) × Texted text.now × Room o text.now }
     ensures { Ran limit (log_steps v (with_text o (bytes_of text.now)) (card_of w.old)) w.old w.new result.made
         result.whole }
@@ -118,7 +118,7 @@ pub fn log_steps(w: &mut [u8], v: Volume, o: Operation, text: &[u8], limit: u32)
 // The same of an operation without a text.
 pub fn plain_steps(w: &mut [u8], v: Volume, o: Operation, limit: u32) -> Progress
     requires held { Held v.layout w.old }
-    requires start_le_sector { (v.layout.start ≤ v.log.sector) × (1 ≤ v.log.sectors) × (v.log.sector + v.log.sectors ≤ v.layout.total) }
+    requires log_within { (v.layout.start ≤ v.log.sector) × (1 ≤ v.log.sectors) × (v.log.sector + v.log.sectors ≤ v.layout.total) }
     requires slots { Slots v.layout.entries (plain o) }
     ensures { Ran limit (log_steps v (plain o) (card_of w.old)) w.old w.new result.made result.whole }
 {

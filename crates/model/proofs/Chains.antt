@@ -15,7 +15,7 @@ use Rattle.model.specs.Chain.{chain, ends_after, keeps_chain, needed, cluster_by
 use Rattle.model.specs.declared.Layout.{Layout}
 use Rattle.model.proofs.Tests.{between_true, told, less?}
 use Rattle.model.proofs.All.{All}
-use Rattle.model.proofs.Indices.{Distinct, all_get_d, distinct_getD}
+use Rattle.model.proofs.Indices.{Distinct, all_get_or, distinct_get_or}
 use Rattle.model.proofs.Walks.{inside, ends_inside, ends_rest, ends_last, distinct_chain}
 
 -- ---- the clusters of a chain
@@ -117,14 +117,14 @@ pub meet : (l : Layout) → 1 ≤ l.factor → (ks ms : List ℕ) (q r : ℕ) �
 unfolding file_sector
 meet l one ks ms q r a b x y e =
     sector_cluster l (get_or ks (q / l.factor) 0) (get_or ms (r / l.factor) 0) (q % l.factor) (r % l.factor)
-    (all_get_d (λ k. 2 ≤ k) ks a (q / l.factor) x) (all_get_d (λ k. 2 ≤ k) ms b (r / l.factor) y) (mod-lt q (omega arith)) (mod-lt r (omega arith)) e
+    (all_get_or (λ k. 2 ≤ k) ks a (q / l.factor) x) (all_get_or (λ k. 2 ≤ k) ms b (r / l.factor) y) (mod-lt q (omega arith)) (mod-lt r (omega arith)) e
 
 -- Along distinct clusters the sector tells the place.
 pub one_place : (l : Layout) → 1 ≤ l.factor → (ks : List ℕ) (q r : ℕ) → All (λ k. 2 ≤ k) ks → Distinct ks
     → q / l.factor < length ks → r / l.factor < length ks → file_sector l ks q ≡ file_sector l ks r → q ≡ r
 one_place l one ks q r a d x y e =
     let m = meet l one ks ks q r a a x y e in
-    let i : q / l.factor ≡ r / l.factor = distinct_getD ks d (q / l.factor) (r / l.factor) x y m.0 in
+    let i : q / l.factor ≡ r / l.factor = distinct_get_or ks d (q / l.factor) (r / l.factor) x y m.0 in
     sym (div-add-mod' q l.factor) ∙ (λ t. i t * l.factor + m.1 t) ∙ div-add-mod' r l.factor
 
 -- The sectors of a file are also those of the file with more clusters.

@@ -29,21 +29,21 @@ mem_all {A = A} P [] h x x4 = elim x4 [ ]
 mem_all P (y ∷ xs) h x (Memᴰ.head e) = subst P (sym e) h.0
 mem_all P (y ∷ xs) h x (Memᴰ.tail m) = mem_all P xs h.1 x m
 
-pub mem_getD : (ks : List ℕ) (i : ℕ) → i < length ks → Memᴰ (get_or ks i 0) ks
-mem_getD [] i less = absurd (omega arith)
-mem_getD (k ∷ ks) zero less = Memᴰ.head refl
-mem_getD (k ∷ ks) (suc i) less = Memᴰ.tail (mem_getD ks i (omega arith))
+pub mem_get_or : (ks : List ℕ) (i : ℕ) → i < length ks → Memᴰ (get_or ks i 0) ks
+mem_get_or [] i less = absurd (omega arith)
+mem_get_or (k ∷ ks) zero less = Memᴰ.head refl
+mem_get_or (k ∷ ks) (suc i) less = Memᴰ.tail (mem_get_or ks i (omega arith))
 
-pub all_get_d : (P : ℕ → Type 0) (ks : List ℕ) → All P ks → (i : ℕ) → i < length ks → P (get_or ks i 0)
-all_get_d P [] a i less = absurd (omega arith)
-all_get_d P (k ∷ ks) a zero less = a.0
-all_get_d P (k ∷ ks) a (suc i) less = all_get_d P ks a.1 i (omega arith)
+pub all_get_or : (P : ℕ → Type 0) (ks : List ℕ) → All P ks → (i : ℕ) → i < length ks → P (get_or ks i 0)
+all_get_or P [] a i less = absurd (omega arith)
+all_get_or P (k ∷ ks) a zero less = a.0
+all_get_or P (k ∷ ks) a (suc i) less = all_get_or P ks a.1 i (omega arith)
 
 -- An element below a bound, or the default 0.
-pub getD_below : (m : ℕ) (ks : List ℕ) (i : ℕ) → 0 < m → All (λ k. k < m) ks → get_or ks i 0 < m
-getD_below m [] i pos a = pos
-getD_below m (k ∷ ks) zero pos a = a.0
-getD_below m (k ∷ ks) (suc i) pos a = getD_below m ks i pos a.1
+pub get_or_below : (m : ℕ) (ks : List ℕ) (i : ℕ) → 0 < m → All (λ k. k < m) ks → get_or ks i 0 < m
+get_or_below m [] i pos a = pos
+get_or_below m (k ∷ ks) zero pos a = a.0
+get_or_below m (k ∷ ks) (suc i) pos a = get_or_below m ks i pos a.1
 
 -- ---- the numbers that a scan gives
 
@@ -124,12 +124,12 @@ pairwise_indices R up p i (suc n) =
 pub distinct_indices : (p : ℕ → Bool) (i n : ℕ) → Distinct (indices_from p i n)
 distinct_indices p i n = pairwise_indices (λ k j. k ≡ j → ⊥) (λ k j less e. omega arith) p i n
 
-pub distinct_getD : (ks : List ℕ) → Distinct ks → (i j : ℕ) → i < length ks → j < length ks → get_or ks i 0 ≡ get_or ks j 0 → i ≡ j
-distinct_getD [] d i j a b e = absurd (omega arith)
-distinct_getD (k ∷ ks) d zero zero a b e = refl
-distinct_getD (k ∷ ks) d zero (suc j) a b e = absurd (all_get_d (λ m. k ≡ m → ⊥) ks d.0 j (omega arith) e)
-distinct_getD (k ∷ ks) d (suc i) zero a b e = absurd (all_get_d (λ m. k ≡ m → ⊥) ks d.0 i (omega arith) (sym e))
-distinct_getD (k ∷ ks) d (suc i) (suc j) a b e = ap suc (distinct_getD ks d.1 i j (omega arith) (omega arith) e)
+pub distinct_get_or : (ks : List ℕ) → Distinct ks → (i j : ℕ) → i < length ks → j < length ks → get_or ks i 0 ≡ get_or ks j 0 → i ≡ j
+distinct_get_or [] d i j a b e = absurd (omega arith)
+distinct_get_or (k ∷ ks) d zero zero a b e = refl
+distinct_get_or (k ∷ ks) d zero (suc j) a b e = absurd (all_get_or (λ m. k ≡ m → ⊥) ks d.0 j (omega arith) e)
+distinct_get_or (k ∷ ks) d (suc i) zero a b e = absurd (all_get_or (λ m. k ≡ m → ⊥) ks d.0 i (omega arith) (sym e))
+distinct_get_or (k ∷ ks) d (suc i) (suc j) a b e = ap suc (distinct_get_or ks d.1 i j (omega arith) (omega arith) e)
 
 -- ---- distinct numbers of a range are no more than it has
 

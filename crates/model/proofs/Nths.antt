@@ -13,13 +13,13 @@ use Rattle.model.specs.Scan.{walk, count_from, indices_from, nth_from}
 use Rattle.model.proofs.Tests.{told, same?}
 use Rattle.model.proofs.Scan.{count_none, count_step}
 use Rattle.model.proofs.Searches.{count_hit, count_miss, count_add, indices_count, indices_here}
-use Rattle.model.proofs.Indices.{indices_all, all_get_d}
+use Rattle.model.proofs.Indices.{indices_all, all_get_or}
 
 -- An element that is there, whatever stands for one that is not.
-pub get_d_any : {A : Type 0} (xs : List A) (i : ℕ) (d e : A) → i < length xs → get_or xs i d ≡ get_or xs i e
-get_d_any [] i d e h = absurd (omega arith)
-get_d_any (x ∷ xs) zero d e h = refl
-get_d_any (x ∷ xs) (suc i) d e h = get_d_any xs i d e (omega arith)
+pub get_or_any : {A : Type 0} (xs : List A) (i : ℕ) (d e : A) → i < length xs → get_or xs i d ≡ get_or xs i e
+get_or_any [] i d e h = absurd (omega arith)
+get_or_any (x ∷ xs) zero d e h = refl
+get_or_any (x ∷ xs) (suc i) d e h = get_or_any xs i d e (omega arith)
 
 module _ (p : ℕ → Bool) where
   -- The numbers of a scan, in two parts.
@@ -55,7 +55,7 @@ module _ (p : ℕ → Bool) where
       let is : n ≡ s + (n - s) = omega arith in
       let here : m - 1 < length xs = omega (arith, indices_count p i s) in
       ap (λ (z : ℕ). get_or (indices_from p i z) (m - 1) (i + n)) is ∙ ap (λ zs. get_or zs (m - 1) (i + n)) (indices_add i s (n - s))
-      ∙ get_or-append xs (indices_from p (i + s) (n - s)) (i + n) (m - 1) here ∙ get_d_any xs (m - 1) (i + n) (i + s) here
+      ∙ get_or-append xs (indices_from p (i + s) (n - s)) (i + n) (m - 1) here ∙ get_or_any xs (m - 1) (i + n) (i + s) here
 
   nth_here : (i n : ℕ) → 0 < n → p i ≡ true → nth_from p i n 1 ≡ i
   unfolding nth_from
@@ -71,8 +71,8 @@ module _ (p : ℕ → Bool) where
   nth_inside i n m some enough =
       let xs = indices_from p i n in
       let here : m - 1 < length xs = omega (arith, indices_count p i n) in
-      let less : get_or xs (m - 1) 0 < i + n = all_get_d (λ k. k < i + n) xs (indices_all (λ k. k < i + n) p i n (λ j lo hi e. hi)) (m - 1) here in
-      rw (get_d_any xs (m - 1) (i + n) 0 here) less
+      let less : get_or xs (m - 1) 0 < i + n = all_get_or (λ k. k < i + n) xs (indices_all (λ k. k < i + n) p i n (λ j lo hi e. hi)) (m - 1) here in
+      rw (get_or_any xs (m - 1) (i + n) 0 here) less
 
 -- The m-th has m - 1 before it.
 pub record Placed (p : ℕ → Bool) (i m k : ℕ) : Type 0 where

@@ -140,7 +140,7 @@ record_fine n z e number count k from size low high counted small seat =
     each_every _ (between_is 1 last_number number low high also refl also refl also counted also lt-ltb from 65536 small
     also slot_read n z e.slot seat also tt)
 
--- Its long_name count: 0 in any, and in a create, a delete or a rename as many as there may be.
+-- Its long-name count: 0 in any, and in a create, a delete or a rename as many as there may be.
 count_fine : (e : Entry) (number count k from size : ℕ) → count ≤ most_counted number → count ≤ e.slot
     → count_ok (record_of e number count k from size) ≡ true
 unfolding count_ok record_of

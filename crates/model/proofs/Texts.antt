@@ -51,9 +51,9 @@ unfolding record_bytes overlay
 record_first r = refl
 
 -- The first byte of a sector is that of the name in its first record.
-pub first_of : (x : Change) → ChangeFits x → 0 < length (records x) → clip (encode x) 0 ≡ byte_of (listed (records x) 0).name.stem 0
+pub leading_byte : (x : Change) → ChangeFits x → 0 < length (records x) → clip (encode x) 0 ≡ byte_of (listed (records x) 0).name.stem 0
 unfolding lay
-first_of x h some = before_text x 0 (omega arith) ∙ go (records x) some
+leading_byte x h some = before_text x 0 (omega arith) ∙ go (records x) some
   where
     go : (rs : List Record) → 0 < length rs → lay (map record_bytes rs) 0 ≡ byte_of (listed rs 0).name.stem 0
     go [] less = absurd (omega arith)
@@ -91,7 +91,7 @@ module _ (x : Change) (h : ChangeFits x) where
       let r : Record = listed (operation_records (Create s.entry s.count s.stamp)) 0 in
       let same : listed (records x) 0 ≡ r = ap (λ (o : Operation). listed (operation_records o) 0) s.is in
       let live : eqb (clip (encode x) 0) 0 ≡ false =
-      ne_eqb _ 0 (λ e. s.begins (sym (first_of x h some_told ∙ ap (λ (r : Record). byte_of r.name.stem 0) same) ∙ e)) in
+      ne_eqb _ 0 (λ e. s.begins (sym (leading_byte x h some_told ∙ ap (λ (r : Record). byte_of r.name.stem 0) same) ∙ e)) in
       leads_by (clip (encode x)) r (record_read x h 0 some_told ∙ same) ∙ rw (live, le-leb 1 s.count s.some)
 
   -- The text is read back.

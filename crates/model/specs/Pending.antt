@@ -28,7 +28,7 @@ unfoldable pub slot_ok : ℕ → ℕ → ℕ → Bool
 slot_ok n z s = ltb s n && leb s z
 
 -- "RECORD now allows, in delete and rename, a count of at most 20 and not above the old slot"; of a create "if the count is at most 16 and
--- not above the main record's slot"; in the others "long_name count 0".
+-- not above the main record's slot"; in the others "long-name count 0".
 unfoldable pub most_counted : ℕ → ℕ
 most_counted number = pick (eqb number 1) 16 (pick (eqb number 3 || eqb number 5) most_long 0)
 

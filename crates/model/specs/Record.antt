@@ -11,7 +11,7 @@ use Rattle.model.specs.declared.Plan.{Plan}
 use Rattle.model.specs.declared.Operation.{Operation}
 use Rattle.model.specs.declared.Operation.TheVariants.{Create, Update, Delete, Truncate, Rename, Replace}
 
--- "A record is 32 bytes: name 0 (11), attributes 11 (1), long_name count 12 (1), operation 13 (1), directory cluster 14 (4), slot 18
+-- "A record is 32 bytes: name 0 (11), attributes 11 (1), long-name count 12 (1), operation 13 (1), directory cluster 14 (4), slot 18
 -- (2), first/last cluster high 20 (2), DIR_Cluster 22 (4), first/last cluster low 26 (2), size 28 (4)"
 unfoldable pub record_bytes : Record → Bytes
 record_bytes r =
@@ -104,7 +104,7 @@ stamp_record stamp = record {
 -- "First/last: create 0; update, the last cluster before; others, the first cluster." "DIR_Cluster: update and truncate; others 0."
 -- "Size: 0 for create." "Rename's record 1 is record 0 with the new name, operation 0 and the new slot." Replace: "The record has
 -- operation 6, the old first cluster in first/last, the new first cluster (0 for no bytes) in DIR_Cluster, and the new size." Delete and
--- rename: "The record's long_name count holds how many there are"; create: "the count field holds the number of long slots"; in all others
+-- rename: "The record's long-name count holds how many there are"; create: "the count field holds the number of long slots"; in all others
 -- it is 0. Create, update, truncate and replace have a stamp.
 unfoldable pub operation_records : Operation → List Record
 operation_records (Create e count stamp) = record_of e 1 count 0 0 0 ∷ stamp_record stamp ∷ []

@@ -38,7 +38,7 @@ file_size b = le 4 b 28
 unfoldable pub vacant : Bytes → Bool
 vacant b = eqb (b 0) 0 || eqb (b 0) 0xE5
 
--- "Attribute bit 0x08 marks labels and long_name entries"; "Bit 0x10 is a directory."
+-- "Attribute bit 0x08 marks labels and long-name entries"; "Bit 0x10 is a directory."
 unfoldable pub is_label : Bytes → Bool
 is_label b = eqb (attributes b / 8 % 2) 1
 

@@ -141,7 +141,7 @@ pub enum Operation {
     },
 }
 
-// A log record. `count` is the long_name count, `number` the operation's, `high` the high word of first/last cluster, `cluster` its
+// A log record. `count` is the long-name count, `number` the operation's, `high` the high word of first/last cluster, `cluster` its
 // low word, `from` DIR_Cluster.
 #[derive(Clone, Copy)]
 pub struct Record {

@@ -15,7 +15,7 @@ use Rattle.model.specs.Promises.{Shape, up_to}
 use Rattle.model.specs.declared.Layout.{Layout}
 use Rattle.model.proofs.Scan.{indices_step, indices_none}
 use Rattle.model.proofs.All.{All, all_image}
-use Rattle.model.proofs.Indices.{indices_all, getD_below}
+use Rattle.model.proofs.Indices.{indices_all, get_or_below}
 use Rattle.model.proofs.Cards.{Away}
 use Rattle.operations.specs.Plan.{append_sector, data_stores}
 
@@ -48,7 +48,7 @@ module _ (l : Layout) (c : Card) (ks : List ℕ) (old : ℕ) (d : Span) where
   pub data_inside : Shape l → All (λ k. k < 2 + l.clusters) ks → All (λ s. (l.start ≤ s.sector) × (s.sector < l.total)) (data_stores l c ks old d)
   unfolding append_sector file_sector
   data_inside sh h = data_all (λ s. (l.start ≤ s.sector) × (s.sector < l.total))
-      (λ q less. in_data l sh (get_or ks (q / l.factor) 0) q (getD_below (2 + l.clusters) ks (q / l.factor) (omega arith) h))
+      (λ q less. in_data l sh (get_or ks (q / l.factor) 0) q (get_or_below (2 + l.clusters) ks (q / l.factor) (omega arith) h))
 
   -- so they leave what comes before it alone.
   pub data_away : (s : ℕ) → s < l.start → Away (data_stores l c ks old d) s

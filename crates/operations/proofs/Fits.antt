@@ -16,7 +16,7 @@ use Rattle.model.specs.declared.Volume.{Volume}
 use Rattle.model.proofs.Tests.{less?}
 use Rattle.model.proofs.Grounds.{then}
 use Rattle.model.proofs.Searches.{indices_count}
-use Rattle.model.proofs.Nths.{get_d_any, nth_end, nth_inside}
+use Rattle.model.proofs.Nths.{get_or_any, nth_end, nth_inside}
 use Rattle.operations.specs.Plan.{last_cluster}
 use Rattle.operations.specs.Fitting.{fit, fits, fits_on, yes, no}
 
@@ -54,7 +54,7 @@ module _ (p : ℕ → Bool) (i m n : ℕ) (some : 1 ≤ n) where
       (λ enough.
       let ks = indices_from p i m in
       let long : n ≤ length ks = omega (arith, indices_count p i m) in
-      fit_enough n ks long ∙ ap yes (last_taken n ks some long ∙ get_d_any ks (n - 1) 0 (i + m) (omega arith)))
+      fit_enough n ks long ∙ ap yes (last_taken n ks some long ∙ get_or_any ks (n - 1) 0 (i + m) (omega arith)))
       (less? (count_from p i m) n)
 
   pub fit_past : i + m ≤ k → fit n (indices_from p i m) ≡ no

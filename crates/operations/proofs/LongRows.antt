@@ -87,7 +87,7 @@ sectors ss = map (λ s. s.sector) ss
 abbrev pub bytes_at : List Store → ℕ → Bytes
 bytes_at ss i = (get_or ss i (store 0 zeros)).bytes
 
--- Operation, long_name count and slot of a record.
+-- Operation, long-name count and slot of a record.
 abbrev told : Bytes → List ℕ
 told b = r_number b ∷ r_count b ∷ r_slot b ∷ []
 

@@ -196,7 +196,7 @@ pub data Call : Type 0 where
   appends : (name bytes : Span) (seconds : ℕ) → Call
   truncates : (name : Span) (size seconds : ℕ) → Call
   deletes : (name : Span) → Call
-  renames : (name new-name : Span) → Call
+  renames : (name new_name : Span) → Call
   replaces : (name bytes : Span) (seconds : ℕ) → Call
   recovers : Call
 

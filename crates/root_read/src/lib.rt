@@ -81,7 +81,7 @@ pub fn root_ok(w: &[u8], l: Layout, z: u32) -> bool
     true
 }
 
-// A live slot that is no label or long_name entry.
+// A live slot that is no label or long-name entry.
 pub fn is_listed(w: &[u8], l: Layout, k: u32) -> bool
     requires { Held l w.now × (k < l.entries) }
     ensures { result ≡ listed (slot_at l (card_of w.now) k) }

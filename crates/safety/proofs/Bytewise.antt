@@ -64,16 +64,16 @@ records_small : (rs : List Record) → All Small (map record_bytes rs)
 records_small [] = tt
 records_small (r ∷ rs) = (record_small r, records_small rs)
 
-getD_small : (rs : List Bytes) (i : ℕ) → All Small rs → Small (get_or rs i zeros)
-getD_small [] i a = none
-getD_small (r ∷ rs) zero a = a.0
-getD_small (r ∷ rs) (suc i) a = getD_small rs i a.1
+get_or_small : (rs : List Bytes) (i : ℕ) → All Small rs → Small (get_or rs i zeros)
+get_or_small [] i a = none
+get_or_small (r ∷ rs) zero a = a.0
+get_or_small (r ∷ rs) (suc i) a = get_or_small rs i a.1
 
 encode_small : (o : Change) → Small o.text → Small (encode o)
 unfolding encode lay
 encode_small o text j =
     by_pick (λ x. x < 256) (ltb j (32 * length (records o))) (lay (map record_bytes (records o)) j) (o.text (j - 32 * length (records o)))
-    (λ _. getD_small (map record_bytes (records o)) (j / 32) (records_small (records o)) (j % 32)) (λ _. text (j - 32 * length (records o)))
+    (λ _. get_or_small (map record_bytes (records o)) (j / 32) (records_small (records o)) (j % 32)) (λ _. text (j - 32 * length (records o)))
 
 committed_small : (n : ℕ) (b : Bytes) → Small b → Small (committed n b)
 unfolding committed

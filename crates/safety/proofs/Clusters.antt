@@ -21,7 +21,7 @@ use Rattle.operations.specs.Plan.{last_of, extend, shorten, exchange}
 use Rattle.model.proofs.Tests.{clash, told, less?, every_at}
 use Rattle.model.proofs.Scan.{all_at}
 use Rattle.model.proofs.All.{All, all_map, all_drop, all_append}
-use Rattle.model.proofs.Indices.{indices_all, has, getD_below, all_get_d}
+use Rattle.model.proofs.Indices.{indices_all, has, get_or_below, all_get_or}
 use Rattle.model.proofs.Fats.{free, release_free, release_marks, link_marks, link_free}
 use Rattle.model.proofs.Chains.{Used, apart_low}
 use Rattle.model.proofs.Volumes.{layout_of, first_fat, run_low}
@@ -84,7 +84,7 @@ module _ (l : Layout) (few : l.clusters ≤ 65524) (f : Fat) where
   ranged = all_map P (λ k. (2 ≤ k) × (k < 65536)) (λ k u. (u.low, omega (arith, u.high)))
 
   pub plain_fits : (ks : List ℕ) → All P ks → (i : ℕ) → get_or ks i 0 < 65536
-  plain_fits ks a i = getD_below 65536 ks i (omega arith) (all_map P (λ k. k < 65536) (λ k u. omega (arith, u.high)) ks a)
+  plain_fits ks a i = get_or_below 65536 ks i (omega arith) (all_map P (λ k. k < 65536) (λ k u. omega (arith, u.high)) ks a)
 
   pub released_marks : (ks : List ℕ) → All P ks → (j : ℕ) → marked (release ks f) j ≡ marked f j
   released_marks ks a = release_marks ks f (all_map P (λ k. marked f k ≡ false) (λ k u. u.unmarked) ks a)
@@ -195,4 +195,4 @@ module _ {size : ℕ} {c : Card} (st : Start size c) where
   pub sector_clear : (ks : List ℕ) → All (Plain l (first_fat c)) ks → (q : ℕ) → q / l.factor < length ks → Clear c (file_sector l ks q)
   unfolding file_sector
   sector_clear ks a q less =
-      cluster_clear (get_or ks (q / l.factor) 0) (all_get_d (Plain l (first_fat c)) ks a (q / l.factor) less) (q % l.factor) (mod-lt q (omega (arith, sh)))
+      cluster_clear (get_or ks (q / l.factor) 0) (all_get_or (Plain l (first_fat c)) ks a (q / l.factor) less) (q % l.factor) (mod-lt q (omega (arith, sh)))

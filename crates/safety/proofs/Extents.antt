@@ -24,7 +24,7 @@ use Rattle.operations.proofs.DataStores.{data_all}
 use Rattle.safety.specs.Sound.{Sound, chain_of, proper}
 use Rattle.model.proofs.Tests.{same?}
 use Rattle.model.proofs.All.{All, all_take, all_append, all_map}
-use Rattle.model.proofs.Indices.{Distinct, distinct_take, distinct_indices, distinct_append, pigeon, indices_length, all_get_d}
+use Rattle.model.proofs.Indices.{Distinct, distinct_take, distinct_indices, distinct_append, pigeon, indices_length, all_get_or}
 use Rattle.model.proofs.Cards.{clip_clip, clip_at}
 use Rattle.model.proofs.Chains.{chain_distinct, Used, needed_holds, in_cluster, one_place, longer, meet}
 use Rattle.model.proofs.Names.{Live}
@@ -160,9 +160,9 @@ module _ {size : ℕ} {c : Card} (st : Start size c) where
     other_place ts p q used off there high e =
         let n : ℕ = p / l.factor in
         let m = meet l sh.factor_low ts both p q (all_map (Used l (entry fat)) (λ k. 2 ≤ k) (λ k u. u.low) ts used) all_low there (within q high) e in
-        let not-old : Off ks (get_or ts n 0) = all_get_d (Off ks) ts off n there in
-        let not_new : Off new (get_or ts n 0) = new_off (get_or ts n 0) (all_get_d (Used l (entry fat)) ts used n there) in
-        all_get_d (λ j. get_or ts n 0 ≡ j → ⊥) both (all_append (λ j. get_or ts n 0 ≡ j → ⊥) ks new not-old not_new) (q / l.factor) (within q high) m.0
+        let not-old : Off ks (get_or ts n 0) = all_get_or (Off ks) ts off n there in
+        let not_new : Off new (get_or ts n 0) = new_off (get_or ts n 0) (all_get_or (Used l (entry fat)) ts used n there) in
+        all_get_or (λ j. get_or ts n 0 ≡ j → ⊥) both (all_append (λ j. get_or ts n 0 ≡ j → ⊥) ks new not-old not_new) (q / l.factor) (within q high) m.0
 
     -- The clusters are those of the file in slot t, which keeps its bytes, or it has none of them.
     abbrev Apart : ℕ → Type 0

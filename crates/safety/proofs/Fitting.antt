@@ -26,7 +26,7 @@ use Rattle.model.specs.declared.Pending.TheVariants as Pending
 use Rattle.model.proofs.Tests.{less?, same?}
 use Rattle.model.proofs.Scan.{count_none, indices_same}
 use Rattle.model.proofs.Searches.{indices_count}
-use Rattle.model.proofs.Indices.{Rising, pairwise_take, pairwise_indices, all_get_d}
+use Rattle.model.proofs.Indices.{Rising, pairwise_take, pairwise_indices, all_get_or}
 use Rattle.model.proofs.Nths.{Placed, nth_placed, placed_here, placed_below, nth_inside}
 use Rattle.model.proofs.Grounds.{passed, then}
 use Rattle.model.proofs.Volumes.{cleaned, fit_shape, volume_of, at_granted}
@@ -53,7 +53,7 @@ highest_last (k ∷ []) r = omega arith
 highest_last (k ∷ (j ∷ ks)) r =
     let e : length (k ∷ (j ∷ ks)) - 1 ≡ suc (length (j ∷ ks) - 1) = omega arith in
     let h : highest (j ∷ ks) ≡ last_cluster (j ∷ ks) = highest_last (j ∷ ks) r.1 in
-    let less : k < last_cluster (j ∷ ks) = all_get_d (λ i. k < i) (j ∷ ks) r.0 (length (j ∷ ks) - 1) (omega arith) in
+    let less : k < last_cluster (j ∷ ks) = all_get_or (λ i. k < i) (j ∷ ks) r.0 (length (j ∷ ks) - 1) (omega arith) in
     rw e (omega arith)
 
 -- A yes is not a no, nor is what is granted refused.

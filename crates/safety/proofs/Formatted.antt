@@ -71,7 +71,7 @@ unusable x whole none =
 
 -- ---- the stores of a format
 
--- The table at sector l .fat1 + k, and what holds of all of them.
+-- The table at sector l.fat1 + k, and what holds of all of them.
 module _ (l : Layout) (n : ℕ) where
   all_tables : (P : Store → Type 0) → ((k : ℕ) → k < tables l n → P (store (l.fat1 + k) (fresh_table l n k))) → All P (fresh_tables l n)
   unfolding fresh_tables

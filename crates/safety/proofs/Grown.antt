@@ -29,7 +29,7 @@ use Rattle.safety.specs.Sound.{chain_of}
 use Rattle.safety.specs.Saved.{Holds}
 use Rattle.model.proofs.Calendar.{stamp_small}
 use Rattle.model.proofs.Tests.{same?, less?}
-use Rattle.model.proofs.Indices.{all_get_d}
+use Rattle.model.proofs.Indices.{all_get_or}
 use Rattle.model.proofs.Chains.{Used}
 use Rattle.model.proofs.Names.{Live}
 use Rattle.model.proofs.Volumes.{window, layout_of, first_fat, volume_of}
@@ -92,7 +92,7 @@ module _ {size : ℕ} {c : Card} (st : Start size c) (s : ℕ) (live : Live (lay
       go (inl z) = rw (own_none z)
       go (inr ne) =
           let pos : 0 < length own = rw x.base.long (needed_some l sh.factor_low old ne) in
-          let low : 2 ≤ last_cluster own = (all_get_d (Used l (entry fat)) own x.base.used (length own - 1) (omega arith)).low in
+          let low : 2 ≤ last_cluster own = (all_get_or (Used l (entry fat)) own x.base.used (length own - 1) (omega arith)).low in
           ap (λ t. pick t (get_or new 0 0) (first_cluster b)) (ne_eqb (last_cluster own) 0 (λ e. omega arith))
           ∙ sym (own_first st s live keeps ne) ∙ sym (get_or-append own new 0 0 pos)
 

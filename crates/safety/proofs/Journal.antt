@@ -1,4 +1,4 @@
--- The two_run theorem, for every operation of a journal that keeps a few laws.
+-- The two-run theorem, for every operation of a journal that keeps a few laws.
 use Prim.Native.Nat.{ℕ, zero, suc, ◌≤◌, ◌<◌}
 use native.Mathlib.Omega.{arith}
 use mathlib.Core.Path.{◌≡◌, refl, sym, ap, ◌∙◌}

@@ -1,6 +1,6 @@
 -- What is on a card when the power goes in the middle of a call, and in the middle of recoveries after it.
 use Rattle.std.specs.Prelude.{ℕ, ◌≡◌, ◌⊎◌, Bool, true, false, ltb, length}
-use Rattle.std.proofs.Common.{inl, inr}
+use mathlib.Core.Logic.{inl, inr}
 use mathlib.Core.List.{List, [], ◌∷◌, ◌++◌, Sublistᴰ}
 use Rattle.model.specs.Sector.{Store, Card, after}
 use Rattle.model.specs.Ground.{Answer, refused, granted}

@@ -28,7 +28,7 @@ pub store_append-p-requires : goal.store_append-p-requires
 store_append-p-requires c =
     let added-clusters = c.added_clusters-n in
     let a = c.args in
-    let p = c.requires in record { ready = (p.0, has_room a.v.layout (card_of a.w.now) a.f _ p.0.held.fits.shape p.1.chain (omega arith), p.1.seated.slot); last_value = (c.last_cluster-last.ensures, added-clusters.ensures) }
+    let p = c.requires in record { ready = (p.0, has_room a.v.layout (card_of a.w.now) a.f _ p.0.held.fits.shape p.1.chain (omega arith), p.1.seated.slot); growth = (c.last_cluster-last.ensures, added-clusters.ensures) }
 
 pub returns : goal.returns
 returns c =

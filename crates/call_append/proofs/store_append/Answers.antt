@@ -13,13 +13,13 @@ returns-then-not-p c =
     let the-store-chain = c.store_chain-p in
     let cut = not-true the-store-chain.result.whole c.if-not-p.true in
     rw cut (append_cut a.v a.w.now a.f (view a.bytes.now) a.stamp h.ready.0 h.ready.1 a.limit the-store-chain.new.w
-    the-store-chain.result.made a.last a.n h.last_value.0 h.last_value.1 (rw cut at the-store-chain.ensures))
+    the-store-chain.result.made a.last a.n h.growth.0 h.growth.1 (rw cut at the-store-chain.ensures))
 
 pub plain_steps-q-requires : goal.plain_steps-q-requires
 unfolding edits operation_edits
 plain_steps-q-requires c =
     let h = c.requires in
-    record { held = search rules; start_le_sector = search rules; slots = ((h.ready.2, h.ready.2), tt) }
+    record { held = search rules; log_within = search rules; slots = ((h.ready.2, h.ready.2), tt) }
 
 pub returns : goal.returns
 returns c =
@@ -31,6 +31,6 @@ returns c =
     let the-plain-steps = c.plain_steps-q in
     let done = rw (not-false the-store-chain.result.whole the-if1.false) at the-store-chain.ensures in
     rw (c.joined.ensures.0, c.joined.ensures.1) (append_ran a.v a.w.now a.f (view a.bytes.now) a.stamp h.ready.0 h.ready.1 a.limit
-    the-store-chain.new.w the-store-chain.result.made a.last a.n h.last_value.0 h.last_value.1 done the-first-new.result _
+    the-store-chain.new.w the-store-chain.result.made a.last a.n h.growth.0 h.growth.1 done the-first-new.result _
     the-first-new.ensures refl the-plain-steps.new.w the-plain-steps.result.made the-plain-steps.result.whole
     the-plain-steps.ensures)

@@ -19,7 +19,7 @@ extend_fat-q-requires c =
     let d = c.append_data-p in (
       search rules,
       enough_kept a.l a.f (view a.bytes.now) a.last a.n a.limit a.w.now d.new.w d.result.made p.held.0.fits.shape
-          p.held.1.chain d.result.whole d.ensures (rw p.last_value.1 p.held.1.enough),
+          p.held.1.chain d.result.whole d.ensures (rw p.growth.1 p.held.1.enough),
     )
 
 pub returns : goal.returns

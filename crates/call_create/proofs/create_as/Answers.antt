@@ -10,7 +10,7 @@ pub create_at-requires : goal.create_at-requires
 create_at-requires c =
     let h = c.requires in
     let the-new-slot = c.new_slot-p in
-    record { ready = h.ready; slot_lt_entries = (rw c.in-Slot.is at the-new-slot.ensures.1, h.name_value.0, h.name_value.1, h.name_value.2) }
+    record { ready = h.ready; slot_and_names = (rw c.in-Slot.is at the-new-slot.ensures.1, h.names.0, h.names.1, h.names.2) }
 
 pub returns-in-Denied : goal.returns-in-Denied
 unfolding create_as ◌>>=◌

@@ -17,7 +17,7 @@ unfolding name_ok
 name_of-requires c =
     let a = c.args in
     let h = c.requires in
-    let e : length a.name.now ≡ 11 = eqb-true _ _ (every_at _ h.slot_lt_entries.1 0) in
+    let e : length a.name.now ≡ 11 = eqb-true _ _ (every_at _ h.slot_and_names.1 0) in
     omega arith
 
 pub record_change-requires : goal.record_change-requires
@@ -27,9 +27,9 @@ record_change-requires c =
     let a = c.args in record {
       ready = h.ready;
       slots = (
-        create_slots a.v.layout.entries _ _ h.slot_lt_entries.0 a.stamp (bytes_of a.text.now),
-        record { even = h.slot_lt_entries.2; short = omega (arith, h.slot_lt_entries.3) },
-        omega (arith, h.slot_lt_entries.3),
+        create_slots a.v.layout.entries _ _ h.slot_and_names.0 a.stamp (bytes_of a.text.now),
+        record { even = h.slot_and_names.2; short = omega (arith, h.slot_and_names.3) },
+        omega (arith, h.slot_and_names.3),
       );
     }
 

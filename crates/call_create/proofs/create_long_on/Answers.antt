@@ -28,7 +28,7 @@ create_as-requires c =
     let fine = sym c.is_text.ensures ∙ not-false _ c.if-not-is_text.false-raw in
     let even = text_even (view a.text.now) fine in
     let few = text_few (view a.text.now) fine in
-    record { ready = search rules; name_value = (sym the-is-name.ensures ∙ not-false _ the-if1.false-raw, even, omega arith) }
+    record { ready = search rules; names = (sym the-is-name.ensures ∙ not-false _ the-if1.false-raw, even, omega arith) }
 
 pub returns : goal.returns
 unfolding create_long_on ◌when◌ ◌>>◌

@@ -12,7 +12,7 @@ unfolding create_on ◌when◌ ◌>>◌
 returns-then-not-is_name c = rw (sym c.is_name.ensures ∙ not-true _ c.if-not-is_name.true-raw) (did_refused _ _ _)
 
 pub create_as-requires : goal.create_as-requires
-create_as-requires c = record { ready = search rules; name_value = (sym c.is_name.ensures ∙ not-false _ c.if-not-is_name.false-raw, refl, omega arith) }
+create_as-requires c = record { ready = search rules; names = (sym c.is_name.ensures ∙ not-false _ c.if-not-is_name.false-raw, refl, omega arith) }
 
 pub returns : goal.returns
 unfolding create_on ◌when◌ ◌>>◌

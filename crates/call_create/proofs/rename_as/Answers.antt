@@ -10,7 +10,7 @@ pub rename_to-requires : goal.rename_to-requires
 rename_to-requires c =
     let h = c.requires in
     let the-new-slot = c.new_slot-p in
-    record { ready = h.ready; slot_lt_entries = (h.slot_lt_entries.0, (rw c.in-Slot.is at the-new-slot.ensures.1), h.slot_lt_entries.1) }
+    record { ready = h.ready; slots_and_name = (h.slot_and_name.0, (rw c.in-Slot.is at the-new-slot.ensures.1), h.slot_and_name.1) }
 
 pub returns-in-Denied : goal.returns-in-Denied
 unfolding rename_as ◌>>=◌

@@ -26,7 +26,7 @@ rename_as-requires c =
     let are = c.are_names in
     let if1 = c.if-not-are_names in
     let slot = (rw c.in-At.is at c.file_named-o.ensures.1).slot in
-    record { ready = search rules; slot_lt_entries = (slot, and_right (name_ok (view a.old.now)) (name_ok (view a.new.now)) (sym are.ensures ∙ not-false _ if1.false-raw)) }
+    record { ready = search rules; slot_and_name = (slot, and_right (name_ok (view a.old.now)) (name_ok (view a.new.now)) (sym are.ensures ∙ not-false _ if1.false-raw)) }
 
 pub returns-in-Missing : goal.returns-in-Missing
 unfolding rename_on ◌when◌ ◌>>◌ ◌>>=◌

@@ -15,7 +15,7 @@ unfolding name_ok
 name_of-requires c =
     let a = c.args in
     let h = c.requires in
-    let e : length a.name.now ≡ 11 = eqb-true _ _ (every_at _ h.slot_lt_entries.2 0) in
+    let e : length a.name.now ≡ 11 = eqb-true _ _ (every_at _ h.slots_and_name.2 0) in
     omega arith
 
 pub record_change-requires : goal.record_change-requires
@@ -23,7 +23,7 @@ unfolding operation_records
 record_change-requires c =
     let h = c.requires in
     let a = c.args in
-    record { ready = h.ready; slots = (rename_slots a.v.layout.entries _ _ h.slot_lt_entries.0 _ _ _ _ _ h.slot_lt_entries.1, record { even = refl; short = omega arith }, omega arith) }
+    record { ready = h.ready; slots = (rename_slots a.v.layout.entries _ _ h.slots_and_name.0 _ _ _ _ _ h.slots_and_name.1, record { even = refl; short = omega arith }, omega arith) }
 
 pub returns : goal.returns
 unfolding rename_stores

@@ -34,7 +34,7 @@ redo-requires c =
     let the-plan-at = c.plan_at-plan in
     let k = subst (Redoable a.v) (sym (ap (λ (t : Bytes). planned the-plan-at.result t) c.text_at-text.ensures
     ∙ the-plan-at.ensures.0)) (redoable a.v a.w.now h _ c.in-Held.is) in
-    record { held = h.held; slots = (k.slots, record { even = omega arith; short = omega arith }); start_le_sector = (k.low, k.high, the-plan-at.ensures.1) }
+    record { held = h.held; slots = (k.slots, record { even = omega arith; short = omega arith }); group_within = (k.low, k.high, the-plan-at.ensures.1) }
 
 pub returns-in-Nothing : goal.returns-in-Nothing
 unfolding recover_stores

@@ -24,7 +24,7 @@ store_replace-p-requires c =
     let p = c.requires in
     let x = card_of a.w.now in
     let f = a.f in
-    let e = emptied_added a.v.layout p.0.held.fits.shape.factor_low f (length a.bytes.now) in record { ready = (p.0, p.1, has_room a.v.layout x (emptied f) _ p.0.held.fits.shape (emptied_proper a.v.layout x f) (omega (arith, e))); n_value = n.ensures ∙ sym e }
+    let e = emptied_added a.v.layout p.0.held.fits.shape.factor_low f (length a.bytes.now) in record { ready = (p.0, p.1, has_room a.v.layout x (emptied f) _ p.0.held.fits.shape (emptied_proper a.v.layout x f) (omega (arith, e))); taken = n.ensures ∙ sym e }
 
 pub returns : goal.returns
 returns c =

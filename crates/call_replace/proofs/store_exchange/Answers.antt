@@ -18,7 +18,7 @@ exchange_fat-q-requires c =
     let p = c.requires in
     let d = c.append_data-p in
     let s = still a.l a.g (view a.bytes.now) a.n a.old a.m a.limit a.w.now d.new.w d.result.made
-    p.held.0.fits.shape p.held.1.chain p.n_value.1 d.result.whole d.ensures (rw p.n_value.0 p.held.1.enough) in
+    p.held.0.fits.shape p.held.1.chain p.taken.1 d.result.whole d.ensures (rw p.taken.0 p.held.1.enough) in
     (search rules, s.0, s.1)
 
 pub returns : goal.returns
@@ -31,4 +31,4 @@ returns c =
     let done = rw (not-false d.result.whole if1.false) at d.ensures in
     rw (c.joined.ensures.0, c.joined.ensures.1)
     (both_ran a.l a.g (view a.bytes.now) a.n a.old a.m a.limit a.w.now d.new.w d.result.made
-    p.held.0.fits.shape p.held.1.chain p.n_value.1 done x.new.w x.result.made x.result.whole x.ensures)
+    p.held.0.fits.shape p.held.1.chain p.taken.1 done x.new.w x.result.made x.result.whole x.ensures)

@@ -12,7 +12,7 @@ store_exchange-requires c =
     let t = fat1_of a.l (card_of a.w.now) in
     let sh = p.held.0.fits.shape in
     let inside = whole_inside a.l sh (entry t) a.f.first a.f.size p.held.1 in
-    record { held = (p.held.0, p.held.2, emptied_last a.l sh.factor_low a.f t); n_value = (p.n_value, rw c.clusters_for.ensures inside) }
+    record { held = (p.held.0, p.held.2, emptied_last a.l sh.factor_low a.f t); taken = (p.taken, rw c.clusters_for.ensures inside) }
 
 pub returns : goal.returns
 returns c = rw (← c.clusters_for.ensures) c.store_exchange.ensures

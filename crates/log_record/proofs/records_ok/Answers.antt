@@ -29,7 +29,7 @@ unfolding records_ok
 returns-then-not-part_ok c =
     let a = c.args in
     let rs = record_at (card_of a.log.now a.s) in
-    let many : a.m ≡ group_size rs = c.requires.m_value in
+    let many : a.m ≡ group_size rs = c.requires.counted in
     sym (every_not _ 1 (all_not (part_ok a.entries a.z rs) 1 (group_size rs - 1) c.loop-k.k c.loop-k.invariant.0 (omega arith)
     (sym c.part_ok.ensures ∙ not-true _ c.if-not-part_ok.true-raw)))
 
@@ -47,7 +47,7 @@ unfolding records_ok
 returns c =
     let a = c.args in
     let rs = record_at (card_of a.log.now a.s) in
-    let many : a.m ≡ group_size rs = c.requires.m_value in
+    let many : a.m ≡ group_size rs = c.requires.counted in
     let first : record_ok a.entries a.z (rs 0) ≡ true =
     ap (record_ok a.entries a.z) (sym c.load-r.ensures) ∙ sym c.record_ok.ensures ∙ not-false _ c.if-not-record_ok.false-raw in
     sym (each_every _ (first also all_of (part_ok a.entries a.z rs) 1 (group_size rs - 1) (λ k low less. c.loop-k.invariant.2 k low (omega arith)) also tt))

@@ -13,7 +13,7 @@ pending_in-requires c =
     let a = c.args in (
       search rules,
       rw (c.index-from.ensures, c.index.ensures)
-          (h.sectors_bound.2 ∙ sym (ap (λ (j : ℕ). place_of j a.a.sectors)
+          (h.area.2 ∙ sym (ap (λ (j : ℕ). place_of j a.a.sectors)
           (first_part a.a a.w.now (512 * a.a.sector + 512 * a.a.sectors - 512 * a.a.sector) (omega arith)))),
     )
 
@@ -25,4 +25,4 @@ returns c =
     let the-index = c.index-from in
     (rw (the-index.ensures, c.index.ensures) at c.pending_in.ensures) ∙ pending_part a.l.entries
     (λ _. the-seen-end.result) a.a a.w.now (512 * a.a.sector + 512 * a.a.sectors - 512 * a.a.sector) (omega arith)
-    ∙ seen_pending a.l a.a (card_of a.w.now) the-seen-end.result a.place h.sectors_bound.2 the-seen-end.ensures
+    ∙ seen_pending a.l a.a (card_of a.w.now) the-seen-end.result a.place h.area.2 the-seen-end.ensures

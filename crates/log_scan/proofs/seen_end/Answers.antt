@@ -13,7 +13,7 @@ overflow_add-a c =
     let a = c.args in
     let h = c.requires in
     let p = placed (first_pending a.a.sectors (log_of a.a (card_of a.w.now))) a.a.sectors _ _
-    (sym h.sectors_bound.1 ∙ c.in-At.is) in
+    (sym h.area.1 ∙ c.in-At.is) in
     omega (arith, p.within)
 
 pub operation_at-requires : goal.operation_at-requires
@@ -21,7 +21,7 @@ operation_at-requires c =
     let a = c.args in
     let h = c.requires in
     let p = placed (first_pending a.a.sectors (log_of a.a (card_of a.w.now))) a.a.sectors _ _
-    (sym h.sectors_bound.1 ∙ c.in-At.is) in
+    (sym h.area.1 ∙ c.in-At.is) in
     omega (arith, p.within)
 
 pub returns-in-Nowhere : goal.returns-in-Nowhere

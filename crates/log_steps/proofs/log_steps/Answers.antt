@@ -25,7 +25,7 @@ store_and_redo-done-requires c =
     let b = group_sector_in a.v.log (log_of a.v.log (card_of a.w.now)) (omega arith) in record {
       held = search rules;
       slots = rw the-plan-for.ensures.1 h.slots;
-      start_le_sector = (
+      group_within = (
         omega (arith, b, the-group-sector.ensures, the-plan-for.ensures.2),
         omega (arith, b, the-group-sector.ensures, the-plan-for.ensures.2),
         the-plan-for.ensures.3,

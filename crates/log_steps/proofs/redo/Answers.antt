@@ -34,4 +34,4 @@ returns c =
     the-finish.new.w the-finish.result.made one (commit (card_of a.w.now) (planned a.p (bytes_of a.text.now)) ∷ [])
     the-commit.new.w the-commit.result.made the-commit.result.whole
     (rw (group_kept a.l h.held.fits.shape a.limit a.w.now the-finish.new.w the-finish.result.made _
-    (with_text a.p.operation (bytes_of a.text.now)) (planned a.p (bytes_of a.text.now)) h.start_le_sector.0 one) at the-commit.ensures))
+    (with_text a.p.operation (bytes_of a.text.now)) (planned a.p (bytes_of a.text.now)) h.group_within.0 one) at the-commit.ensures))
