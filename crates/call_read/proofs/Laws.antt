@@ -9,7 +9,6 @@ use Rattle.model.specs.Root.{slot_at, name_ok}
 use Rattle.model.specs.Ground.{refused, granted, ◌when◌, ◌>>=◌, ◌>>◌}
 use Rattle.model.specs.Volume.{clean}
 use Rattle.model.specs.declared.Ground.{Ground}
-use Rattle.model.specs.declared.Ground.TheVariants as Ground
 use Rattle.model.specs.declared.Volume.{Volume}
 use Rattle.operations.specs.Calls.{slot_of}
 use Rattle.operations.specs.Reading.{list, read_on, read, directory_listing, shown, long_reading, long_name_on, long_name}

@@ -18,7 +18,6 @@ use Rattle.model.specs.declared.Layout.{Layout}
 use Rattle.model.specs.declared.File.{File}
 use Rattle.model.specs.declared.Volume.{Volume}
 use Rattle.model.specs.declared.Ground.{Ground}
-use Rattle.model.specs.declared.Ground.TheVariants as Ground
 use Rattle.model.specs.Record.{plain}
 use Rattle.model.specs.Record.{Change}
 use Rattle.model.specs.declared.Operation.TheVariants.{Replace}

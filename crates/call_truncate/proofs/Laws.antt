@@ -11,7 +11,6 @@ use Rattle.model.specs.Calendar.{stamp_of}
 use Rattle.model.specs.Volume.{clean, clean_at}
 use Rattle.model.specs.declared.File.{File}
 use Rattle.model.specs.declared.Ground.{Ground}
-use Rattle.model.specs.declared.Ground.TheVariants as Ground
 use Rattle.model.specs.declared.Volume.{Volume}
 use Rattle.operations.specs.Program.{ending}
 use Rattle.operations.specs.Plan.{truncate_stores}

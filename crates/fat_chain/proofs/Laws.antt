@@ -3,12 +3,10 @@ use Prim.Native.Nat.{ℕ, ◌+◌, ◌≤◌}
 use native.Mathlib.Omega.{arith}
 use mathlib.Core.Path.{◌≡◌, refl, sym, ap, ◌∙◌}
 use mathlib.Core.Logic.{⊎_elim}
-use mathlib.Core.List.{[], ◌∷◌}
 use mathlib.Core.Bool.{Bool, true, false}
 use lib.Dec.{eqb}
 use borrow.Author.Tests.{eqb-true}
 use denote.Enum.Declared.{tag_of}
-use types.Run.{OneOf}
 use Rattle.model.specs.Bytes.{pick}
 use Rattle.model.specs.Fat.{class, is_reserved, in_range, is_end}
 use Rattle.model.specs.declared.Layout.{Layout}
@@ -16,7 +14,6 @@ use Rattle.model.specs.declared.Class.{Class}
 use Rattle.model.specs.declared.Class.TheVariants.{Free, Next, Reserved, Bad, End, Other}
 use Rattle.model.specs.contracts.Class.{the_type}
 use Rattle.model.proofs.Tests.{told, between_true, between_low}
-use Rattle.model.proofs.Match.{keyed}
 use Rattle.fat_read.proofs.Laws.{ended}
 
 -- The class is Next; it is End.

@@ -9,7 +9,7 @@ use lib.Dec.{ltb}
 use borrow.Author.Tests.{lt-ltb, le-ltb}
 use Rattle.model.specs.Bytes.{Bytes, zeros}
 use Rattle.model.specs.Scan.{range}
-use Rattle.model.specs.Sector.{Card, Window, Store, clip, store, put, after}
+use Rattle.model.specs.Sector.{Card, Store, clip, store, put, after}
 use Rattle.model.specs.Boot.{layout, arrange, boot_ok}
 use Rattle.model.specs.Fat.{fat1_of, fat2_of, entry, fats_agree}
 use Rattle.model.specs.Chain.{cluster_sector}

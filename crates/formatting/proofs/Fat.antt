@@ -2,8 +2,8 @@
 use Prim.Native.Nat.{ℕ, ◌+◌, ◌-◌, ◌*◌, ◌/◌, ◌%◌, ◌<◌, ◌≤◌}
 use native.Mathlib.Omega.{arith}
 use mathlib.Core.Path.{◌≡◌}
-use mathlib.Core.Logic.{◌⊎◌, ⊎_elim}
-use mathlib.Core.Bool.{true, not}
+use mathlib.Core.Logic.{⊎_elim}
+use mathlib.Core.Bool.{true}
 use borrow.Author.Tests.{lt-ltb, le-ltb, ne_eqb, eq-eqb, le-leb}
 use Rattle.model.specs.Bytes.{le, byte_of}
 use Rattle.model.specs.Fat.{Fat, wide_entry, entry}

@@ -1,5 +1,5 @@
 -- A fresh card: its numbers, its boot sector and its FATs.
-use Rattle.std.specs.Prelude.{ℕ, ◌+◌, ◌-◌, ◌*◌, ◌/◌, ◌%◌, ◌&&◌, leb, ltb, eqb}
+use Rattle.std.specs.Prelude.{ℕ, ◌+◌, ◌*◌, ◌/◌, ◌%◌, ◌&&◌, leb, ltb, eqb}
 use Rattle.model.specs.Bytes.{Bytes, pick, patch, byte_of, zeros}
 use Rattle.model.specs.Scan.{first_from}
 use Rattle.model.specs.Boot.{arrange, fat_holds}

@@ -1,5 +1,5 @@
 -- Fresh cards worked out by hand, as numbers: sizes, sectors stored, bytes, grounds.
-use Rattle.std.specs.Prelude.{ℕ, ◌+◌, ◌≡◌, List, [], ◌∷◌, ◌++◌, map, Bool, true, false, get_or, replicate}
+use Rattle.std.specs.Prelude.{ℕ, ◌≡◌, List, [], ◌∷◌, ◌++◌, map, Bool, true, false, get_or, replicate}
 use Rattle.model.specs.Bytes.{zeros, le}
 use Rattle.model.specs.Scan.{range}
 use Rattle.model.specs.Sector.{Card, Window, Store, store}

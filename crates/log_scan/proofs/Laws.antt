@@ -16,7 +16,6 @@ use Rattle.model.specs.Record.{tells, pends, record_at, group_size}
 use Rattle.model.specs.Pending.{pending_at, first_pending, group_ok, alone, accepted, pending_in, seen_end, pending}
 use Rattle.model.specs.declared.Area.{Area}
 use Rattle.model.specs.declared.Pending.{Pending}
-use Rattle.model.specs.declared.Pending.TheVariants as Pending
 use Rattle.model.proofs.Tests.{less?, told}
 use Rattle.model.proofs.Scan.{Sofar, none_below, first_is, first_has, first_ge, first_before, all_of, all_not, all_at0}
 use Rattle.model.proofs.Sectors.{part_sector}

@@ -7,7 +7,6 @@ use Rattle.model.specs.Pending.{accepted, seen_end}
 use Rattle.model.specs.declared.Layout.{Layout}
 use Rattle.model.specs.declared.Area.{Area}
 use Rattle.model.specs.declared.Pending.{Pending}
-use Rattle.model.specs.declared.Pending.TheVariants as Pending
 use Rattle.log_scan.specs.declared.Place.{Place}
 use Rattle.log_scan.specs.declared.Place.TheVariants.{At, Nowhere}
 

@@ -12,7 +12,6 @@ use Rattle.model.specs.Record.{pends, group_size, record_at}
 use Rattle.model.specs.Pending.{pending_at, first_pending, alone, accepted, pending_in}
 use Rattle.model.specs.declared.Area.{Area}
 use Rattle.model.specs.declared.Pending.{Pending}
-use Rattle.model.specs.declared.Pending.TheVariants as Pending
 use Rattle.model.proofs.Tests.{told}
 use Rattle.model.proofs.Scan.{all_same, first_same}
 

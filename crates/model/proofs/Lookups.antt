@@ -13,7 +13,6 @@ use Rattle.model.specs.Root.{slot_holds, lookup}
 use Rattle.model.specs.declared.Layout.{Layout}
 use Rattle.model.specs.declared.Name.{Name}
 use Rattle.model.specs.declared.Lookup.{Lookup}
-use Rattle.model.specs.declared.Lookup.TheVariants as Lookup
 
 -- ---- rows
 

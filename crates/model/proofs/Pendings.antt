@@ -27,7 +27,6 @@ use Rattle.model.proofs.Cards.{clip_at}
 use Rattle.model.proofs.Records.{ChangeFits, zeros_length, listed, before_text, record_read, size_read}
 use Rattle.model.proofs.Texts.{record_first, some_told, spells_leads, change_read, text_after, records_after}
 use Rattle.model.proofs.Recorded.{Starts, Recorded, told_size, asked_same}
-use Rattle.model.specs.declared.Pending.TheVariants as Pending
 
 -- A record that begins so is pending; so is a slot live.
 pub starts_not_zero : (v : ℕ) → starts v ≡ true → v ≡ 0 → ⊥

@@ -27,8 +27,6 @@ use Rattle.model.proofs.Tests.{clash, every_at}
 use Rattle.model.proofs.Scan.{first_ge, first_count, first_same, count_same, all_same}
 use Rattle.model.proofs.Boot.{shape}
 use Rattle.model.proofs.Grounds.{asked, then, ends, passed, barred, bound}
-use Rattle.model.specs.declared.Pending.TheVariants as Pending
-use Rattle.model.specs.declared.Ground.TheVariants as Ground
 
 -- ---- where things are on a card
 

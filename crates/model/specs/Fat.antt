@@ -5,7 +5,6 @@ use Rattle.model.specs.Scan.{between, indices, indices_from, all}
 use Rattle.model.specs.Sector.{Card, Store, store}
 use Rattle.model.specs.declared.Layout.{Layout}
 use Rattle.model.specs.declared.Class.{Class}
-use Rattle.model.specs.declared.Class.TheVariants as Class
 
 -- The sectors of a FAT, counted from its first.
 abbrev pub Fat : Type 0

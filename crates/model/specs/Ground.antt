@@ -1,7 +1,6 @@
 -- The grounds on which a call refuses, and answers that a ground may take the place of.
 use Rattle.std.specs.Prelude.{ℕ, Bool, true, false}
 use Rattle.model.specs.declared.Ground.{Ground}
-use Rattle.model.specs.declared.Ground.TheVariants as Ground
 
 -- "Grounds, in checking order"; those of later requests have the next numbers, and are asked where the request says.
 abbrev pub ground_number : Ground → ℕ

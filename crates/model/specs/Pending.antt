@@ -14,7 +14,6 @@ use Rattle.model.specs.declared.Operation.TheVariants.{Create, Update, Delete, T
 use Rattle.model.specs.declared.Layout.{Layout}
 use Rattle.model.specs.declared.Area.{Area}
 use Rattle.model.specs.declared.Pending.{Pending}
-use Rattle.model.specs.declared.Pending.TheVariants as Pending
 
 -- Record k of a log table is pending: 16 records to a sector. The lowest that is, of n sectors; 16 * n where there is none.
 abbrev pub pending_at : Log → ℕ → Bool

@@ -8,7 +8,6 @@ use Rattle.model.specs.declared.Name.{Name}
 use Rattle.model.specs.declared.Entry.{Entry}
 use Rattle.model.specs.declared.File.{File}
 use Rattle.model.specs.declared.Lookup.{Lookup}
-use Rattle.model.specs.declared.Lookup.TheVariants as Lookup
 
 -- The bytes of each slot.
 abbrev pub Directory : Type 0

@@ -12,9 +12,7 @@ use Rattle.model.specs.declared.File.{File}
 use Rattle.model.specs.declared.Layout.{Layout}
 use Rattle.model.specs.declared.Volume.{Volume}
 use Rattle.model.specs.declared.Access.{Access}
-use Rattle.model.specs.declared.Access.TheVariants as Access
 use Rattle.model.specs.declared.Lookup.{Lookup}
-use Rattle.model.specs.declared.Lookup.TheVariants as Lookup
 use Rattle.model.specs.declared.Ground.TheVariants as Ground
 use Rattle.model.proofs.Tests.{told, less?}
 use Rattle.model.proofs.Grounds.{asked, passed}

@@ -19,7 +19,6 @@ use Rattle.model.specs.declared.Name.{Name}
 use Rattle.model.specs.declared.File.{File}
 use Rattle.model.specs.declared.Volume.{Volume}
 use Rattle.model.specs.declared.Pending.{Pending}
-use Rattle.model.specs.declared.Pending.TheVariants as Pending
 use Rattle.model.specs.declared.Operation.TheVariants.{Delete}
 use Rattle.operations.specs.Program.{Program, stores}
 use Rattle.operations.specs.Plan.{delete_stores, rename_stores, recover_stores}

@@ -1,12 +1,12 @@
 -- Laws of the characters that a create is given: how many there are, that they are allowed, and that RECORD takes them.
-use Prim.Native.Nat.{ℕ, ◌+◌, ◌-◌, ◌*◌, ◌/◌, ◌%◌, ◌≤◌, ◌<◌}
+use Prim.Native.Nat.{ℕ, ◌+◌, ◌*◌, ◌/◌, ◌%◌, ◌≤◌, ◌<◌}
 use native.Mathlib.Omega.{arith}
 use mathlib.Core.Path.{◌≡◌, refl, sym, ap, ◌∙◌, fun_ext}
 use mathlib.Core.Logic.{◌⊎◌, inl, inr}
 use mathlib.Core.Bool.{true, not}
 use lib.Dec.{eqb}
 use borrow.Author.Tests.{eqb-true, eq-eqb, ne_eqb, lt-ltb, le-ltb, not-true}
-use Rattle.model.specs.Bytes.{Bytes, Span, zeros, le}
+use Rattle.model.specs.Bytes.{Span, zeros, le}
 use Rattle.model.specs.Scan.{any, between}
 use Rattle.model.specs.LongName.{character, forbidden, all_allowed, most_characters, text_ok}
 use Rattle.model.specs.Record.{Change, text_room, text_length}

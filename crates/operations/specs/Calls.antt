@@ -16,9 +16,7 @@ use Rattle.model.specs.declared.Layout.{Layout}
 use Rattle.model.specs.declared.Volume.{Volume}
 use Rattle.model.specs.declared.Ground.TheVariants as Ground
 use Rattle.model.specs.declared.Lookup.{Lookup}
-use Rattle.model.specs.declared.Lookup.TheVariants as Lookup
 use Rattle.model.specs.declared.Access.{Access}
-use Rattle.model.specs.declared.Access.TheVariants as Access
 use Rattle.operations.specs.Program.{Program, ending}
 use Rattle.operations.specs.Plan.{no_text, slots_for, clusters_of, old_fat, added}
 use Rattle.operations.specs.Plan.{new_clusters, create_stores, append_stores, truncate_stores, delete_stores}

@@ -17,7 +17,6 @@ use Rattle.model.specs.declared.File.{File}
 use Rattle.model.specs.declared.Volume.{Volume}
 use Rattle.model.specs.declared.Operation.TheVariants.{Create, Update, Delete, Truncate, Rename, Replace}
 use Rattle.model.specs.declared.Pending.{Pending}
-use Rattle.model.specs.declared.Pending.TheVariants as Pending
 use Rattle.operations.specs.Program.{Program, ending, segment}
 use Rattle.operations.specs.Finish.{redo}
 

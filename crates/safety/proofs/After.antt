@@ -6,7 +6,7 @@ use mathlib.Core.Logic.{◌⊎◌, inl, inr, ⊎_elim}
 use mathlib.Core.Bool.{true, false}
 use Rattle.model.specs.Bytes.{Bytes}
 use Rattle.model.specs.Sector.{Card, clip, Store, after}
-use Rattle.model.specs.Fat.{fat2_of, same}
+use Rattle.model.specs.Fat.{fat2_of}
 use Rattle.model.specs.Root.{end_slot, first_bytes, slot_at, Directory, root_place}
 use Rattle.model.specs.Log.{log_of}
 use Rattle.model.specs.Promises.{Shape}

@@ -27,7 +27,6 @@ use Rattle.model.proofs.Volumes.{layout_of, area_of, Alike}
 use Rattle.safety.proofs.Journal.{Back, idle}
 use Rattle.safety.proofs.Start.{Clear, Table, Fixed, Start, shape_of, log_quiet, fat2_free, log_low, marks_same, root_kept, recovery_is, fats_same}
 use Rattle.safety.proofs.Start.{fatsize_few}
-use Rattle.model.specs.declared.Pending.TheVariants as Pending
 
 -- Byte j of sector n is a data byte outside the log, and the data stores ds leave it as it is in c.
 pub record Spared (c : Card) (ds : List Store) (n j : ℕ) : Type 0 where

@@ -34,7 +34,6 @@ use Rattle.model.proofs.Changes.{Clipped, Keeps, after_keeps, put_clipped}
 use Rattle.operations.proofs.Edits.{Laid, laid_small, Bears, again}
 use Rattle.operations.proofs.Roots.{redo_stores}
 use Rattle.safety.proofs.Steps.{prepare_all, finish_all}
-use Rattle.model.specs.declared.Pending.TheVariants as Pending
 
 -- Bytes are below 256: of a run (`Small`), of a store, of a card, of a FAT.
 abbrev pub SmallStore : Store → Type 0

@@ -40,7 +40,6 @@ use Rattle.safety.proofs.Supplied.{truncate_supplies, longer_fat, updates_as, ap
 use Rattle.safety.proofs.Granted.{Created, create_granted, long_granted, rename_granted, delete_granted}
 use Rattle.safety.proofs.Granted.{Truncated, truncate_granted, Growth, Appended, append_granted}
 use Rattle.safety.proofs.Granted.{Renewal, Replaced, replace_granted}
-use Rattle.model.specs.declared.Pending.TheVariants as Pending
 
 -- A refused call takes and releases no cluster.
 abbrev pub if_granted : Answer Program → List ℕ → List ℕ

@@ -18,9 +18,8 @@ use Rattle.model.specs.Pending.{named_slots}
 use Rattle.model.specs.declared.Layout.{Layout}
 use Rattle.model.specs.declared.Pending.{Pending}
 use Rattle.model.specs.declared.Volume.{Volume}
-use Rattle.model.specs.declared.Pending.TheVariants as Pending
 use Rattle.operations.specs.Program.{Program, ending}
-use Rattle.operations.specs.Finish.{mark_deleted, marks, effect}
+use Rattle.operations.specs.Finish.{mark_deleted, effect}
 use Rattle.operations.specs.Calls.{Call, deletes, renames, recovers, plan, slot_of, old_slots, changed_by}
 use Rattle.operations.specs.Outcome.{left, made, largest}
 use Rattle.safety.specs.Demand3.{finished, recoveries, settles_as, group_stored, SameTables}

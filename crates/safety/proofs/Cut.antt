@@ -50,7 +50,6 @@ use Rattle.safety.proofs.Granted.{NamedFile, Truncated, truncate_granted}
 use Rattle.safety.proofs.Moved.{finish_with}
 use Rattle.safety.proofs.Means.{resized_holds}
 use Rattle.safety.proofs.Extents.{Base, file_base}
-use Rattle.model.specs.declared.Pending.TheVariants as Pending
 
 -- Some bytes need a cluster.
 pub needed_some : (l : Layout) → 1 ≤ l.factor → (n : ℕ) → (n ≡ 0 → ⊥) → 0 < needed l n

@@ -2,7 +2,7 @@
 use Prim.Native.Nat.{ℕ, ◌+◌, ◌-◌, ◌^◌, ◌≤◌, ◌<◌}
 use native.Mathlib.Omega.{arith}
 use mathlib.Core.Path.{◌≡◌, refl, sym, ap, ◌∙◌, subst}
-use mathlib.Core.Logic.{◌⊎◌, ⊎_elim}
+use mathlib.Core.Logic.{⊎_elim}
 use mathlib.Core.List.{List, []}
 use mathlib.Core.Bool.{Bool, true}
 use lib.Dec.{eqb}
@@ -29,7 +29,7 @@ use Rattle.safety.specs.Dates.{Changed, Born, Updated, Undated, entry_of, Has, D
 use Rattle.model.proofs.Overlays.{overlay_above}
 use Rattle.model.proofs.Numbers.{read_back, le_local, le_over_below, le_over_above}
 use Rattle.model.proofs.Calendar.{stamp_small, stamp_time_of, stamp_date_of}
-use Rattle.model.proofs.Volumes.{window, layout_of, first_fat, volume_of, timely}
+use Rattle.model.proofs.Volumes.{window, layout_of, first_fat, volume_of}
 use Rattle.safety.proofs.Start.{Start, shape_of, slots_same}
 use Rattle.safety.proofs.Ended.{Ended, ended}
 use Rattle.safety.proofs.Slots.{resized, resized_below, Resizes, means_same}
@@ -43,7 +43,6 @@ use Rattle.safety.proofs.Grown.{grown_edit}
 use Rattle.safety.proofs.Replaced.{replaced_edit}
 use Rattle.safety.proofs.Saved.{started, volume_is}
 use Rattle.safety.proofs.Theorem.{demand3}
-use Rattle.model.specs.declared.Pending.TheVariants as Pending
 
 -- ---- the fields of a slot
 

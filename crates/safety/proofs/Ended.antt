@@ -31,7 +31,6 @@ use Rattle.model.proofs.Volumes.{layout_of, window, volume_of, area_of}
 use Rattle.safety.proofs.Start.{Clear, Start, shape_of}
 use Rattle.safety.proofs.Steps.{finish_all}
 use Rattle.safety.proofs.Operate.{Supplies, Leaves, leaves, spot, spot_in}
-use Rattle.model.specs.declared.Pending.TheVariants as Pending
 
 pub record Ended (size : ℕ) (c : Card) (ds : List Store) (f : Fat) (o : Change) (t : Card) : Type 0 where
   pub cleans : clean (window size t) ≡ granted (volume_of c Pending.Nothing)

@@ -26,13 +26,12 @@ use Rattle.model.proofs.All.{All}
 use Rattle.model.proofs.Fats.{free, write_length, entry_clip}
 use Rattle.model.proofs.Volumes.{window, volume_of, layout_of, first_fat, area_of}
 use Rattle.safety.proofs.Journal.{Kept}
-use Rattle.safety.proofs.Start.{Start, shape_of, fat2, fatsize_few, entries_few, log_few}
+use Rattle.safety.proofs.Start.{Start, shape_of, fatsize_few, entries_few, log_few}
 use Rattle.safety.proofs.Before.{Wanted, start_rests}
 use Rattle.safety.proofs.Steps.{finish_length}
 use Rattle.safety.proofs.Operate.{OnCard, Supplies, operate_kept, operate_inside, leaves}
 use Rattle.safety.proofs.Clusters.{FreeThen, none_free}
 use Rattle.safety.proofs.Files.{SparesFiles, no_data}
-use Rattle.model.specs.declared.Pending.TheVariants as Pending
 
 pub record Fair (size : ℕ) (c : Card) (taken released : List ℕ) (q : Program) : Type 1 where
   -- The data stores of the program, and the laws of a journal.

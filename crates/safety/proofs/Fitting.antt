@@ -21,7 +21,6 @@ use Rattle.model.specs.declared.Ground.{Ground}
 use Rattle.model.specs.declared.Layout.{Layout}
 use Rattle.model.specs.declared.Volume.{Volume}
 use Rattle.model.specs.declared.Access.TheVariants as Access
-use Rattle.model.specs.declared.Ground.TheVariants as Ground
 use Rattle.model.specs.declared.Pending.TheVariants as Pending
 use Rattle.model.proofs.Tests.{less?, same?}
 use Rattle.model.proofs.Scan.{count_none, indices_same}

@@ -4,7 +4,7 @@ use native.Mathlib.Nat.{mul-le-mul_right}
 use native.Mathlib.Omega.{arith}
 use mathlib.Core.Path.{◌≡◌, sym, ap, ◌∙◌}
 use mathlib.Core.Logic.{◌⊎◌, inl, inr}
-use mathlib.Core.Bool.{true, not}
+use mathlib.Core.Bool.{true}
 use borrow.Author.Tests.{leb-true, not-false}
 use Rattle.model.specs.Sector.{Window}
 use Rattle.model.specs.Boot.{boot_ok, layout, arrange, fields_ok, size_ok}
@@ -14,7 +14,6 @@ use Rattle.model.specs.Volume.{mount}
 use Rattle.model.specs.Promises.{Shape}
 use Rattle.model.specs.declared.Layout.{Layout}
 use Rattle.model.specs.declared.Ground.{Ground}
-use Rattle.model.specs.declared.Ground.TheVariants as Ground
 use Rattle.formatting.specs.Fresh.{fresh_fields}
 use Rattle.formatting.specs.Format.{form_ok}
 use Rattle.safety.specs.Formatted.{OfForm, SizeRefused}

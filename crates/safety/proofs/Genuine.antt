@@ -6,7 +6,6 @@ use Rattle.model.specs.Sector.{Card, Window}
 use Rattle.model.specs.Ground.{Answer, refused, granted}
 use Rattle.model.specs.Volume.{clean, examine}
 use Rattle.model.specs.declared.Pending.{Pending}
-use Rattle.model.specs.declared.Pending.TheVariants as Pending
 use Rattle.operations.specs.Program.{Program, stores}
 use Rattle.operations.specs.Plan.{recover_stores}
 use Rattle.operations.specs.Calls.{Call, plan, recovers, recover}

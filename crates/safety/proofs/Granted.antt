@@ -45,7 +45,6 @@ use Rattle.safety.proofs.Readings.{Meant, admitted_in, unmarked_in, found_in}
 use Rattle.safety.proofs.Supplied.{creates_as, renames_as, deletes_as, truncates_as, cut_fat, updates_as, longer_fat, replaces_as}
 use Rattle.safety.proofs.Supplied.{exchanged_fat, ks}
 use Rattle.safety.proofs.Extents.{Extent, ds, extent_of, no_base, file_base}
-use Rattle.model.specs.declared.Pending.TheVariants as Pending
 use Rattle.model.specs.declared.Access.TheVariants as Access
 use Rattle.model.specs.declared.Ground.TheVariants as Ground
 

@@ -50,7 +50,6 @@ use Rattle.safety.proofs.Cut.{needed_some, own_linked, own_first, unstored}
 use Rattle.safety.proofs.Means.{resized_holds}
 use Rattle.safety.proofs.Extents.{Extent, new_plain, all_distinct, all_long, total_fits, ds}
 use Rattle.safety.proofs.Written.{all_high, all_ranged, old_bytes, new_bytes}
-use Rattle.model.specs.declared.Pending.TheVariants as Pending
 
 module _ {size : ℕ} {c : Card} (st : Start size c) (s : ℕ) (live : Live (layout_of c) c s) (keeps : KeepsChain c s)
     {new : List ℕ} {d : Span} (x : Extent c (ks st s live keeps) new (file_size (slot_at (layout_of c) c s)) d) (some : d.size ≡ 0 → ⊥) where

@@ -9,7 +9,6 @@ use mathlib.Core.Bool.{Bool, true, false}
 use lib.ListN.{take, length}
 use borrow.Author.Tests.{le-ltb, lt-ltb}
 use Rattle.model.specs.Sector.{Card, Store, after, put}
-use Rattle.model.specs.Fat.{same}
 use Rattle.model.specs.Ground.{Answer, granted, refused}
 use Rattle.operations.specs.Program.{Program, ending, segment, stores}
 use Rattle.operations.specs.Outcome.{largest}

@@ -33,7 +33,6 @@ use Rattle.safety.proofs.Slots.{Resizes, bears_name, vacant_bears, named_only, n
 use Rattle.safety.proofs.Supplied.{creates_as, renames_as, deletes_as, ks}
 use Rattle.safety.proofs.Granted.{Created, Renamed, Deleted}
 use Rattle.safety.proofs.Moved.{new_slot, left_slot, named_slot, rest_slot, gone_slot, kept_slot, new_vacant, other_slot}
-use Rattle.model.specs.declared.Pending.TheVariants as Pending
 
 module _ {size : ℕ} {c : Card} (st : Start size c) (is : clean (window size c) ≡ granted (volume_of c Pending.Nothing)) where
   abbrev l : Layout

@@ -9,7 +9,7 @@ use borrow.Author.Tests.{not-true, eq-eqb, ne_eqb}
 use Rattle.model.specs.Bytes.{Bytes, Span}
 use Rattle.model.specs.Sector.{Card, Window, after}
 use Rattle.model.specs.Fat.{Fat, entry, release}
-use Rattle.model.specs.Chain.{file_sector, chain}
+use Rattle.model.specs.Chain.{file_sector}
 use Rattle.model.specs.Root.{Directory, slot_at, free_slot, bears, is_label, listed, vacant, file_size, file_at, entry_at}
 use Rattle.model.specs.Long.{name_slots, long_count, checksum}
 use Rattle.model.specs.Calendar.{stamp_of}
@@ -49,7 +49,6 @@ use Rattle.safety.proofs.Slots.{lower_not, bearer, vacant_unlisted, entry_unlist
 use Rattle.safety.proofs.Supplied.{creates_as, renames_as, deletes_as, create_supplies, rename_supplies, delete_supplies, free_apart, ks}
 use Rattle.safety.proofs.Calls.{left_is}
 use Rattle.safety.proofs.Granted.{Created, create_granted, Renamed, rename_granted, Deleted, delete_granted, long_granted}
-use Rattle.model.specs.declared.Pending.TheVariants as Pending
 use Rattle.model.specs.Scan.{among}
 use Rattle.model.specs.LongName.{name_entry}
 use Rattle.model.proofs.FreeRuns.{run_vacant}

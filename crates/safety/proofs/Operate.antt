@@ -32,7 +32,6 @@ use Rattle.model.proofs.Fats.{write_done, entry_clip}
 use Rattle.model.proofs.Records.{ChangeFits}
 use Rattle.model.proofs.Recorded.{Recorded}
 use Rattle.model.proofs.Pendings.{quiet_zeros, Quiet}
-use Rattle.model.proofs.Grounds.{then}
 use Rattle.model.proofs.Volumes.{layout_of, SameMarks, first_fat, window, volume_of, area_of}
 use Rattle.safety.proofs.Journal.{Laws, Kept, end_card}
 use Rattle.safety.proofs.Start.{Clear, Start, shape_of, log_some, data_free, log_low, log_high}
@@ -42,7 +41,6 @@ use Rattle.safety.proofs.Steps.{prepare_all, finish_all}
 use Rattle.safety.proofs.After.{past_slot, LowSlots, Entered}
 use Rattle.operations.proofs.Roots.{redo_stores}
 use Rattle.safety.proofs.Redo.{Held, start_held, redo_leads, goes_forth, ended, ended_rests, ended_clean, ended_fat1, ended_fat2, ended_root}
-use Rattle.model.specs.declared.Pending.TheVariants as Pending
 
 -- A store within the card.
 abbrev pub OnCard : Card → Store → Type 0

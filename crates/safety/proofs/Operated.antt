@@ -18,7 +18,6 @@ use Rattle.model.specs.Record.{Change}
 use Rattle.model.specs.Pending.{named_slots}
 use Rattle.model.specs.declared.Pending.{Pending}
 use Rattle.model.specs.declared.Volume.{Volume}
-use Rattle.model.specs.declared.Pending.TheVariants as Pending
 use Rattle.operations.specs.Program.{Program, ending}
 use Rattle.operations.specs.Plan.{operate, text_of, no_text}
 use Rattle.operations.specs.Calls.{Call, creates, creates_long, appends, truncates, deletes, renames, replaces, recovers, plan, slot_of, run_end, old_slots}

@@ -26,7 +26,6 @@ use Rattle.model.proofs.Volumes.{layout_of, first_fat, volume_of}
 use Rattle.safety.proofs.Start.{Start, shape_of, entries_few}
 use Rattle.safety.proofs.After.{last_slot}
 use Rattle.safety.proofs.Clusters.{Plain, used_plain}
-use Rattle.model.specs.declared.Pending.TheVariants as Pending
 
 -- The file in slot s keeps the chain rule.
 abbrev pub KeepsChain : Card → ℕ → Type 0

@@ -14,7 +14,6 @@ use Rattle.model.specs.declared.Layout.{Layout}
 use Rattle.model.specs.declared.Outcome.TheVariants.{Refused, Done}
 use Rattle.model.specs.declared.Volume.{Volume}
 use Rattle.model.specs.declared.Access.{Access}
-use Rattle.model.specs.declared.Access.TheVariants as Access
 use Rattle.model.specs.declared.Ground.TheVariants as Ground
 use Rattle.operations.specs.Calls.{admit, file_named, file_of, whole, slot_of, named_file}
 use Rattle.operations.specs.Reading.{read, read_on, reading, file_byte, filled_outcome, buffer_after}

@@ -3,7 +3,7 @@ use Prim.Native.Nat.{ℕ, ◌+◌, ◌<◌}
 use native.Mathlib.Omega.{arith}
 use mathlib.Core.Path.{◌≡◌, refl, sym, ap, ◌∙◌, subst}
 use Rattle.model.specs.Sector.{Card}
-use Rattle.model.specs.Fat.{fat1_of, fat2_of, same}
+use Rattle.model.specs.Fat.{fat1_of, fat2_of}
 use Rattle.model.specs.Log.{log_of}
 use Rattle.model.specs.Record.{commit, group_in}
 use Rattle.model.specs.Pending.{seen_end, pending}
@@ -27,7 +27,6 @@ use Rattle.model.proofs.Volumes.{Passed, layout_of, fit_shape, pending_of, area_
 use Rattle.safety.proofs.Steps.{finish_all}
 use Rattle.operations.proofs.Roots.{redo_stores}
 use Rattle.safety.proofs.Operate.{OnCard}
-use Rattle.model.specs.declared.Pending.TheVariants as Pending
 
 module _ (size : ℕ) (c : Card) (h : Passed size c) where
   abbrev l : Layout

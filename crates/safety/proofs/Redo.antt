@@ -47,7 +47,6 @@ use Rattle.safety.proofs.After.{Entered, past_slot, LowSlots, Mixed, still_kept,
 use Rattle.safety.proofs.After.{still_data, grp, complete}
 use Rattle.safety.proofs.After.{unconcerned_same, mixed_keeps, root_hits, finish_keeps, finish_whole, done_mixed, start_mixed, done_fat1, still_fat2}
 use Rattle.safety.proofs.After.{effect_same, done_root}
-use Rattle.model.specs.declared.Pending.TheVariants as Pending
 
 -- A cut of stores that wait for each other: some of those before them, or all of these and a cut of the rest.
 rising_cut : (ys rs : List Store) (m : Store) (zs : List Store) → Cut (rising ys rs m) zs

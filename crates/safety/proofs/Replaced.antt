@@ -46,7 +46,6 @@ use Rattle.safety.proofs.Moved.{finish_with}
 use Rattle.safety.proofs.Means.{resized_holds}
 use Rattle.safety.proofs.Cut.{needed_some}
 use Rattle.safety.proofs.Written.{all_high, all_ranged, new_bytes}
-use Rattle.model.specs.declared.Pending.TheVariants as Pending
 
 module _ {size : ℕ} {c : Card} (st : Start size c) (s : ℕ) (live : Live (layout_of c) c s) (keeps : KeepsChain c s)
     {new : List ℕ} {d : Span} (x : Extent c [] new 0 d) {stamp : ℕ} {t : Card}

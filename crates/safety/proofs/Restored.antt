@@ -28,7 +28,6 @@ use Rattle.safety.proofs.Theorem.{by_limits, ends_done, ends_at_last, Kind, all_
 use Rattle.safety.proofs.Sounds.{all_keep}
 use Rattle.safety.proofs.Genuine.{recovery_genuine, genuine_again}
 use Rattle.safety.proofs.Same.{clean_kept, sound_kept, reads_kept}
-use Rattle.model.specs.declared.Pending.TheVariants as Pending
 
 reads_refl : (w : Window) (n : Span) → ReadsAs w w n
 reads_refl w n = record { answers = λ offset room. refl; buffer = λ offset room b i. refl }

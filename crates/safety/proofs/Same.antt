@@ -47,8 +47,6 @@ use Rattle.safety.proofs.Files.{chain_kept}
 use Rattle.safety.proofs.Granted.{file_at_name}
 use Rattle.safety.proofs.Readings.{opened, found_in}
 use Rattle.model.specs.declared.Access.{Access}
-use Rattle.model.specs.declared.Access.TheVariants as Access
-use Rattle.model.specs.declared.Pending.TheVariants as Pending
 
 -- ---- chains along entries that are the same within the card
 

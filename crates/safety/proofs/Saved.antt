@@ -22,7 +22,6 @@ use Rattle.safety.proofs.Moved.{create_holds, long_holds, rename_holds, rename_l
 use Rattle.safety.proofs.Cut.{truncate_holds}
 use Rattle.safety.proofs.Grown.{append_holds}
 use Rattle.safety.proofs.Replaced.{replace_holds}
-use Rattle.model.specs.declared.Pending.TheVariants as Pending
 
 -- The card at the start of a call.
 pub started : (w : Window) (v : Volume) → Genuine w → clean w ≡ granted v → Start w.size w.card

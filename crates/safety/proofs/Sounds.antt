@@ -56,7 +56,6 @@ use Rattle.safety.proofs.Others.{sound_then, file_live}
 use Rattle.safety.proofs.Means.{resized_means, create_means, rename_means, delete_means}
 use Rattle.safety.proofs.Saved.{started, volume_is}
 use Rattle.safety.proofs.Extents.{ds, new_off, append_spared, replace_spared}
-use Rattle.model.specs.declared.Pending.TheVariants as Pending
 use Rattle.model.proofs.FreeRuns.{run_not_live}
 
 -- What is kept on a card t that a call leaves of c.

@@ -19,7 +19,7 @@ use Rattle.operations.proofs.Clearing.{clearing_all}
 use Rattle.operations.specs.Finish.{root_sector, effect, root_stores, concerns, finish}
 use Rattle.operations.specs.Plan.{prepare, clearing}
 use Rattle.model.proofs.All.{All, all_append, all_image}
-use Rattle.model.proofs.Indices.{indices_all0, has, indices_has0, indices_length}
+use Rattle.model.proofs.Indices.{indices_all0, indices_has0, indices_length}
 use Rattle.model.proofs.Changes.{Covers, covers_left, covers_right, covers_image}
 use Rattle.model.proofs.Fats.{write_all, write_covers, write_length}
 

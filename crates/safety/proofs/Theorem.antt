@@ -10,7 +10,7 @@ use lib.Seq.{take-nil, take_all}
 use borrow.Author.Tests.{leb-true, le-leb}
 use Rattle.model.specs.Bytes.{pick}
 use Rattle.model.specs.Sector.{Card, Store, after, Window, window_of}
-use Rattle.model.specs.Fat.{same, fat1_of}
+use Rattle.model.specs.Fat.{fat1_of}
 use Rattle.model.specs.Chain.{file_sector}
 use Rattle.model.specs.Root.{file_at, root_place}
 use Rattle.model.specs.Ground.{Answer, refused, granted}
@@ -40,7 +40,6 @@ use Rattle.safety.proofs.Clusters.{FreeThen}
 use Rattle.safety.proofs.Files.{chain_kept}
 use Rattle.safety.proofs.Fair.{Fair}
 use Rattle.safety.proofs.Calls.{if_granted, shown}
-use Rattle.model.specs.declared.Pending.TheVariants as Pending
 
 -- ---- cuts by limits
 

@@ -1,6 +1,6 @@
 -- Card K from the bench: a window of garbage, formatted with 4,150 sectors, 1 per cluster and 8 log clusters.
 use Rattle.std.specs.Prelude.{◌*◌, ◌≡◌, [], ◌∷◌, map}
-use Rattle.model.specs.Sector.{Card, Window}
+use Rattle.model.specs.Sector.{Window}
 use Rattle.model.specs.Ground.{granted}
 use Rattle.model.specs.Volume.{clean}
 use Rattle.operations.specs.Calls.{creates, plan}

@@ -4,7 +4,6 @@ use native.Mathlib.Omega.{arith}
 use borrow.Author.Tests.{not-true, not-false}
 use Rattle.model.specs.Boot.{arrange}
 use Rattle.boot.proofs.Laws.{too_few, too_many, too_wide, right, fits}
-use borrow.Author.Rules.{rules}
 use Rattle.boot.proofs.arranged.Goals as goal
 
 pub returns-then-clusters-lt4085 : goal.returns-then-clusters-lt4085

@@ -5,7 +5,6 @@ use Rattle.model.specs.Scan.{every}
 use Rattle.model.specs.Boot.{layout, fields_ok, boot_ok}
 use Rattle.model.proofs.Tests.{every_not}
 use Rattle.boot.specs.Booted.{booted, sized}
-use borrow.Author.Rules.{rules}
 use Rattle.boot.proofs.boot.Goals as goal
 
 pub returns-then-not-is_signed : goal.returns-then-not-is_signed

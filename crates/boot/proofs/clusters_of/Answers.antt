@@ -2,7 +2,6 @@ use mathlib.Core.Path.{sym, refl}
 use native.Mathlib.Omega.{arith}
 use Rattle.model.specs.Boot.{arrange}
 use Rattle.boot.proofs.Laws.{power, exponent, no_clusters, few_clusters}
-use borrow.Author.Rules.{rules}
 use Rattle.boot.proofs.clusters_of.Goals as goal
 
 pub returns-then-f-start : goal.returns-then-f-start

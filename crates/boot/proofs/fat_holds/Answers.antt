@@ -1,5 +1,4 @@
 use Rattle.model.specs.Boot.{arrange}
-use borrow.Author.Rules.{rules}
 use Rattle.boot.proofs.fat_holds.Goals as goal
 
 pub returns : goal.returns

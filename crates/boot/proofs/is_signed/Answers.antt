@@ -4,7 +4,6 @@ use borrow.Author.Tests.{eq-eqb, ne_eqb}
 use Rattle.model.specs.Scan.{every}
 use Rattle.model.specs.Boot.{signed}
 use Rattle.model.proofs.Tests.{every_not}
-use borrow.Author.Rules.{rules}
 use Rattle.boot.proofs.is_signed.Goals as goal
 
 pub returns-then-byte-ne85 : goal.returns-then-byte-ne85

@@ -1,7 +1,6 @@
 use mathlib.Core.Path.{sym, ◌∙◌}
 use borrow.Author.Tests.{eq-eqb, ne_eqb}
 use Rattle.model.specs.Boot.{total_sectors}
-use borrow.Author.Rules.{rules}
 use Rattle.boot.proofs.total_sectors.Goals as goal
 
 pub returns-then-short-eq0 : goal.returns-then-short-eq0

@@ -10,7 +10,6 @@ use Rattle.operations.specs.Plan.{append_stores}
 use Rattle.file_append.proofs.Clusters.{has_room}
 use Rattle.call_outcome.proofs.Ends.{did_refused, did_ran}
 use Rattle.call_append.proofs.Laws.{append_full, append_none, append_some}
-use borrow.Author.Rules.{rules}
 use Rattle.call_append.proofs.append_to.Goals as goal
 
 pub returns-then-wider-n : goal.returns-then-wider-n

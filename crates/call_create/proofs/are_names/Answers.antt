@@ -1,6 +1,5 @@
 use mathlib.Core.Path.{sym, ◌∙◌}
 use borrow.Author.Tests.{not-true, not-false}
-use borrow.Author.Rules.{rules}
 use Rattle.call_create.proofs.are_names.Goals as goal
 
 pub returns-then-not-is_name : goal.returns-then-not-is_name

@@ -3,7 +3,6 @@ use Rattle.model.specs.Ground.{◌>>=◌}
 use Rattle.call_outcome.proofs.Ends.{did_refused}
 use Rattle.root_lookup.specs.Found.{vacancy_of}
 use Rattle.operations.specs.Calls.{create_as}
-use borrow.Author.Rules.{rules}
 use Rattle.call_create.proofs.create_as.Goals as goal
 
 pub create_at-requires : goal.create_at-requires

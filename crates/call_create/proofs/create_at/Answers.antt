@@ -9,7 +9,6 @@ use Rattle.model.proofs.Tests.{every_at}
 use Rattle.operations.specs.Plan.{create_stores}
 use Rattle.operations.proofs.Seats.{create_slots}
 use Rattle.call_create.proofs.Laws.{view_text}
-use borrow.Author.Rules.{rules}
 use Rattle.call_create.proofs.create_at.Goals as goal
 
 pub name_of-requires : goal.name_of-requires

@@ -2,7 +2,7 @@ use native.Mathlib.Omega.{arith}
 use mathlib.Core.Path.{sym, ◌∙◌}
 use borrow.Author.Tests.{not-true, not-false}
 use Rattle.model.specs.Bytes.{view}
-use Rattle.model.specs.Ground.{◌when◌, ◌>>=◌, ◌>>◌}
+use Rattle.model.specs.Ground.{◌when◌, ◌>>◌}
 use Rattle.call_outcome.proofs.Ends.{did_refused}
 use Rattle.operations.specs.Calls.{create_long_on}
 use Rattle.operations.proofs.Spelled.{text_even, text_few}

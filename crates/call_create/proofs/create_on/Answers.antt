@@ -1,7 +1,7 @@
 use native.Mathlib.Omega.{arith}
 use mathlib.Core.Path.{refl, sym, ◌∙◌}
 use borrow.Author.Tests.{not-true, not-false}
-use Rattle.model.specs.Ground.{◌when◌, ◌>>=◌, ◌>>◌}
+use Rattle.model.specs.Ground.{◌when◌, ◌>>◌}
 use Rattle.call_outcome.proofs.Ends.{did_refused}
 use Rattle.operations.specs.Calls.{create_on}
 use borrow.Author.Rules.{rules}

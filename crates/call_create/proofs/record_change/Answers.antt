@@ -9,7 +9,6 @@ use Rattle.operations.specs.Plan.{operate}
 use Rattle.volume.proofs.Ready.{ready_none}
 use Rattle.log_steps.proofs.Laws.{plain_is}
 use Rattle.call_outcome.proofs.Ends.{did_ran}
-use borrow.Author.Rules.{rules}
 use Rattle.call_create.proofs.record_change.Goals as goal
 
 pub returns : goal.returns

@@ -5,7 +5,6 @@ use Rattle.volume.specs.Examined.{examined_of}
 use Rattle.volume.proofs.Ready.{opened_with}
 use Rattle.call_outcome.proofs.Ends.{did_refused}
 use Rattle.call_create.proofs.Laws.{rename_refused, rename_granted}
-use borrow.Author.Rules.{rules}
 use Rattle.call_create.proofs.rename.Goals as goal
 
 pub rename_on-requires : goal.rename_on-requires

@@ -3,7 +3,6 @@ use Rattle.model.specs.Ground.{◌>>=◌}
 use Rattle.call_outcome.proofs.Ends.{did_refused}
 use Rattle.root_lookup.specs.Found.{vacancy_of}
 use Rattle.operations.specs.Calls.{rename_as}
-use borrow.Author.Rules.{rules}
 use Rattle.call_create.proofs.rename_as.Goals as goal
 
 pub rename_to-requires : goal.rename_to-requires

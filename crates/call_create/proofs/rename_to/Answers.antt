@@ -7,7 +7,6 @@ use Rattle.model.specs.Record.{operation_records}
 use Rattle.model.proofs.Tests.{every_at}
 use Rattle.operations.specs.Plan.{rename_stores}
 use Rattle.operations.proofs.Seats.{rename_slots}
-use borrow.Author.Rules.{rules}
 use Rattle.call_create.proofs.rename_to.Goals as goal
 
 pub name_of-requires : goal.name_of-requires

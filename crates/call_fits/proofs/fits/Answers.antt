@@ -2,7 +2,6 @@ use mathlib.Core.Path.{sym, ap, ◌∙◌}
 use Rattle.model.specs.Sector.{window_of}
 use Rattle.volume.specs.Examined.{examined_of}
 use Rattle.call_fits.proofs.Laws.{fits_refused, fits_granted}
-use borrow.Author.Rules.{rules}
 use Rattle.call_fits.proofs.fits.Goals as goal
 
 pub fits_on-requires : goal.fits_on-requires

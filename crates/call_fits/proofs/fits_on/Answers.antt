@@ -2,7 +2,6 @@ use native.Mathlib.Omega.{arith}
 use Rattle.model.specs.Sector.{card_of}
 use Rattle.model.specs.Fat.{fat1_of}
 use Rattle.call_fits.proofs.Laws.{fits_none, fits_over, fits_found, fits_past}
-use borrow.Author.Rules.{rules}
 use Rattle.call_fits.proofs.fits_on.Goals as goal
 
 pub returns-then-n-eq0 : goal.returns-then-n-eq0

@@ -1,5 +1,4 @@
 use Rattle.call_format.proofs.Laws.{fat_low, fat_high}
-use borrow.Author.Rules.{rules}
 use Rattle.call_format.proofs.fat_byte.Goals as goal
 
 pub returns-then-j-eq0 : goal.returns-then-j-eq0

@@ -1,10 +1,8 @@
-use Prim.Native.Nat.{◌-◌, ◌≤◌}
 use native.Mathlib.Omega.{arith}
 use mathlib.Core.Path.{◌∙◌, sym, ap}
-use mathlib.Core.Bool.{false}
 use Rattle.model.specs.Boot.{arrange, fat_holds}
-use Rattle.model.proofs.Scan.{Sofar, sofar_none, sofar_more}
-use Rattle.call_format.proofs.Laws.{plain_with, narrow_with, holds_with, fewest_here, fewest_past}
+use Rattle.model.proofs.Scan.{sofar_none, sofar_more}
+use Rattle.call_format.proofs.Laws.{plain_with, narrow_with, fewest_here, fewest_past}
 use borrow.Author.Rules.{rules}
 use Rattle.call_format.proofs.fewest.Goals as goal
 

@@ -1,11 +1,7 @@
 use Prim.Native.Nat.{◌-◌, ◌≤◌}
-use native.Mathlib.Omega.{arith}
-use mathlib.Core.Path.{◌∙◌, sym, ap}
 use mathlib.Core.Bool.{false}
-use Rattle.model.specs.Boot.{arrange, fat_holds}
-use Rattle.model.proofs.Scan.{Sofar, sofar_none, sofar_more}
-use Rattle.call_format.proofs.Laws.{plain_with, narrow_with, holds_with, fewest_here, fewest_past}
-use borrow.Author.Rules.{rules}
+use Rattle.model.proofs.Scan.{Sofar}
+use Rattle.call_format.proofs.Laws.{holds_with}
 use Rattle.call_format.proofs.fewest.Given as goal
 
 abbrev pub invariant-loop-n : goal.invariant-loop-n

@@ -1,7 +1,4 @@
-use Prim.Native.Nat.{ℕ, ◌-◌, ◌≤◌, ◌<◌}
 use native.Mathlib.Omega.{arith}
-use mathlib.Core.Path.{◌≡◌}
-use lib.ListN.{length, get_or}
 use Rattle.model.proofs.Lists.{copied_more}
 use Rattle.formatting.specs.Fresh.{fresh_fat}
 use borrow.Author.Rules.{rules}

@@ -1,10 +1,7 @@
 use Prim.Native.Nat.{ℕ, ◌-◌, ◌≤◌, ◌<◌}
-use native.Mathlib.Omega.{arith}
 use mathlib.Core.Path.{◌≡◌}
 use lib.ListN.{length, get_or}
-use Rattle.model.proofs.Lists.{copied_more}
 use Rattle.formatting.specs.Fresh.{fresh_fat}
-use borrow.Author.Rules.{rules}
 use Rattle.call_format.proofs.fill_fat.Given as goal
 
 abbrev pub invariant-loop-j : goal.invariant-loop-j

@@ -8,7 +8,6 @@ use Rattle.formatting.specs.Format.{format_stores}
 use Rattle.formatting.proofs.Form.{few_log}
 use Rattle.call_outcome.proofs.Ends.{did_refused, did_ran}
 use Rattle.call_format.proofs.Laws.{formed_bad, formed_good, fresh_held, card_ran, format_size, format_window, format_granted}
-use borrow.Author.Rules.{rules}
 use Rattle.call_format.proofs.format.Goals as goal
 
 pub returns-then-w-index : goal.returns-then-w-index

@@ -5,7 +5,6 @@ use Rattle.boot.specs.Booted.{sized}
 use Rattle.formatting.specs.Fresh.{with_fats, fewest}
 use Rattle.formatting.proofs.Form.{fewest_low, fewest_high}
 use Rattle.call_format.proofs.Laws.{unplain, unlogged, judged, fresh_plain, narrow_with, factor_of}
-use borrow.Author.Rules.{rules}
 use Rattle.call_format.proofs.formed.Goals as goal
 
 pub returns-then-not-is_plain : goal.returns-then-not-is_plain

@@ -1,7 +1,6 @@
 use native.Mathlib.Omega.{arith}
 use mathlib.Core.Path.{sym}
 use Rattle.formatting.proofs.Fat.{entry_zero, entry_one, entry_log, entry_free}
-use borrow.Author.Rules.{rules}
 use Rattle.call_format.proofs.fresh_entry.Goals as goal
 
 pub returns-then-k-eq0 : goal.returns-then-k-eq0

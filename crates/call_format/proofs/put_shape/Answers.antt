@@ -1,6 +1,5 @@
 use mathlib.Core.Path.{◌∙◌, ap}
 use Rattle.model.specs.Bytes.{patch}
-use borrow.Author.Rules.{rules}
 use Rattle.call_format.proofs.put_shape.Goals as goal
 
 pub returns : goal.returns

@@ -1,5 +1,4 @@
 use mathlib.Core.Path.{◌∙◌}
-use borrow.Author.Rules.{rules}
 use Rattle.call_format.proofs.put_sizes.Goals as goal
 
 pub returns : goal.returns

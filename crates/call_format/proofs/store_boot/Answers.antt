@@ -2,7 +2,6 @@ use mathlib.Core.Path.{refl, ap}
 use Rattle.model.specs.Bytes.{Bytes}
 use Rattle.model.proofs.Lists.{all_zero}
 use Rattle.call_format.proofs.Laws.{ran_same, boot_made}
-use borrow.Author.Rules.{rules}
 use Rattle.call_format.proofs.store_boot.Goals as goal
 
 pub returns : goal.returns

@@ -4,7 +4,6 @@ use Rattle.model.specs.Bytes.{zeros}
 use Rattle.model.specs.Sector.{store}
 use Rattle.model.proofs.Runs.{ran_stop, ran_then}
 use Rattle.call_format.specs.Formed.{rest_stores}
-use borrow.Author.Rules.{rules}
 use Rattle.call_format.proofs.store_card.Goals as goal
 
 pub returns-then-not-first : goal.returns-then-not-first

@@ -1,6 +1,5 @@
 use mathlib.Core.Path.{refl}
 use Rattle.call_format.proofs.Laws.{ran_same}
-use borrow.Author.Rules.{rules}
 use Rattle.call_format.proofs.store_fat.Goals as goal
 
 pub returns : goal.returns

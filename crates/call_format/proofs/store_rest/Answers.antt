@@ -1,6 +1,5 @@
 use borrow.Author.Tests.{not-true, not-false}
 use Rattle.call_format.proofs.Laws.{rest_cut, rest_ran}
-use borrow.Author.Rules.{rules}
 use Rattle.call_format.proofs.store_rest.Goals as goal
 
 pub returns-then-not-tables : goal.returns-then-not-tables

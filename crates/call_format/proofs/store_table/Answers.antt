@@ -1,7 +1,6 @@
 use native.Mathlib.Omega.{arith}
 use mathlib.Core.Path.{◌≡◌, refl}
 use Rattle.call_format.proofs.Laws.{ran_same, table_fat1, table_fat2, table_zero}
-use borrow.Author.Rules.{rules}
 use Rattle.call_format.proofs.store_table.Goals as goal
 
 pub returns-then-k-eq0 : goal.returns-then-k-eq0

@@ -1,10 +1,8 @@
 use mathlib.Core.Path.{◌≡◌, refl}
-use mathlib.Core.Bool.{true}
-use Prim.Native.Nat.{◌-◌, ◌*◌, ◌≤◌, ◌<◌}
+use Prim.Native.Nat.{◌*◌, ◌≤◌, ◌<◌}
 use native.Mathlib.Omega.{arith}
 use lib.ListN.{length}
 use borrow.Author.Tests.{not-true, not-false}
-use Rattle.model.specs.Promises.{Ran, up_to}
 use Rattle.model.proofs.Runs.{turns_none, turns_more, turns_cut}
 use Rattle.formatting.proofs.Card.{tables}
 use Rattle.call_format.proofs.Laws.{log_product, table_turn, table_turns, tables_within}

@@ -1,14 +1,9 @@
-use mathlib.Core.Path.{◌≡◌, refl}
+use mathlib.Core.Path.{◌≡◌}
 use mathlib.Core.Bool.{true}
-use Prim.Native.Nat.{◌-◌, ◌*◌, ◌≤◌, ◌<◌}
-use native.Mathlib.Omega.{arith}
+use Prim.Native.Nat.{◌-◌, ◌≤◌}
 use lib.ListN.{length}
-use borrow.Author.Tests.{not-true, not-false}
 use Rattle.model.specs.Promises.{Ran, up_to}
-use Rattle.model.proofs.Runs.{turns_none, turns_more, turns_cut}
-use Rattle.formatting.proofs.Card.{tables}
-use Rattle.call_format.proofs.Laws.{log_product, table_turn, table_turns, tables_within}
-use borrow.Author.Rules.{rules}
+use Rattle.call_format.proofs.Laws.{table_turn}
 use Rattle.call_format.proofs.store_tables.Given as goal
 
 abbrev pub invariant-loop-k : goal.invariant-loop-k

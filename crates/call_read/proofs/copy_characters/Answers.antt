@@ -1,8 +1,8 @@
 use mathlib.Core.Path.{◌≡◌, refl, sym}
-use Prim.Native.Nat.{ℕ, ◌+◌, ◌-◌, ◌*◌, ◌/◌, ◌≤◌, min}
+use Prim.Native.Nat.{◌+◌, ◌*◌, ◌/◌, min}
 use native.Mathlib.Omega.{arith}
-use lib.ListN.{length, get_or}
-use Rattle.model.specs.Bytes.{bytes_of, overlay}
+use lib.ListN.{length}
+use Rattle.model.specs.Bytes.{bytes_of}
 use Rattle.model.specs.Sector.{card_of}
 use Rattle.model.specs.Root.{slot_at}
 use Rattle.model.specs.LongName.{long_byte}

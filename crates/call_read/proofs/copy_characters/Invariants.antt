@@ -1,13 +1,10 @@
-use mathlib.Core.Path.{◌≡◌, refl, sym}
-use Prim.Native.Nat.{ℕ, ◌+◌, ◌-◌, ◌*◌, ◌/◌, ◌≤◌, min}
-use native.Mathlib.Omega.{arith}
+use mathlib.Core.Path.{◌≡◌}
+use Prim.Native.Nat.{ℕ, ◌-◌, ◌≤◌}
 use lib.ListN.{length, get_or}
 use Rattle.model.specs.Bytes.{bytes_of, overlay}
 use Rattle.model.specs.Sector.{card_of}
 use Rattle.model.specs.Root.{slot_at}
 use Rattle.model.specs.LongName.{long_byte}
-use Rattle.model.proofs.Overlays.{overlay_none, overlay_more}
-use borrow.Author.Rules.{rules}
 use Rattle.call_read.proofs.copy_characters.Given as goal
 
 abbrev pub invariant-loop-i : goal.invariant-loop-i

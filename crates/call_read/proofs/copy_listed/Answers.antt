@@ -1,12 +1,9 @@
 use mathlib.Core.Path.{◌≡◌, refl}
-use Prim.Native.Nat.{◌-◌, ◌≤◌}
 use native.Mathlib.Omega.{arith}
 use lib.ListN.{length}
 use Rattle.model.specs.Sector.{card_of}
 use Rattle.model.specs.Root.{slot_at, listed}
-use Rattle.operations.specs.Reading.{shown, directory_listing}
-use Rattle.operations.specs.Promises.{Fills}
-use Rattle.call_read.specs.Filled.{shown_to}
+use Rattle.operations.specs.Reading.{shown}
 use Rattle.model.proofs.Scan.{indices_none}
 use Rattle.call_read.proofs.Entries.{listed_le, listing_none, listing_step, shown_past}
 use borrow.Author.Rules.{rules}

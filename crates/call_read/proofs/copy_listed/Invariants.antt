@@ -1,15 +1,10 @@
-use mathlib.Core.Path.{◌≡◌, refl}
+use mathlib.Core.Path.{◌≡◌}
 use Prim.Native.Nat.{◌-◌, ◌≤◌}
-use native.Mathlib.Omega.{arith}
 use lib.ListN.{length}
 use Rattle.model.specs.Sector.{card_of}
-use Rattle.model.specs.Root.{slot_at, listed}
-use Rattle.operations.specs.Reading.{shown, directory_listing}
+use Rattle.operations.specs.Reading.{directory_listing}
 use Rattle.operations.specs.Promises.{Fills}
 use Rattle.call_read.specs.Filled.{shown_to}
-use Rattle.model.proofs.Scan.{indices_none}
-use Rattle.call_read.proofs.Entries.{listed_le, listing_none, listing_step, shown_past}
-use borrow.Author.Rules.{rules}
 use Rattle.call_read.proofs.copy_listed.Given as goal
 
 abbrev pub invariant-loop-k : goal.invariant-loop-k

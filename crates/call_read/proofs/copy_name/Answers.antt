@@ -1,5 +1,4 @@
 use Rattle.operations.specs.Reading.{long_reading}
-use borrow.Author.Rules.{rules}
 use Rattle.call_read.proofs.copy_name.Goals as goal
 
 pub returns : goal.returns

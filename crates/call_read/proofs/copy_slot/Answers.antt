@@ -4,7 +4,6 @@ use Rattle.model.specs.Sector.{card_of}
 use Rattle.model.specs.Root.{slot_at}
 use Rattle.model.proofs.Laying.{overlay_same}
 use Rattle.root_read.proofs.Laws.{slot_byte}
-use borrow.Author.Rules.{rules}
 use Rattle.call_read.proofs.copy_slot.Goals as goal
 
 pub returns : goal.returns

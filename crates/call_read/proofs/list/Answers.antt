@@ -5,7 +5,6 @@ use Rattle.model.specs.declared.Outcome.TheVariants.{Done}
 use Rattle.operations.specs.Reading.{buffer_after, filled_outcome, directory_listing}
 use Rattle.volume.specs.Examined.{examined_of}
 use Rattle.call_read.proofs.Laws.{list_refused, list_granted}
-use borrow.Author.Rules.{rules}
 use Rattle.call_read.proofs.list.Goals as goal
 
 pub copy_listed-requires : goal.copy_listed-requires

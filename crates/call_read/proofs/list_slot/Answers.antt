@@ -3,7 +3,6 @@ use Prim.Native.Nat.{◌+◌, ◌*◌}
 use native.Mathlib.Omega.{arith}
 use lib.ListN.{length}
 use borrow.Author.Tests.{not-true, not-false, lt-leb, le-leb}
-use borrow.Author.Rules.{rules}
 use Rattle.call_read.proofs.list_slot.Goals as goal
 
 pub returns-then-not-is_listed : goal.returns-then-not-is_listed

@@ -5,7 +5,6 @@ use Rattle.model.specs.Sector.{window_of}
 use Rattle.operations.specs.Reading.{buffer_after, filled_outcome}
 use Rattle.volume.specs.Examined.{examined_of}
 use Rattle.call_read.proofs.Laws.{long_refused, long_granted}
-use borrow.Author.Rules.{rules}
 use Rattle.call_read.proofs.long_name.Goals as goal
 
 pub long_name_on-requires : goal.long_name_on-requires

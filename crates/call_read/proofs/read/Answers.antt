@@ -5,7 +5,6 @@ use Rattle.model.specs.Sector.{window_of}
 use Rattle.operations.specs.Reading.{buffer_after, filled_outcome}
 use Rattle.volume.specs.Examined.{examined_of}
 use Rattle.call_read.proofs.Laws.{read_refused, read_granted}
-use borrow.Author.Rules.{rules}
 use Rattle.call_read.proofs.read.Goals as goal
 
 pub read_from-requires : goal.read_from-requires

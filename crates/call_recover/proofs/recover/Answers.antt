@@ -4,7 +4,6 @@ use Rattle.volume.specs.Examined.{examined_of}
 use Rattle.volume.proofs.Ready.{opened_with}
 use Rattle.call_outcome.proofs.Ends.{did_refused}
 use Rattle.call_recover.proofs.Laws.{recover_refused, recover_granted}
-use borrow.Author.Rules.{rules}
 use Rattle.call_recover.proofs.recover.Goals as goal
 
 pub recover_on-requires : goal.recover_on-requires

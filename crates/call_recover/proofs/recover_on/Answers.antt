@@ -12,7 +12,6 @@ use Rattle.operations.specs.Finish.{redo}
 use Rattle.operations.specs.Plan.{recover_stores}
 use Rattle.call_outcome.proofs.Ends.{did_ran}
 use Rattle.call_recover.proofs.Laws.{sector_high, Redoable, redoable}
-use borrow.Author.Rules.{rules}
 use Rattle.call_recover.proofs.recover_on.Goals as goal
 
 pub plan_at-plan-requires : goal.plan_at-plan-requires

@@ -5,7 +5,6 @@ use Rattle.volume.specs.Examined.{examined_of}
 use Rattle.volume.proofs.Ready.{opened_with, opened_at}
 use Rattle.call_outcome.proofs.Ends.{did_refused}
 use Rattle.call_replace.proofs.Laws.{replace_refused, replace_clean}
-use borrow.Author.Rules.{rules}
 use Rattle.call_replace.proofs.replace.Goals as goal
 
 pub stamp-requires : goal.stamp-requires

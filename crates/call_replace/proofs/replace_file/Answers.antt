@@ -9,7 +9,6 @@ use Rattle.file_append.proofs.Clusters.{has_room}
 use Rattle.call_outcome.proofs.Ends.{did_refused, did_ran}
 use Rattle.call_replace.specs.Replace.{emptied}
 use Rattle.call_replace.proofs.Laws.{emptied_added, emptied_proper, replace_full, replace_granted}
-use borrow.Author.Rules.{rules}
 use Rattle.call_replace.proofs.replace_file.Goals as goal
 
 pub returns-then-wider-n : goal.returns-then-wider-n

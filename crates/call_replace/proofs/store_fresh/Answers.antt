@@ -2,7 +2,6 @@ use Rattle.model.specs.Sector.{card_of}
 use Rattle.model.specs.Fat.{entry, fat1_of}
 use Rattle.fat_release.proofs.Shortens.{whole_inside}
 use Rattle.call_replace.proofs.Laws.{emptied_last}
-use borrow.Author.Rules.{rules}
 use Rattle.call_replace.proofs.store_fresh.Goals as goal
 
 pub store_exchange-requires : goal.store_exchange-requires

@@ -6,7 +6,6 @@ use Rattle.model.specs.Chain.{needed}
 use Rattle.model.proofs.Needed.{needed_mono}
 use Rattle.fat_chain.proofs.Links.{in_window}
 use Rattle.call_truncate.proofs.Cuts.{first_low, parts_none, parts_all, parts_some}
-use borrow.Author.Rules.{rules}
 use Rattle.call_truncate.proofs.cut_at.Goals as goal
 
 pub returns-then-n-m : goal.returns-then-n-m

@@ -5,7 +5,6 @@ use Rattle.volume.specs.Examined.{examined_of}
 use Rattle.volume.proofs.Ready.{opened_with}
 use Rattle.call_outcome.proofs.Ends.{did_refused}
 use Rattle.call_truncate.proofs.Laws.{delete_refused, delete_granted}
-use borrow.Author.Rules.{rules}
 use Rattle.call_truncate.proofs.delete.Goals as goal
 
 pub delete_on-requires : goal.delete_on-requires

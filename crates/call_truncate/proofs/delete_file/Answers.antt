@@ -2,7 +2,6 @@ use Rattle.model.specs.Sector.{card_of}
 use Rattle.operations.specs.Plan.{old_fat}
 use Rattle.operations.proofs.Seats.{delete_slots}
 use Rattle.call_truncate.proofs.Cuts.{all_inside, delete_is}
-use borrow.Author.Rules.{rules}
 use Rattle.call_truncate.proofs.delete_file.Goals as goal
 
 pub shorten-requires : goal.shorten-requires

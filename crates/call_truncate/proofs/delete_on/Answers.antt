@@ -5,7 +5,6 @@ use Rattle.operations.specs.Plan.{delete_stores}
 use Rattle.root_lookup.specs.Found.{found_of}
 use Rattle.call_outcome.proofs.Ends.{did_refused, did_ran}
 use Rattle.operations.specs.Calls.{delete_on}
-use borrow.Author.Rules.{rules}
 use Rattle.call_truncate.proofs.delete_on.Goals as goal
 
 pub delete_file-requires : goal.delete_file-requires

@@ -5,7 +5,6 @@ use Rattle.model.specs.Record.{plain}
 use Rattle.operations.specs.Plan.{old_fat}
 use Rattle.fat_release.specs.Release.{cut}
 use Rattle.log_steps.proofs.Parts.{operate_cut, operate_ran}
-use borrow.Author.Rules.{rules}
 use Rattle.call_truncate.proofs.shorten.Goals as goal
 
 pub returns-then-not-p : goal.returns-then-not-p

@@ -6,7 +6,6 @@ use Rattle.operations.specs.Program.{ending}
 use Rattle.operations.specs.Plan.{truncate_stores}
 use Rattle.call_outcome.proofs.Ends.{did_refused, did_ran}
 use Rattle.call_truncate.proofs.Laws.{as_longer, as_same, as_shorter}
-use borrow.Author.Rules.{rules}
 use Rattle.call_truncate.proofs.truncate_as.Goals as goal
 
 pub returns-then-present-size : goal.returns-then-present-size

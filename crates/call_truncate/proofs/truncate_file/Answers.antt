@@ -2,7 +2,6 @@ use native.Mathlib.Omega.{arith}
 use Rattle.model.specs.Sector.{card_of}
 use Rattle.call_truncate.proofs.Cuts.{truncate_is}
 use Rattle.operations.specs.Finish.{edits, operation_edits}
-use borrow.Author.Rules.{rules}
 use Rattle.call_truncate.proofs.truncate_file.Goals as goal
 
 pub cut_at-c-requires : goal.cut_at-c-requires

@@ -3,7 +3,6 @@ use Rattle.model.specs.Ground.{◌>>=◌}
 use Rattle.root_lookup.specs.Found.{found_of}
 use Rattle.call_outcome.proofs.Ends.{did_refused}
 use Rattle.operations.specs.Calls.{truncate_on}
-use borrow.Author.Rules.{rules}
 use Rattle.call_truncate.proofs.truncate_on.Goals as goal
 
 pub truncate_as-requires : goal.truncate_as-requires

@@ -4,7 +4,6 @@ use native.Mathlib.Omega.{arith}
 use Rattle.model.specs.Calendar.{year_of, month_of, moment, last_second}
 use Rattle.model.specs.declared.Elapsed.{Elapsed}
 use Rattle.model.proofs.Calendar.{year_reached, month_reached, month_long}
-use borrow.Author.Rules.{rules}
 use Rattle.clock.proofs.date_word.Goals as goal
 
 -- How large the parts of the date are.

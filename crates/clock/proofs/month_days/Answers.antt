@@ -6,7 +6,6 @@ use types.Run.{OneOf}
 use borrow.Author.Tests.{ne_eqb}
 use Rattle.model.specs.Scan.{any}
 use Rattle.model.specs.Calendar.{month_days}
-use borrow.Author.Rules.{rules}
 use Rattle.clock.proofs.month_days.Goals as goal
 
 -- The months that have 30 days, and those that are neither these nor the second.

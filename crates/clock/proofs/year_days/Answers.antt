@@ -1,6 +1,5 @@
 use mathlib.Core.Path.{sym, ◌∙◌}
 use Rattle.model.specs.Calendar.{year_days}
-use borrow.Author.Rules.{rules}
 use Rattle.clock.proofs.year_days.Goals as goal
 
 pub returns-then-is_leap : goal.returns-then-is_leap

@@ -1,8 +1,5 @@
-use Prim.Native.Nat.{◌-◌}
 use native.Mathlib.Omega.{arith}
-use Rattle.model.specs.Calendar.{year_days}
-use Rattle.model.proofs.Calendar.{Counts, counts_start, counts_on, counts_here, counts_end}
-use borrow.Author.Rules.{rules}
+use Rattle.model.proofs.Calendar.{counts_start, counts_on, counts_here, counts_end}
 use Rattle.clock.proofs.year_of.Goals as goal
 
 pub loop-year-init : goal.loop-year-init

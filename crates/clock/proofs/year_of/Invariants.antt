@@ -1,8 +1,6 @@
 use Prim.Native.Nat.{◌-◌}
-use native.Mathlib.Omega.{arith}
 use Rattle.model.specs.Calendar.{year_days}
-use Rattle.model.proofs.Calendar.{Counts, counts_start, counts_on, counts_here, counts_end}
-use borrow.Author.Rules.{rules}
+use Rattle.model.proofs.Calendar.{Counts}
 use Rattle.clock.proofs.year_of.Given as goal
 
 abbrev pub invariant-loop-year : goal.invariant-loop-year

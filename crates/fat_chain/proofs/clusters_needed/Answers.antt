@@ -4,7 +4,6 @@ use native.Mathlib.Omega.{arith}
 use native.Mathlib.Nat.{div-le_self}
 use Rattle.model.specs.Chain.{needed}
 use Rattle.model.proofs.Needed.{needed_none, needed_some}
-use borrow.Author.Rules.{rules}
 use Rattle.fat_chain.proofs.clusters_needed.Goals as goal
 
 pub returns-then-bytes-eq0 : goal.returns-then-bytes-eq0

@@ -2,7 +2,6 @@ use Rattle.model.specs.Sector.{card_of}
 use Rattle.model.specs.Fat.{fat1_of, free_clusters}
 use Rattle.model.proofs.Searches.{indices_count}
 use Rattle.fat_read.specs.Located.{holds}
-use borrow.Author.Rules.{rules}
 use Rattle.fat_chain.proofs.count_free.Goals as goal
 
 pub returns : goal.returns

@@ -1,14 +1,7 @@
-use mathlib.Core.Path.{◌≡◌, refl, sym, ap, ◌∙◌}
-use Prim.Native.Nat.{ℕ, ◌+◌, ◌-◌}
-use native.Mathlib.Omega.{arith}
-use mathlib.Core.Bool.{false}
-use borrow.Author.Tests.{not-true, not-false}
+use mathlib.Core.Path.{◌≡◌}
 use Rattle.model.specs.Sector.{card_of}
-use Rattle.model.specs.Fat.{fat1_of, entry, in_range, is_end}
+use Rattle.model.specs.Fat.{fat1_of, entry}
 use Rattle.model.specs.Chain.{ends_after}
-use Rattle.model.proofs.Walks.{ends_zero, inside}
-use Rattle.fat_chain.proofs.Links.{adjacent_one, ends_outside, ends_here, ends_later, in_window}
-use borrow.Author.Rules.{rules}
 use Rattle.fat_chain.proofs.ends.Given as goal
 
 abbrev pub invariant-loop-left : goal.invariant-loop-left

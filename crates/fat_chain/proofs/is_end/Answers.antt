@@ -1,7 +1,6 @@
 use mathlib.Core.Path.{sym, ap, ◌∙◌}
 use native.Mathlib.Omega.{arith}
 use Rattle.fat_chain.proofs.Laws.{closes, not_end, end_closes}
-use borrow.Author.Rules.{rules}
 use Rattle.fat_chain.proofs.is_end.Goals as goal
 
 pub returns-in-End : goal.returns-in-End

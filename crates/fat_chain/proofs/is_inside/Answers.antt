@@ -1,6 +1,5 @@
 use mathlib.Core.Path.{sym, ap, ◌∙◌}
 use Rattle.fat_chain.proofs.Laws.{leads, not_next, inside_leads}
-use borrow.Author.Rules.{rules}
 use Rattle.fat_chain.proofs.is_inside.Goals as goal
 
 pub returns-in-Next : goal.returns-in-Next

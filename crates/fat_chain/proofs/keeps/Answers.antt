@@ -6,7 +6,6 @@ use Rattle.model.specs.Sector.{card_of}
 use Rattle.model.specs.Fat.{fat1_of, entry}
 use Rattle.model.specs.Chain.{needed, keeps_chain}
 use Rattle.model.proofs.Walks.{ends_many}
-use borrow.Author.Rules.{rules}
 use Rattle.fat_chain.proofs.keeps.Goals as goal
 
 pub returns-then-size-eq0 : goal.returns-then-size-eq0

@@ -1,11 +1,7 @@
-use mathlib.Core.Path.{◌≡◌, sym, ◌∙◌}
 use Prim.Native.Nat.{◌+◌, ◌-◌, ◌≤◌}
-use native.Mathlib.Omega.{arith}
 use Rattle.model.specs.Sector.{card_of}
 use Rattle.model.specs.Fat.{entry, fat1_of}
 use Rattle.fat_chain.specs.Links.{Adjacent}
-use Rattle.fat_chain.proofs.Links.{adjacent_one, adjacent_more, in_window}
-use borrow.Author.Rules.{rules}
 use Rattle.fat_chain.proofs.run_length.Given as goal
 
 abbrev pub invariant-loop-m : goal.invariant-loop-m

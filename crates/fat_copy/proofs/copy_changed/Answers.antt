@@ -8,7 +8,6 @@ use Rattle.model.proofs.Cards.{store_same}
 use Rattle.model.proofs.Runs.{ran_none}
 use Rattle.sector.proofs.Stored.{ran_lent}
 use Rattle.fat_copy.proofs.Laws.{loaded, renewal_none, renewal_one}
-use borrow.Author.Rules.{rules}
 use Rattle.fat_copy.proofs.copy_changed.Goals as goal
 
 pub returns-then-not-differs : goal.returns-then-not-differs

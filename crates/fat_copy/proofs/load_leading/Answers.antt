@@ -4,7 +4,6 @@ use Rattle.model.specs.Bytes.{Bytes}
 use Rattle.model.specs.Sector.{card_of}
 use Rattle.model.specs.Fat.{Fat, fat_at}
 use Rattle.fat_copy.proofs.Laws.{loaded, led, lead_none, lead_away}
-use borrow.Author.Rules.{rules}
 use Rattle.fat_copy.proofs.load_leading.Goals as goal
 
 pub returns-then-k-eq0 : goal.returns-then-k-eq0

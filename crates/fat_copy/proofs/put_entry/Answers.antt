@@ -2,7 +2,6 @@ use Prim.Native.Nat.{◌*◌, ◌%◌}
 use native.Mathlib.Omega.{arith}
 use lib.ListN.{length-set}
 use Rattle.fat_copy.proofs.Laws.{put_pair}
-use borrow.Author.Rules.{rules}
 use Rattle.fat_copy.proofs.put_entry.Goals as goal
 
 pub bounds-buf-at-2 : goal.bounds-buf-at-2

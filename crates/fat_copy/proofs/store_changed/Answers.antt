@@ -2,7 +2,6 @@ use mathlib.Core.Path.{sym, ◌∙◌}
 use borrow.Author.Tests.{not-true, not-false}
 use Rattle.model.proofs.Runs.{ran_none}
 use Rattle.fat_copy.proofs.Laws.{renewal_none, renewal_one}
-use borrow.Author.Rules.{rules}
 use Rattle.fat_copy.proofs.store_changed.Goals as goal
 
 pub returns-then-not-alters : goal.returns-then-not-alters

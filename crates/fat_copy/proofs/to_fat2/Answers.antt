@@ -2,7 +2,6 @@ use Rattle.model.specs.Sector.{card_of}
 use Rattle.model.specs.Fat.{fat1_of, fat2_of}
 use Rattle.model.proofs.Copies.{write_fat_turns}
 use Rattle.fat_copy.specs.Change.{renewal}
-use borrow.Author.Rules.{rules}
 use Rattle.fat_copy.proofs.to_fat2.Goals as goal
 
 pub returns : goal.returns

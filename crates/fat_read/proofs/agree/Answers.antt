@@ -1,11 +1,8 @@
 use mathlib.Core.Path.{sym, ◌∙◌}
-use mathlib.Core.Bool.{true}
-use Prim.Native.Nat.{◌+◌, ◌-◌, ◌≤◌}
 use native.Mathlib.Omega.{arith}
 use borrow.Author.Tests.{not-true, not-false}
-use Rattle.model.specs.Sector.{card_of}
-use Rattle.model.specs.Fat.{same, fats_agree}
-use Rattle.model.proofs.Scan.{all_of, all_not, Sofar, sofar_none, sofar_more, sofar_cut}
+use Rattle.model.specs.Fat.{fats_agree}
+use Rattle.model.proofs.Scan.{all_of, all_not, sofar_none, sofar_more, sofar_cut}
 use borrow.Author.Rules.{rules}
 use Rattle.fat_read.proofs.agree.Goals as goal
 

@@ -5,7 +5,6 @@ use Rattle.model.specs.Fat.{class, in_range, is_end}
 use Rattle.model.specs.Scan.{between}
 use Rattle.model.proofs.Tests.{between_high}
 use Rattle.fat_read.proofs.Laws.{next, ended, above, over}
-use borrow.Author.Rules.{rules}
 use Rattle.fat_read.proofs.classify.Goals as goal
 
 pub returns-in-0 : goal.returns-in-0

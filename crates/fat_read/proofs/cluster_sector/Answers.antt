@@ -2,7 +2,6 @@ use Prim.Native.Nat.{◌-◌}
 use native.Mathlib.Omega.{arith}
 use Rattle.model.specs.Chain.{cluster_sector}
 use Rattle.fat_read.proofs.Runs.{product, on_card}
-use borrow.Author.Rules.{rules}
 use Rattle.fat_read.proofs.cluster_sector.Goals as goal
 
 pub overflow_mul-result : goal.overflow_mul-result

@@ -1,16 +1,9 @@
-use mathlib.Core.Path.{◌≡◌, sym, ap, ◌∙◌}
-use mathlib.Core.Logic.{⊎_elim}
-use Prim.Native.Nat.{◌+◌, ◌-◌, ◌≤◌}
-use native.Mathlib.Omega.{arith}
-use borrow.Author.Tests.{eq-eqb, ne_eqb}
+use mathlib.Core.Path.{◌≡◌}
+use Prim.Native.Nat.{◌-◌, ◌≤◌}
 use Rattle.model.specs.Scan.{count_from}
 use Rattle.model.specs.Sector.{card_of}
 use Rattle.model.specs.Fat.{fat_at}
-use Rattle.model.proofs.Scan.{count_none}
-use Rattle.model.proofs.Searches.{count_hit, count_miss}
 use Rattle.fat_read.specs.Located.{holds}
-use Rattle.fat_read.proofs.Laws.{flat}
-use borrow.Author.Rules.{rules}
 use Rattle.fat_read.proofs.count_entries.Given as goal
 
 abbrev pub invariant-loop-i : goal.invariant-loop-i

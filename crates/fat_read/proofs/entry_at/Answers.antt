@@ -1,6 +1,5 @@
 use native.Mathlib.Omega.{arith}
 use Rattle.fat_read.proofs.Laws.{flat}
-use borrow.Author.Rules.{rules}
 use Rattle.fat_read.proofs.entry_at.Goals as goal
 
 pub returns : goal.returns

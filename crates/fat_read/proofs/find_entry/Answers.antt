@@ -1,13 +1,8 @@
 use mathlib.Core.Path.{sym, ◌∙◌}
-use mathlib.Core.Bool.{false}
-use Prim.Native.Nat.{◌+◌, ◌-◌, ◌≤◌}
 use native.Mathlib.Omega.{arith}
 use borrow.Author.Tests.{eq-eqb, ne_eqb}
-use Rattle.model.specs.Sector.{card_of}
-use Rattle.model.specs.Fat.{fat_at}
-use Rattle.model.proofs.Scan.{first_is, first_none, Sofar, sofar_none, sofar_more, sofar_cut}
+use Rattle.model.proofs.Scan.{first_is, first_none, sofar_none, sofar_more, sofar_cut}
 use Rattle.model.proofs.Searches.{sofar_over}
-use Rattle.fat_read.specs.Located.{holds}
 use borrow.Author.Rules.{rules}
 use Rattle.fat_read.proofs.find_entry.Goals as goal
 

@@ -1,14 +1,9 @@
-use mathlib.Core.Path.{sym, ◌∙◌}
 use mathlib.Core.Bool.{false}
 use Prim.Native.Nat.{◌+◌, ◌-◌, ◌≤◌}
-use native.Mathlib.Omega.{arith}
-use borrow.Author.Tests.{eq-eqb, ne_eqb}
 use Rattle.model.specs.Sector.{card_of}
 use Rattle.model.specs.Fat.{fat_at}
-use Rattle.model.proofs.Scan.{first_is, first_none, Sofar, sofar_none, sofar_more, sofar_cut}
-use Rattle.model.proofs.Searches.{sofar_over}
+use Rattle.model.proofs.Scan.{Sofar}
 use Rattle.fat_read.specs.Located.{holds}
-use borrow.Author.Rules.{rules}
 use Rattle.fat_read.proofs.find_entry.Given as goal
 
 abbrev pub invariant-loop-i : goal.invariant-loop-i

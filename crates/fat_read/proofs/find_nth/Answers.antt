@@ -1,11 +1,6 @@
 use mathlib.Core.Path.{◌∙◌}
-use Prim.Native.Nat.{◌-◌}
 use native.Mathlib.Omega.{arith}
-use Rattle.model.specs.Sector.{card_of}
-use Rattle.model.specs.Fat.{fat_at}
-use Rattle.model.proofs.Nths.{Seeks, seeks_start, seeks_pass, seeks_within, seeks_end}
-use Rattle.fat_read.specs.Located.{holds}
-use borrow.Author.Rules.{rules}
+use Rattle.model.proofs.Nths.{seeks_start, seeks_pass, seeks_within, seeks_end}
 use Rattle.fat_read.proofs.find_nth.Goals as goal
 
 pub loop-i-init : goal.loop-i-init

@@ -1,11 +1,8 @@
-use mathlib.Core.Path.{◌∙◌}
 use Prim.Native.Nat.{◌-◌}
-use native.Mathlib.Omega.{arith}
 use Rattle.model.specs.Sector.{card_of}
 use Rattle.model.specs.Fat.{fat_at}
-use Rattle.model.proofs.Nths.{Seeks, seeks_start, seeks_pass, seeks_within, seeks_end}
+use Rattle.model.proofs.Nths.{Seeks}
 use Rattle.fat_read.specs.Located.{holds}
-use borrow.Author.Rules.{rules}
 use Rattle.fat_read.proofs.find_nth.Given as goal
 
 abbrev pub invariant-loop-i : goal.invariant-loop-i

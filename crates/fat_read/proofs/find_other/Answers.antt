@@ -1,13 +1,9 @@
 use mathlib.Core.Path.{sym, ap, ◌∙◌}
-use mathlib.Core.Bool.{false, not}
-use Prim.Native.Nat.{◌+◌, ◌-◌, ◌≤◌}
+use mathlib.Core.Bool.{not}
 use native.Mathlib.Omega.{arith}
 use lib.Dec.{eqb}
 use borrow.Author.Tests.{not-true, not-false}
-use Rattle.model.specs.Sector.{card_of}
-use Rattle.model.specs.Fat.{fat1_of}
-use Rattle.model.proofs.Scan.{first_is, first_none, Sofar, sofar_none, sofar_more, sofar_cut}
-use Rattle.fat_read.specs.Located.{lacks}
+use Rattle.model.proofs.Scan.{first_is, first_none, sofar_none, sofar_more, sofar_cut}
 use borrow.Author.Rules.{rules}
 use Rattle.fat_read.proofs.find_other.Goals as goal
 

@@ -1,14 +1,9 @@
-use mathlib.Core.Path.{sym, ap, ◌∙◌}
-use mathlib.Core.Bool.{false, not}
+use mathlib.Core.Bool.{false}
 use Prim.Native.Nat.{◌+◌, ◌-◌, ◌≤◌}
-use native.Mathlib.Omega.{arith}
-use lib.Dec.{eqb}
-use borrow.Author.Tests.{not-true, not-false}
 use Rattle.model.specs.Sector.{card_of}
 use Rattle.model.specs.Fat.{fat1_of}
-use Rattle.model.proofs.Scan.{first_is, first_none, Sofar, sofar_none, sofar_more, sofar_cut}
+use Rattle.model.proofs.Scan.{Sofar}
 use Rattle.fat_read.specs.Located.{lacks}
-use borrow.Author.Rules.{rules}
 use Rattle.fat_read.proofs.find_other.Given as goal
 
 abbrev pub invariant-loop-i : goal.invariant-loop-i

@@ -1,14 +1,10 @@
-use mathlib.Core.Path.{◌≡◌, sym, ap, ◌∙◌}
+use mathlib.Core.Path.{◌≡◌}
 use mathlib.Core.Bool.{false}
-use Prim.Native.Nat.{◌+◌, ◌-◌, ◌≤◌}
-use native.Mathlib.Omega.{arith}
+use Prim.Native.Nat.{◌-◌, ◌≤◌}
 use Rattle.model.specs.Scan.{count_from}
 use Rattle.model.specs.Sector.{card_of}
 use Rattle.model.specs.Fat.{fat_at}
-use Rattle.model.proofs.Scan.{count_none}
 use Rattle.fat_read.specs.Located.{holds}
-use Rattle.fat_read.proofs.Laws.{flat, unseen}
-use borrow.Author.Rules.{rules}
 use Rattle.fat_read.proofs.is_among.Given as goal
 
 abbrev pub invariant-loop-i : goal.invariant-loop-i

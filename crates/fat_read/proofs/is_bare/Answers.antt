@@ -2,7 +2,6 @@ use mathlib.Core.Path.{refl}
 use native.Mathlib.Omega.{arith}
 use borrow.Author.Tests.{not-true}
 use Rattle.model.proofs.Tests.{clash}
-use borrow.Author.Rules.{rules}
 use Rattle.fat_read.proofs.is_bare.Goals as goal
 
 pub returns-then-k-ne0 : goal.returns-then-k-ne0

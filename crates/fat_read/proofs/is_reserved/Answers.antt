@@ -1,7 +1,6 @@
 use mathlib.Core.Path.{sym, ap, ◌∙◌}
 use native.Mathlib.Omega.{arith}
 use Rattle.fat_read.proofs.Laws.{marks, not_reserved, reserved_marks}
-use borrow.Author.Rules.{rules}
 use Rattle.fat_read.proofs.is_reserved.Goals as goal
 
 pub returns-in-Reserved : goal.returns-in-Reserved

@@ -5,7 +5,6 @@ use Rattle.model.specs.Sector.{card_of}
 use Rattle.model.specs.Fat.{fat1_of}
 use Rattle.model.specs.Chain.{cluster_sector}
 use Rattle.fat_read.proofs.Runs.{product, positive, on_card, nothing, too_long, another, only}
-use borrow.Author.Rules.{rules}
 use Rattle.fat_read.proofs.locate.Goals as goal
 
 pub returns-then-size-eq0 : goal.returns-then-size-eq0

@@ -1,13 +1,7 @@
 use mathlib.Core.Path.{sym, ◌∙◌}
-use mathlib.Core.Logic.{⊎_elim}
-use Prim.Native.Nat.{◌-◌}
 use native.Mathlib.Omega.{arith}
 use borrow.Author.Tests.{eq-eqb, ne_eqb}
-use Rattle.model.specs.Sector.{card_of}
-use Rattle.model.specs.Fat.{fat_at}
-use Rattle.model.proofs.Nths.{Seeks, seeks_start, seeks_hit, seeks_miss, seeks_here, seeks_end}
-use Rattle.fat_read.specs.Located.{holds}
-use borrow.Author.Rules.{rules}
+use Rattle.model.proofs.Nths.{seeks_start, seeks_hit, seeks_miss, seeks_here, seeks_end}
 use Rattle.fat_read.proofs.pass_entries.Goals as goal
 use Rattle.fat_read.proofs.pass_entries.Goals.{then-entry_at-v+else-left-eq1, else-entry_at-v}
 

@@ -1,6 +1,5 @@
 use mathlib.Core.Path.{refl}
 use Rattle.fat_release.specs.Release.{bit_of}
-use borrow.Author.Rules.{rules}
 use Rattle.fat_release.proofs.bit_at.Goals as goal
 
 pub returns : goal.returns

@@ -1,17 +1,7 @@
-use mathlib.Core.Path.{◌≡◌, refl, ap, ◌∙◌}
-use mathlib.Core.Logic.{⊎_elim}
-use Prim.Native.Nat.{ℕ, ◌+◌, ◌-◌, ◌*◌, ◌/◌, ◌%◌, ◌<◌, ◌≤◌}
-use native.Mathlib.Omega.{arith}
-use lib.Dec.{eqb}
-use lib.ListN.{length, get_or, length-set}
-use lib.Seq.{get_or-set_other}
-use borrow.Author.Tests.{lt-ltb, le-ltb}
-use Rattle.model.specs.Bytes.{pick}
-use Rattle.model.proofs.Tests.{less?}
-use Rattle.model.proofs.Lists.{copied_more}
-use Rattle.fat_release.specs.Release.{bit_of}
-use Rattle.fat_release.proofs.Laws.{bit_zero, eight_then}
-use borrow.Author.Rules.{rules}
+use mathlib.Core.Path.{◌≡◌}
+use Prim.Native.Nat.{ℕ, ◌+◌, ◌-◌, ◌*◌, ◌<◌, ◌≤◌}
+use lib.ListN.{length, get_or}
+use Rattle.fat_release.proofs.Laws.{eight_then}
 use Rattle.fat_release.proofs.clear_eight.Given as goal
 
 abbrev pub invariant-loop-i : goal.invariant-loop-i

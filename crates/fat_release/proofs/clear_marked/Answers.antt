@@ -1,12 +1,8 @@
-use mathlib.Core.Path.{◌≡◌, refl, ◌∙◌}
+use mathlib.Core.Path.{refl, ◌∙◌}
 use mathlib.Core.Logic.{⊎_elim}
-use Prim.Native.Nat.{ℕ, ◌+◌, ◌-◌, ◌*◌, ◌/◌, ◌<◌, ◌≤◌}
+use Prim.Native.Nat.{◌+◌, ◌/◌}
 use native.Mathlib.Omega.{arith}
-use lib.Dec.{eqb}
-use lib.ListN.{length, get_or}
-use Rattle.model.specs.Bytes.{pick}
 use Rattle.model.proofs.Tests.{same?}
-use Rattle.fat_release.specs.Release.{mark_of}
 use Rattle.fat_release.proofs.Laws.{mark_in, mark_past}
 use borrow.Author.Rules.{rules}
 use Rattle.fat_release.proofs.clear_marked.Goals as goal

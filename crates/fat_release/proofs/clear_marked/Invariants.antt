@@ -1,14 +1,9 @@
-use mathlib.Core.Path.{◌≡◌, refl, ◌∙◌}
-use mathlib.Core.Logic.{⊎_elim}
+use mathlib.Core.Path.{◌≡◌}
 use Prim.Native.Nat.{ℕ, ◌+◌, ◌-◌, ◌*◌, ◌/◌, ◌<◌, ◌≤◌}
-use native.Mathlib.Omega.{arith}
 use lib.Dec.{eqb}
 use lib.ListN.{length, get_or}
 use Rattle.model.specs.Bytes.{pick}
-use Rattle.model.proofs.Tests.{same?}
 use Rattle.fat_release.specs.Release.{mark_of}
-use Rattle.fat_release.proofs.Laws.{mark_in, mark_past}
-use borrow.Author.Rules.{rules}
 use Rattle.fat_release.proofs.clear_marked.Given as goal
 
 abbrev pub invariant-loop-k : goal.invariant-loop-k

@@ -1,10 +1,6 @@
-use mathlib.Core.Path.{◌≡◌, refl}
+use mathlib.Core.Path.{◌≡◌}
 use Prim.Native.Nat.{ℕ, ◌-◌, ◌<◌, ◌≤◌}
-use native.Mathlib.Omega.{arith}
-use lib.ListN.{length, get_or, length-set}
-use Rattle.model.proofs.Lists.{copied_more}
-use Rattle.fat_release.proofs.Laws.{all_clear}
-use borrow.Author.Rules.{rules}
+use lib.ListN.{length, get_or}
 use Rattle.fat_release.proofs.clear_marks.Given as goal
 
 abbrev pub invariant-loop-i : goal.invariant-loop-i

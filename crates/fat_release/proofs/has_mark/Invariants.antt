@@ -1,13 +1,7 @@
-use mathlib.Core.Path.{◌≡◌, ap, ◌∙◌}
+use mathlib.Core.Path.{◌≡◌}
 use mathlib.Core.Bool.{false}
-use Prim.Native.Nat.{ℕ, ◌+◌, ◌-◌, ◌/◌, ◌%◌, ◌<◌, ◌≤◌}
-use native.Mathlib.Omega.{arith}
+use Prim.Native.Nat.{ℕ, ◌+◌, ◌-◌, ◌/◌, ◌<◌, ◌≤◌}
 use lib.ListN.{get_or}
-use borrow.Author.Count.{below_more}
-use borrow.Author.Tests.{eqb-true, not-false}
-use Rattle.model.proofs.Tests.{or_false}
-use Rattle.fat_release.proofs.Laws.{bit_zero, mark_past}
-use borrow.Author.Rules.{rules}
 use Rattle.fat_release.proofs.has_mark.Given as goal
 
 abbrev pub invariant-loop-i : goal.invariant-loop-i

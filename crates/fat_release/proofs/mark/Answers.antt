@@ -2,7 +2,6 @@ use Prim.Native.Nat.{◌+◌}
 use native.Mathlib.Omega.{arith}
 use borrow.Author.Tests.{ne_eqb}
 use Rattle.fat_release.proofs.Laws.{mark_set}
-use borrow.Author.Rules.{rules}
 use Rattle.fat_release.proofs.mark.Goals as goal
 
 pub returns-then-k-from : goal.returns-then-k-from

@@ -1,15 +1,11 @@
-use mathlib.Core.Path.{◌≡◌, sym, ◌∙◌}
-use Prim.Native.Nat.{◌+◌, ◌*◌, ◌/◌, ◌<◌, ◌≤◌}
-use native.Mathlib.Omega.{arith}
+use mathlib.Core.Path.{◌≡◌}
+use Prim.Native.Nat.{◌≤◌}
 use lib.ListN.{length}
-use Rattle.model.specs.Sector.{card_of}
 use Rattle.model.specs.Fat.{entry}
 use Rattle.model.specs.Chain.{chain}
 use Rattle.fat_copy.specs.Change.{own_fat}
-use Rattle.fat_copy.proofs.Laws.{own_entry}
 use Rattle.fat_release.specs.Release.{Inside}
-use Rattle.fat_release.proofs.Laws.{Marking, marked_none, marking_none, marking_more, marking_done, inside_first, inside_rest}
-use borrow.Author.Rules.{rules}
+use Rattle.fat_release.proofs.Laws.{Marking}
 use Rattle.fat_release.proofs.mark_block.Given as goal
 
 abbrev pub invariant-loop-n : goal.invariant-loop-n

@@ -1,6 +1,5 @@
 use native.Mathlib.Omega.{arith}
 use Rattle.fat_release.proofs.Laws.{bit_there, bit_added, bit_fits}
-use borrow.Author.Rules.{rules}
 use Rattle.fat_release.proofs.with_bit.Goals as goal
 
 pub returns-then-b-i-eq1 : goal.returns-then-b-i-eq1

@@ -4,7 +4,6 @@ use Rattle.model.specs.Sector.{card_of}
 use Rattle.model.specs.Fat.{entry, fat1_of, free_clusters}
 use Rattle.model.specs.Chain.{chain}
 use Rattle.fat_write.proofs.Laws.{renewed_exchange}
-use borrow.Author.Rules.{rules}
 use Rattle.fat_write.proofs.exchange_fat.Goals as goal
 
 pub renew_fat-requires : goal.renew_fat-requires

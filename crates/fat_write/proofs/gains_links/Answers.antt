@@ -1,7 +1,6 @@
 use mathlib.Core.Path.{refl, sym}
 use borrow.Author.Tests.{eqb-false}
 use Rattle.model.proofs.Tests.{clash}
-use borrow.Author.Rules.{rules}
 use Rattle.fat_write.proofs.gains_links.Goals as goal
 
 pub returns-then-last-s : goal.returns-then-last-s

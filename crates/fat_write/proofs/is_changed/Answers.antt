@@ -1,6 +1,5 @@
 use mathlib.Core.Path.{refl}
 use Rattle.model.proofs.Tests.{clash}
-use borrow.Author.Rules.{rules}
 use Rattle.fat_write.proofs.is_changed.Goals as goal
 
 pub returns-then-gains_links : goal.returns-then-gains_links

@@ -6,7 +6,7 @@ use Rattle.model.specs.Sector.{card_of}
 use Rattle.model.specs.Fat.{fat_at}
 use Rattle.fat_copy.specs.Change.{lead, own_fat}
 use Rattle.fat_copy.proofs.Laws.{own_sector, lead_local}
-use Rattle.fat_write.proofs.Passes.{Linking, linking_none, linking_more, linking_done}
+use Rattle.fat_write.proofs.Passes.{linking_none, linking_more, linking_done}
 use borrow.Author.Rules.{rules}
 use Rattle.fat_write.proofs.link_sector.Goals as goal
 

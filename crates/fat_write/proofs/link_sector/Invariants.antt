@@ -1,13 +1,5 @@
-use mathlib.Core.Path.{sym, ap, ◌∙◌}
-use Prim.Native.Nat.{◌+◌, ◌*◌, ◌<◌, ◌≤◌}
-use native.Mathlib.Omega.{arith}
-use Rattle.model.specs.Bytes.{Bytes}
-use Rattle.model.specs.Sector.{card_of}
-use Rattle.model.specs.Fat.{fat_at}
 use Rattle.fat_copy.specs.Change.{lead, own_fat}
-use Rattle.fat_copy.proofs.Laws.{own_sector, lead_local}
-use Rattle.fat_write.proofs.Passes.{Linking, linking_none, linking_more, linking_done}
-use borrow.Author.Rules.{rules}
+use Rattle.fat_write.proofs.Passes.{Linking}
 use Rattle.fat_write.proofs.link_sector.Given as goal
 
 abbrev pub invariant-loop-n : goal.invariant-loop-n

@@ -1,23 +1,16 @@
-use mathlib.Core.Path.{◌≡◌, refl}
+use mathlib.Core.Path.{◌≡◌}
 use mathlib.Core.Bool.{true}
 use Prim.Native.Nat.{◌-◌, ◌*◌, ◌/◌, ◌%◌, ◌≤◌}
-use native.Mathlib.Omega.{arith}
 use lib.ListN.{length}
-use borrow.Author.Tests.{not-true, not-false}
 use Rattle.model.specs.Sector.{card_of}
 use Rattle.model.specs.Fat.{fat2_of, entry}
 use Rattle.model.specs.Chain.{chain}
 use Rattle.model.specs.Promises.{Ran, up_to}
-use Rattle.model.proofs.Runs.{turns_none, turns_more, turns_cut}
 use Rattle.fat_copy.specs.Change.{own_fat}
-use Rattle.fat_copy.proofs.Laws.{renewals, write_turns}
+use Rattle.fat_copy.proofs.Laws.{renewals}
 use Rattle.fat_release.specs.Release.{Marked}
-use Rattle.fat_release.proofs.Laws.{next_marks}
 use Rattle.fat_write.specs.Allocate.{Above, Moved}
 use Rattle.fat_write.specs.Renew.{passed}
-use Rattle.fat_write.proofs.Passes.{moved_then}
-use Rattle.fat_write.proofs.Laws.{fat_same, turn_same}
-use borrow.Author.Rules.{rules}
 use Rattle.fat_write.proofs.renew_all.Given as goal
 
 abbrev pub invariant-loop-s : goal.invariant-loop-s

@@ -10,7 +10,6 @@ use Rattle.fat_release.specs.Release.{cleared}
 use Rattle.fat_release.proofs.Laws.{cleared_of}
 use Rattle.fat_write.proofs.Passes.{linked}
 use Rattle.fat_write.proofs.Laws.{unchanged}
-use borrow.Author.Rules.{rules}
 use Rattle.fat_write.proofs.renew_sector.Goals as goal
 
 pub returns-then-not-is_changed : goal.returns-then-not-is_changed

@@ -1,7 +1,6 @@
 use native.Mathlib.Omega.{arith}
 use mathlib.Core.Path.{refl, ◌∙◌}
 use Rattle.operations.proofs.Added.{spare_high, spare_low, spare_none, spare_some}
-use borrow.Author.Rules.{rules}
 use Rattle.file_append.proofs.added_clusters.Goals as goal
 
 pub overflow_mul-spare : goal.overflow_mul-spare

@@ -2,7 +2,6 @@ use Rattle.model.specs.Sector.{card_of}
 use native.Mathlib.Omega.{arith}
 use Rattle.model.specs.Fat.{fat1_of}
 use Rattle.file_append.proofs.Clusters.{moved_not, moved_on}
-use borrow.Author.Rules.{rules}
 use Rattle.file_append.proofs.advance.Goals as goal
 
 pub returns-then-x-p : goal.returns-then-x-p

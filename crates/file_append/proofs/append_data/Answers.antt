@@ -1,11 +1,8 @@
-use mathlib.Core.Path.{◌≡◌, refl}
-use Prim.Native.Nat.{◌-◌, ◌≤◌}
+use mathlib.Core.Path.{refl}
 use native.Mathlib.Omega.{arith}
-use lib.ListN.{length}
 use borrow.Author.Tests.{not-true, not-false}
 use native.Mathlib.Nat.{div-le_self}
-use Rattle.file_append.proofs.Turns.{Reached, reached_first, reached_all, reached_more, reached_cut, there_in}
-use borrow.Author.Rules.{rules}
+use Rattle.file_append.proofs.Turns.{reached_first, reached_all, reached_more, reached_cut, there_in}
 use Rattle.file_append.proofs.append_data.Goals as goal
 
 pub loop-q-init : goal.loop-q-init

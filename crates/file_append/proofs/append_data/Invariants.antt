@@ -1,11 +1,7 @@
-use mathlib.Core.Path.{◌≡◌, refl}
+use mathlib.Core.Path.{◌≡◌}
 use Prim.Native.Nat.{◌-◌, ◌≤◌}
-use native.Mathlib.Omega.{arith}
 use lib.ListN.{length}
-use borrow.Author.Tests.{not-true, not-false}
-use native.Mathlib.Nat.{div-le_self}
-use Rattle.file_append.proofs.Turns.{Reached, reached_first, reached_all, reached_more, reached_cut, there_in}
-use borrow.Author.Rules.{rules}
+use Rattle.file_append.proofs.Turns.{Reached}
 use Rattle.file_append.proofs.append_data.Given as goal
 
 abbrev pub invariant-loop-q : goal.invariant-loop-q

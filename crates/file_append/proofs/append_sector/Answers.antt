@@ -8,7 +8,6 @@ use Rattle.model.specs.Sector.{card_of, Store, store}
 use Rattle.operations.specs.Plan.{append_sector}
 use Rattle.file_append.proofs.Bytes.{filled}
 use Rattle.file_append.proofs.Turns.{append_is, ran_same}
-use borrow.Author.Rules.{rules}
 use Rattle.file_append.proofs.append_sector.Goals as goal
 
 pub overflow_sub-from : goal.overflow_sub-from

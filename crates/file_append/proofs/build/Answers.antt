@@ -3,7 +3,6 @@ use Prim.Native.Nat.{◌+◌, ◌-◌, ◌*◌}
 use native.Mathlib.Omega.{arith}
 use Rattle.model.specs.Sector.{card_of}
 use Rattle.file_append.proofs.Bytes.{built}
-use borrow.Author.Rules.{rules}
 use Rattle.file_append.proofs.build.Goals as goal
 
 pub returns : goal.returns

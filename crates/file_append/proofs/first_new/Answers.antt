@@ -1,7 +1,6 @@
 use native.Mathlib.Omega.{arith}
 use Rattle.model.specs.Sector.{card_of}
 use Rattle.file_append.proofs.Clusters.{first_is_free}
-use borrow.Author.Rules.{rules}
 use Rattle.file_append.proofs.first_new.Goals as goal
 
 pub returns : goal.returns

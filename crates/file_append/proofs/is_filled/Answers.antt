@@ -3,7 +3,6 @@ use native.Mathlib.Omega.{arith}
 use mathlib.Core.Path.{refl}
 use borrow.Author.Tests.{leb-true}
 use Rattle.model.proofs.Tests.{clash}
-use borrow.Author.Rules.{rules}
 use Rattle.file_append.proofs.is_filled.Goals as goal
 
 pub returns-then-at-old : goal.returns-then-at-old

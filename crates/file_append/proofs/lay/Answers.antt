@@ -3,7 +3,6 @@ use native.Mathlib.Omega.{arith}
 use lib.ListN.{replicate}
 use Rattle.model.proofs.Lists.{zero_at}
 use Rattle.file_append.proofs.Bytes.{laid}
-use borrow.Author.Rules.{rules}
 use Rattle.file_append.proofs.lay.Goals as goal
 
 pub returns : goal.returns

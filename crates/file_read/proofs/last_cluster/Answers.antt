@@ -8,7 +8,6 @@ use Rattle.fat_chain.specs.Links.{links}
 use Rattle.model.proofs.Needed.{needed_some}
 use Rattle.fat_chain.proofs.Links.{links_none}
 use Rattle.file_read.proofs.Laws.{link_inside, last_none, last_is}
-use borrow.Author.Rules.{rules}
 use Rattle.file_read.proofs.last_cluster.Goals as goal
 
 pub returns-then-f-eq0 : goal.returns-then-f-eq0

@@ -1,7 +1,6 @@
 use native.Mathlib.Omega.{arith}
 use Rattle.model.specs.Sector.{card_of}
 use Rattle.file_read.proofs.Laws.{read_none}
-use borrow.Author.Rules.{rules}
 use Rattle.file_read.proofs.read_file.Goals as goal
 
 pub returns-then-wider-offset : goal.returns-then-wider-offset

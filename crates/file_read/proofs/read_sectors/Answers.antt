@@ -1,7 +1,6 @@
 use Prim.Native.Nat.{◌+◌, ◌*◌}
 use native.Mathlib.Omega.{arith}
 use Rattle.file_read.proofs.Laws.{read_sectors_is}
-use borrow.Author.Rules.{rules}
 use Rattle.file_read.proofs.read_sectors.Goals as goal
 
 pub returns : goal.returns

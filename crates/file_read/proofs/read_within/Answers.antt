@@ -1,15 +1,13 @@
-use mathlib.Core.Path.{◌≡◌, refl, sym}
+use mathlib.Core.Path.{refl, sym}
 use Prim.Native.Nat.{ℕ, ◌+◌, ◌-◌, ◌*◌, ◌/◌, ◌%◌, ◌≤◌, ◌<◌}
 use native.Mathlib.Nat.{div-le_self}
 use native.Mathlib.Omega.{arith}
-use lib.ListN.{length, get_or}
-use Rattle.model.specs.Bytes.{bytes_of, overlay, part}
+use Rattle.model.specs.Bytes.{bytes_of, part}
 use Rattle.model.specs.Sector.{card_of}
 use Rattle.model.specs.Fat.{entry, fat1_of}
 use Rattle.model.specs.Chain.{needed}
 use Rattle.model.proofs.Overlays.{overlay_none}
 use Rattle.model.proofs.Needed.{div_mono}
-use Rattle.fat_chain.specs.Links.{links}
 use Rattle.fat_chain.proofs.Links.{links_none}
 use Rattle.file_read.proofs.Laws.{links_on, link_inside, reaches, in_needed, along, read_more, read_on, read_all}
 use borrow.Author.Rules.{rules}

@@ -1,7 +1,6 @@
 use mathlib.Core.Path.{refl}
 use native.Mathlib.Omega.{arith}
 use Rattle.operations.proofs.DataStores.{in_data}
-use borrow.Author.Rules.{rules}
 use Rattle.file_read.proofs.sector_in.Goals as goal
 
 pub overflow_add-result : goal.overflow_add-result

@@ -3,7 +3,6 @@ use Rattle.model.specs.Sector.{card_of}
 use Rattle.model.specs.Fat.{entry, fat1_of}
 use Rattle.fat_chain.proofs.Links.{links_none}
 use Rattle.file_read.proofs.Laws.{run_ahead}
-use borrow.Author.Rules.{rules}
 use Rattle.file_read.proofs.sectors_ahead.Goals as goal
 
 pub run_length-requires : goal.run_length-requires

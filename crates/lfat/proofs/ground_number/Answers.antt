@@ -1,4 +1,3 @@
-use borrow.Author.Rules.{rules}
 use Rattle.lfat.proofs.ground_number.Goals as goal
 
 pub returns-in-Short : goal.returns-in-Short

@@ -1,6 +1,5 @@
 use mathlib.Core.Path.{ap, ◌∙◌}
 use Rattle.operations.specs.Outcome.{outcome_number}
-use borrow.Author.Rules.{rules}
 use Rattle.lfat.proofs.lfat_fits.Goals as goal
 
 pub returns : goal.returns

@@ -1,5 +1,4 @@
 use Rattle.lfat.proofs.Laws.{answered}
-use borrow.Author.Rules.{rules}
 use Rattle.lfat.proofs.lfat_long_name.Goals as goal
 
 pub returns : goal.returns

@@ -1,5 +1,4 @@
 use Rattle.lfat.proofs.Laws.{called}
-use borrow.Author.Rules.{rules}
 use Rattle.lfat.proofs.lfat_replace.Goals as goal
 
 pub returns : goal.returns

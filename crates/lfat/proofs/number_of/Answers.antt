@@ -1,6 +1,4 @@
 use native.Mathlib.Omega.{arith}
-use Rattle.model.specs.Ground.{ground_number}
-use borrow.Author.Rules.{rules}
 use Rattle.lfat.proofs.number_of.Goals as goal
 
 pub returns-in-Refused : goal.returns-in-Refused

@@ -1,10 +1,7 @@
-use mathlib.Core.Path.{◌≡◌, refl}
-use Prim.Native.Nat.{◌-◌, ◌≤◌}
+use mathlib.Core.Path.{refl}
 use native.Mathlib.Omega.{arith}
-use lib.ListN.{length}
 use Rattle.model.specs.Bytes.{view}
-use Rattle.listing.proofs.Fills.{Upto, upto_none, upto_more, filled_full, filled_done}
-use borrow.Author.Rules.{rules}
+use Rattle.listing.proofs.Fills.{upto_none, upto_more, filled_full, filled_done}
 use Rattle.listing.proofs.fill.Goals as goal
 
 pub loop-i-init : goal.loop-i-init

@@ -1,10 +1,8 @@
-use mathlib.Core.Path.{◌≡◌, refl}
+use mathlib.Core.Path.{◌≡◌}
 use Prim.Native.Nat.{◌-◌, ◌≤◌}
-use native.Mathlib.Omega.{arith}
 use lib.ListN.{length}
 use Rattle.model.specs.Bytes.{view}
-use Rattle.listing.proofs.Fills.{Upto, upto_none, upto_more, filled_full, filled_done}
-use borrow.Author.Rules.{rules}
+use Rattle.listing.proofs.Fills.{Upto}
 use Rattle.listing.proofs.fill.Given as goal
 
 abbrev pub invariant-loop-i : goal.invariant-loop-i

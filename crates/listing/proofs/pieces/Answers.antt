@@ -1,10 +1,8 @@
 use mathlib.Core.Path.{sym, ◌∙◌}
 use native.Mathlib.Omega.{arith}
 use Rattle.model.specs.Bytes.{view}
-use Rattle.model.specs.Listing.{is_table}
 use Rattle.listing.specs.Pieces.{pieces}
 use Rattle.listing.proofs.Whole.{table_short}
-use borrow.Author.Rules.{rules}
 use Rattle.listing.proofs.pieces.Goals as goal
 
 pub overflow_cast-result : goal.overflow_cast-result

@@ -3,10 +3,8 @@ use native.Mathlib.Omega.{arith}
 use Rattle.model.specs.Bytes.{view}
 use Rattle.model.specs.Text.{ascii, line}
 use Rattle.listing_text.proofs.Buffer.{wrote_then}
-use Rattle.model.specs.Listing.{is_table}
 use Rattle.listing.specs.Pieces.{heading}
 use Rattle.listing.proofs.Whole.{table_short}
-use borrow.Author.Rules.{rules}
 use Rattle.listing.proofs.put_heading.Goals as goal
 
 pub overflow_cast-sectors : goal.overflow_cast-sectors

@@ -4,7 +4,6 @@ use borrow.Author.Tests.{not-true, not-false}
 use Rattle.listing_text.proofs.Buffer.{wrote_none}
 use Rattle.listing.specs.Pieces.{record_text}
 use Rattle.listing.proofs.Whole.{line_told}
-use borrow.Author.Rules.{rules}
 use Rattle.listing.proofs.put_line.Goals as goal
 
 pub returns-then-not-tells : goal.returns-then-not-tells

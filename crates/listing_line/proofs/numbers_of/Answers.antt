@@ -2,7 +2,6 @@ use mathlib.Core.Path.{◌∙◌}
 use native.Mathlib.Omega.{arith}
 use Rattle.listing_line.specs.Words.{numbers}
 use Rattle.listing_line.proofs.Laws.{record_number}
-use borrow.Author.Rules.{rules}
 use Rattle.listing_line.proofs.numbers_of.Goals as goal
 
 pub returns : goal.returns

@@ -7,7 +7,6 @@ use Rattle.model.specs.Sector.{card_of}
 use Rattle.listing_text.proofs.Buffer.{wrote_then}
 use Rattle.listing_line.specs.Words.{head_text}
 use Rattle.listing_line.proofs.Laws.{record_byte}
-use borrow.Author.Rules.{rules}
 use Rattle.listing_line.proofs.put_head.Goals as goal
 
 pub returns : goal.returns

@@ -3,7 +3,6 @@ use borrow.Author.Tests.{ne_eqb}
 use Rattle.model.specs.Text.{ascii}
 use Rattle.model.specs.Listing.{op_word}
 use Rattle.listing_line.specs.Words.{operation_text}
-use borrow.Author.Rules.{rules}
 use Rattle.listing_line.proofs.put_operation.Goals as goal
 
 pub returns-in-0 : goal.returns-in-0

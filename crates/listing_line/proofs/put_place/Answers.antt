@@ -1,7 +1,6 @@
 use native.Mathlib.Omega.{arith}
 use Rattle.listing_text.proofs.Buffer.{wrote_then}
 use Rattle.listing_line.specs.Words.{place_text}
-use borrow.Author.Rules.{rules}
 use Rattle.listing_line.proofs.put_place.Goals as goal
 
 pub returns : goal.returns

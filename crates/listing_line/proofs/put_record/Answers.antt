@@ -3,7 +3,6 @@ use native.Mathlib.Omega.{arith}
 use Rattle.model.specs.Bytes.{bytes_of, part}
 use Rattle.listing_text.proofs.Buffer.{wrote_then}
 use Rattle.listing_line.proofs.Laws.{line_is}
-use borrow.Author.Rules.{rules}
 use Rattle.listing_line.proofs.put_record.Goals as goal
 
 pub returns : goal.returns

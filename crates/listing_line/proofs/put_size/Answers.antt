@@ -2,7 +2,6 @@ use native.Mathlib.Omega.{arith}
 use Rattle.model.specs.Text.{ascii}
 use Rattle.listing_text.proofs.Buffer.{wrote_then}
 use Rattle.listing_line.specs.Words.{size_text}
-use borrow.Author.Rules.{rules}
 use Rattle.listing_line.proofs.put_size.Goals as goal
 
 pub returns : goal.returns

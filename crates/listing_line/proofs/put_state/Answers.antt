@@ -3,7 +3,6 @@ use borrow.Author.Tests.{eq-eqb, ne_eqb}
 use Rattle.model.specs.Text.{ascii}
 use Rattle.model.specs.Listing.{state_word}
 use Rattle.listing_line.specs.Words.{state_text}
-use borrow.Author.Rules.{rules}
 use Rattle.listing_line.proofs.put_state.Goals as goal
 
 pub returns-then-b-eq229 : goal.returns-then-b-eq229

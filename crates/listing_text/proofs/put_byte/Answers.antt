@@ -1,6 +1,5 @@
 use native.Mathlib.Omega.{arith}
 use Rattle.listing_text.proofs.Buffer.{wrote_byte}
-use borrow.Author.Rules.{rules}
 use Rattle.listing_text.proofs.put_byte.Goals as goal
 
 pub returns : goal.returns

@@ -1,7 +1,6 @@
 use native.Mathlib.Omega.{arith}
 use Rattle.listing_text.proofs.Decimal.{decimal_short}
 use Rattle.listing_text.proofs.Buffer.{wrote_then}
-use borrow.Author.Rules.{rules}
 use Rattle.listing_text.proofs.put_field.Goals as goal
 
 pub put_decimal-requires : goal.put_decimal-requires

@@ -4,7 +4,6 @@ use Rattle.model.specs.Bytes.{bytes_of, part}
 use Rattle.listing_text.specs.Wrote.{trimmed_length}
 use Rattle.listing_text.proofs.Buffer.{wrote_then}
 use Rattle.listing_text.proofs.Shown.{part_part, name_short, name_long}
-use borrow.Author.Rules.{rules}
 use Rattle.listing_text.proofs.put_name.Goals as goal
 
 pub returns-then-e-eq0 : goal.returns-then-e-eq0

@@ -1,8 +1,8 @@
 use mathlib.Core.Path.{◌≡◌, sym}
-use Prim.Native.Nat.{ℕ, ◌+◌, ◌-◌, ◌≤◌}
+use Prim.Native.Nat.{◌+◌}
 use native.Mathlib.Omega.{arith}
-use lib.ListN.{length, get_or}
-use Rattle.model.specs.Bytes.{bytes_of, part, overlay}
+use lib.ListN.{get_or}
+use Rattle.model.specs.Bytes.{bytes_of, part}
 use Rattle.model.proofs.Overlays.{overlay_none, overlay_more}
 use Rattle.model.specs.Listing.{shown_byte}
 use Rattle.listing_text.proofs.Shown.{wrote_shown}

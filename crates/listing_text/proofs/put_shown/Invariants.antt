@@ -1,12 +1,8 @@
-use mathlib.Core.Path.{◌≡◌, sym}
+use mathlib.Core.Path.{◌≡◌}
 use Prim.Native.Nat.{ℕ, ◌+◌, ◌-◌, ◌≤◌}
-use native.Mathlib.Omega.{arith}
 use lib.ListN.{length, get_or}
-use Rattle.model.specs.Bytes.{bytes_of, part, overlay}
-use Rattle.model.proofs.Overlays.{overlay_none, overlay_more}
+use Rattle.model.specs.Bytes.{bytes_of, overlay}
 use Rattle.model.specs.Listing.{shown_byte}
-use Rattle.listing_text.proofs.Shown.{wrote_shown}
-use borrow.Author.Rules.{rules}
 use Rattle.listing_text.proofs.put_shown.Given as goal
 
 abbrev pub invariant-loop-i : goal.invariant-loop-i

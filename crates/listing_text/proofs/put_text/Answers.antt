@@ -1,8 +1,8 @@
 use mathlib.Core.Path.{◌≡◌, refl, sym, ap}
-use Prim.Native.Nat.{ℕ, ◌+◌, ◌-◌, ◌≤◌}
+use Prim.Native.Nat.{ℕ, ◌+◌}
 use native.Mathlib.Omega.{arith}
-use lib.ListN.{length, get_or}
-use Rattle.model.specs.Bytes.{bytes_of, overlay}
+use lib.ListN.{length}
+use Rattle.model.specs.Bytes.{bytes_of}
 use Rattle.model.proofs.Overlays.{overlay_none, overlay_more}
 use borrow.Author.Rules.{rules}
 use Rattle.listing_text.proofs.put_text.Goals as goal

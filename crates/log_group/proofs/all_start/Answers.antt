@@ -1,11 +1,11 @@
-use Prim.Native.Nat.{◌-◌, ◌*◌, ◌≤◌}
+use Prim.Native.Nat.{◌*◌}
 use native.Mathlib.Omega.{arith}
 use mathlib.Core.Path.{sym, ◌∙◌}
 use mathlib.Core.Bool.{true}
 use borrow.Author.Tests.{not-true, not-false}
 use Rattle.model.specs.Sector.{card_of}
 use Rattle.model.specs.Record.{starts}
-use Rattle.model.proofs.Scan.{Sofar, sofar_none, sofar_more, all_of0, all_not}
+use Rattle.model.proofs.Scan.{sofar_none, sofar_more, all_of0, all_not}
 use borrow.Author.Rules.{rules}
 use Rattle.log_group.proofs.all_start.Goals as goal
 

@@ -1,12 +1,8 @@
 use Prim.Native.Nat.{◌-◌, ◌*◌, ◌≤◌}
-use native.Mathlib.Omega.{arith}
-use mathlib.Core.Path.{sym, ◌∙◌}
 use mathlib.Core.Bool.{true}
-use borrow.Author.Tests.{not-true, not-false}
 use Rattle.model.specs.Sector.{card_of}
 use Rattle.model.specs.Record.{starts}
-use Rattle.model.proofs.Scan.{Sofar, sofar_none, sofar_more, all_of0, all_not}
-use borrow.Author.Rules.{rules}
+use Rattle.model.proofs.Scan.{Sofar}
 use Rattle.log_group.proofs.all_start.Given as goal
 
 abbrev pub invariant-loop-k : goal.invariant-loop-k

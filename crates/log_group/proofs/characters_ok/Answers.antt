@@ -6,7 +6,6 @@ use Rattle.model.specs.Sector.{card_of}
 use Rattle.model.specs.Record.{text_start, text_room, change_of}
 use Rattle.model.specs.Pending.{characters_ok}
 use Rattle.log_group.proofs.Laws.{text_few, lent_length, lent_allowed}
-use borrow.Author.Rules.{rules}
 use Rattle.log_group.proofs.characters_ok.Goals as goal
 
 pub long_slots-requires : goal.long_slots-requires

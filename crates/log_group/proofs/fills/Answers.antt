@@ -3,7 +3,6 @@ use Rattle.model.specs.Sector.{card_of}
 use Rattle.model.specs.Record.{record_at}
 use Rattle.model.specs.declared.Record.{Record}
 use Rattle.log_group.proofs.Laws.{fills_create, fills_none}
-use borrow.Author.Rules.{rules}
 use Rattle.log_group.proofs.fills.Goals as goal
 
 pub returns-then-r-eq1 : goal.returns-then-r-eq1

@@ -7,7 +7,6 @@ use Rattle.model.specs.Scan.{every, all}
 use Rattle.model.specs.Record.{change_of, starts}
 use Rattle.model.specs.Pending.{group_ok}
 use Rattle.model.proofs.Tests.{every_not}
-use borrow.Author.Rules.{rules}
 use Rattle.log_group.proofs.group_ok.Goals as goal
 
 pub returns-then-not-records_ok : goal.returns-then-not-records_ok

@@ -2,7 +2,6 @@ use mathlib.Core.Path.{ap, ◌∙◌}
 use lib.ListN.{length}
 use Rattle.model.specs.Record.{operation_records, group_size}
 use Rattle.model.specs.declared.Operation.{Operation}
-use borrow.Author.Rules.{rules}
 use Rattle.log_group.proofs.group_size.Goals as goal
 
 pub returns : goal.returns

@@ -1,12 +1,8 @@
 use mathlib.Core.Path.{sym, ◌∙◌}
-use mathlib.Core.Bool.{true}
-use Prim.Native.Nat.{◌-◌, ◌≤◌}
 use native.Mathlib.Omega.{arith}
-use lib.Dec.{eqb}
 use borrow.Author.Tests.{eq-eqb, ne_eqb}
-use Rattle.model.specs.Sector.{card_of}
 use Rattle.model.specs.Pending.{empty_from}
-use Rattle.model.proofs.Scan.{Sofar, sofar_none, sofar_more, sofar_cut, all_of, all_not}
+use Rattle.model.proofs.Scan.{sofar_none, sofar_more, sofar_cut, all_of, all_not}
 use borrow.Author.Rules.{rules}
 use Rattle.log_group.proofs.is_empty.Goals as goal
 

@@ -4,7 +4,6 @@ use Rattle.model.specs.Record.{entry_in, record_at}
 use Rattle.model.specs.declared.Record.{Record}
 use Rattle.model.specs.declared.Operation.TheVariants.{Create, Update, Delete, Truncate, Rename, Replace}
 use Rattle.log_group.proofs.Laws.{told_create, told_update, told_delete, told_truncate, told_rename, told_replace}
-use borrow.Author.Rules.{rules}
 use Rattle.log_group.proofs.operation_at.Goals as goal
 
 pub returns-in-1 : goal.returns-in-1

@@ -2,10 +2,9 @@ use Prim.Native.Nat.{◌+◌, ◌/◌}
 use mathlib.Core.Path.{◌∙◌}
 use lib.ListN.{length}
 use Rattle.model.specs.Sector.{card_of}
-use Rattle.model.specs.Record.{operation_records, group_size, text_length, text_in}
+use Rattle.model.specs.Record.{operation_records, group_size, text_in}
 use Rattle.model.specs.Record.{with_text, records, group_records, group_in, change_of}
 use Rattle.log_group.proofs.Laws.{text_fits}
-use borrow.Author.Rules.{rules}
 use Rattle.log_group.proofs.plan_at.Goals as goal
 
 pub group_records-requires : goal.group_records-requires

@@ -1,7 +1,6 @@
 use mathlib.Core.Path.{refl}
 use native.Mathlib.Omega.{arith}
 use Rattle.model.specs.Record.{operation_records}
-use borrow.Author.Rules.{rules}
 use Rattle.log_group.proofs.records_of.Goals as goal
 
 pub returns-in-Create : goal.returns-in-Create

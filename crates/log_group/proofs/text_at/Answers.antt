@@ -8,7 +8,6 @@ use Rattle.model.specs.Record.{text_start, text_room}
 use Rattle.model.specs.Sector.{card_of}
 use Rattle.model.proofs.Lists.{all_zero}
 use Rattle.log_group.proofs.Laws.{text_none, copied_text}
-use borrow.Author.Rules.{rules}
 use Rattle.log_group.proofs.text_at.Goals as goal
 
 pub returns-then-not-leads : goal.returns-then-not-leads

@@ -5,7 +5,6 @@ use borrow.Author.Tests.{not-true, not-false}
 use Rattle.model.specs.Sector.{card_of}
 use Rattle.model.specs.Record.{text_start, text_room, text_length}
 use Rattle.log_group.proofs.Laws.{none_there, lent_length, lent_text}
-use borrow.Author.Rules.{rules}
 use Rattle.log_group.proofs.text_length.Goals as goal
 
 pub returns-then-not-leads : goal.returns-then-not-leads

@@ -1,6 +1,5 @@
 use borrow.Author.Tests.{le-leb, lt-leb}
 use Rattle.model.specs.Pending.{count_ok}
-use borrow.Author.Rules.{rules}
 use Rattle.log_record.proofs.count_ok.Goals as goal
 
 pub returns-then-most_counted-r : goal.returns-then-most_counted-r

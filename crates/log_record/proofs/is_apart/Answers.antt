@@ -1,4 +1,3 @@
-use Prim.Native.Nat.{◌-◌, ◌≤◌}
 use native.Mathlib.Omega.{arith}
 use mathlib.Core.Path.{sym, ap, ◌∙◌}
 use mathlib.Core.Bool.{true, not}
@@ -8,7 +7,7 @@ use Rattle.model.specs.Long.{name_slots}
 use Rattle.model.specs.Record.{record_at}
 use Rattle.model.specs.Pending.{apart}
 use Rattle.model.specs.declared.Record.{Record}
-use Rattle.model.proofs.Scan.{Sofar, sofar_none, sofar_more, all_of0, all_not}
+use Rattle.model.proofs.Scan.{sofar_none, sofar_more, all_of0, all_not}
 use borrow.Author.Rules.{rules}
 use Rattle.log_record.proofs.is_apart.Goals as goal
 

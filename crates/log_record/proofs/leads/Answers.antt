@@ -3,7 +3,6 @@ use Rattle.model.specs.Record.{leads}
 use Rattle.model.specs.Scan.{every}
 use mathlib.Core.Path.{sym}
 use mathlib.Core.Bool.{and-true}
-use borrow.Author.Rules.{rules}
 use Rattle.log_record.proofs.leads.Goals as goal
 
 pub returns-then-byte-eq0 : goal.returns-then-byte-eq0

@@ -2,7 +2,6 @@ use borrow.Author.Tests.{lt-ltb}
 use Prim.Native.Nat.{◌*◌}
 use Rattle.model.specs.Sector.{card_of}
 use Rattle.log_record.proofs.Laws.{loaded}
-use borrow.Author.Rules.{rules}
 use Rattle.log_record.proofs.load.Goals as goal
 
 pub returns : goal.returns

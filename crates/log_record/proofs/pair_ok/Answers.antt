@@ -7,7 +7,6 @@ use Rattle.model.specs.Record.{record_at}
 use Rattle.model.specs.Pending.{slot_ok, alike, apart, pair_ok}
 use Rattle.model.specs.declared.Record.{Record}
 use Rattle.model.proofs.Tests.{every_not}
-use borrow.Author.Rules.{rules}
 use Rattle.log_record.proofs.pair_ok.Goals as goal
 
 pub returns-then-not-is_alike : goal.returns-then-not-is_alike

@@ -1,7 +1,6 @@
 use mathlib.Core.Path.{sym, ap, ◌∙◌}
 use borrow.Author.Tests.{eq-eqb, ne_eqb}
 use Rattle.model.specs.Pending.{is_stamp, part_ok}
-use borrow.Author.Rules.{rules}
 use Rattle.log_record.proofs.part_ok.Goals as goal
 
 pub returns-then-operation-eq5 : goal.returns-then-operation-eq5

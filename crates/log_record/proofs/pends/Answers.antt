@@ -1,7 +1,6 @@
 use borrow.Author.Tests.{not-true, not-false}
 use mathlib.Core.Path.{sym, ◌∙◌}
 use Rattle.model.specs.Record.{pends}
-use borrow.Author.Rules.{rules}
 use Rattle.log_record.proofs.pends.Goals as goal
 
 pub returns-then-not-tells : goal.returns-then-not-tells

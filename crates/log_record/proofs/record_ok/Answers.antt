@@ -3,8 +3,7 @@ use mathlib.Core.Bool.{and-true, and-false}
 use borrow.Author.Tests.{lt-ltb, le-ltb, le-leb, lt-leb, eq-eqb, ne_eqb, not-true, not-false}
 use Rattle.model.specs.Scan.{every, between}
 use Rattle.model.proofs.Tests.{every_not}
-use Rattle.model.specs.Pending.{slot_ok, record_ok}
-use borrow.Author.Rules.{rules}
+use Rattle.model.specs.Pending.{record_ok}
 use Rattle.log_record.proofs.record_ok.Goals as goal
 
 pub returns-then-r-lt1 : goal.returns-then-r-lt1

@@ -1,4 +1,4 @@
-use Prim.Native.Nat.{◌-◌, ◌≤◌}
+use Prim.Native.Nat.{◌-◌}
 use native.Mathlib.Omega.{arith}
 use mathlib.Core.Path.{◌≡◌, sym, ap, ◌∙◌}
 use mathlib.Core.Bool.{true}
@@ -8,7 +8,7 @@ use Rattle.model.specs.Record.{record_at, group_size}
 use Rattle.model.specs.Pending.{record_ok, part_ok, records_ok}
 use Rattle.model.specs.declared.Record.{Record}
 use Rattle.model.proofs.Tests.{every_not, each_every, ◌also◌}
-use Rattle.model.proofs.Scan.{Sofar, sofar_none, sofar_more, all_of, all_not}
+use Rattle.model.proofs.Scan.{sofar_none, sofar_more, all_of, all_not}
 use borrow.Author.Rules.{rules}
 use Rattle.log_record.proofs.records_ok.Goals as goal
 

@@ -1,5 +1,4 @@
 use borrow.Author.Tests.{eq-eqb, ne_eqb}
-use borrow.Author.Rules.{rules}
 use Rattle.log_record.proofs.starts.Goals as goal
 
 pub returns-then-b-eq0 : goal.returns-then-b-eq0

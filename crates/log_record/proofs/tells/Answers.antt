@@ -2,7 +2,6 @@ use borrow.Author.Tests.{eq-eqb, ne_eqb}
 use mathlib.Core.Path.{ap}
 use mathlib.Core.Bool.{not}
 use Rattle.model.specs.Record.{tells}
-use borrow.Author.Rules.{rules}
 use Rattle.log_record.proofs.tells.Goals as goal
 
 pub returns-then-byte-eq0 : goal.returns-then-byte-eq0

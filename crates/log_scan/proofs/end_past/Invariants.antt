@@ -1,16 +1,12 @@
 use Prim.Native.Nat.{◌-◌, ◌≤◌}
-use mathlib.Core.Path.{sym, ◌∙◌}
 use mathlib.Core.Bool.{false}
-use native.Mathlib.Omega.{arith}
 use lib.Dec.{eqb}
 use Rattle.model.specs.Bytes.{pick}
 use Rattle.model.specs.Scan.{among}
 use Rattle.model.specs.Sector.{card_of}
-use Rattle.model.specs.Root.{first_bytes, end_slot}
-use Rattle.model.specs.Pending.{named_slots, end_past}
-use Rattle.model.proofs.Order.{seen_before, seen_up}
-use Rattle.model.proofs.Scan.{Sofar, sofar_more, none_below, first_is}
-use borrow.Author.Rules.{rules}
+use Rattle.model.specs.Root.{first_bytes}
+use Rattle.model.specs.Pending.{named_slots}
+use Rattle.model.proofs.Scan.{Sofar}
 use Rattle.log_scan.proofs.end_past.Given as goal
 
 abbrev pub invariant-loop-k : goal.invariant-loop-k

@@ -4,7 +4,6 @@ use native.Mathlib.Omega.{arith}
 use lib.ListN.{length}
 use Rattle.model.specs.Sector.{card_of}
 use Rattle.log_scan.proofs.Laws.{alone_is}
-use borrow.Author.Rules.{rules}
 use Rattle.log_scan.proofs.is_alone.Goals as goal
 
 pub returns : goal.returns

@@ -1,5 +1,4 @@
 use mathlib.Core.Path.{sym, ◌∙◌}
-use borrow.Author.Rules.{rules}
 use Rattle.log_scan.proofs.is_open.Goals as goal
 
 pub returns-then-names : goal.returns-then-names

@@ -4,8 +4,6 @@ use native.Mathlib.Omega.{arith}
 use lib.ListN.{length}
 use borrow.Author.Tests.{eq-eqb, ne_eqb, not-true, not-false}
 use Rattle.model.specs.Sector.{card_of}
-use Rattle.model.specs.Record.{group_size}
-use Rattle.model.specs.Pending.{group_ok}
 use Rattle.log_scan.proofs.Laws.{judged_at}
 use borrow.Author.Rules.{rules}
 use Rattle.log_scan.proofs.judge.Goals as goal

@@ -1,7 +1,6 @@
 use Prim.Native.Nat.{◌+◌, ◌*◌, ◌-◌}
 use native.Mathlib.Omega.{arith}
 use Rattle.log_scan.proofs.Laws.{place_part}
-use borrow.Author.Rules.{rules}
 use Rattle.log_scan.proofs.place_in.Goals as goal
 
 pub returns : goal.returns

@@ -1,12 +1,8 @@
-use mathlib.Core.Path.{sym, ◌∙◌}
 use mathlib.Core.Bool.{false}
 use Prim.Native.Nat.{◌+◌, ◌*◌, ◌-◌, ◌≤◌}
-use native.Mathlib.Omega.{arith}
 use Rattle.model.specs.Sector.{card_of}
 use Rattle.model.specs.Pending.{pending_at}
-use Rattle.model.proofs.Scan.{Sofar, sofar_none, sofar_more}
-use Rattle.log_scan.proofs.Laws.{at_place, blank_idle, place_none, place_found}
-use borrow.Author.Rules.{rules}
+use Rattle.model.proofs.Scan.{Sofar}
 use Rattle.log_scan.proofs.scan.Given as goal
 
 abbrev pub invariant-loop-r : goal.invariant-loop-r

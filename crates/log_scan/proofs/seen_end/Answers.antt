@@ -5,7 +5,6 @@ use Rattle.model.specs.Root.{first_bytes}
 use Rattle.model.specs.Log.{log_of}
 use Rattle.model.specs.Pending.{first_pending, end_past}
 use Rattle.log_scan.proofs.Laws.{placed}
-use borrow.Author.Rules.{rules}
 use Rattle.log_scan.proofs.seen_end.Goals as goal
 
 pub overflow_add-a : goal.overflow_add-a

@@ -1,7 +1,6 @@
 use mathlib.Core.Path.{ap}
 use Rattle.model.specs.Bytes.{Bytes}
 use Rattle.model.specs.Sector.{Store}
-use borrow.Author.Rules.{rules}
 use Rattle.log_steps.proofs.commit.Goals as goal
 
 pub returns : goal.returns

@@ -6,7 +6,6 @@ use Rattle.model.specs.Fat.{fat1_of, fat2_of, write_fat}
 use Rattle.model.proofs.Runs.{ran_stop, ran_then}
 use Rattle.operations.specs.Finish.{root_stores, finish}
 use Rattle.log_steps.proofs.Kept.{root_kept}
-use borrow.Author.Rules.{rules}
 use Rattle.log_steps.proofs.finish.Goals as goal
 
 pub returns-then-not-fats : goal.returns-then-not-fats

@@ -1,7 +1,5 @@
 use mathlib.Core.Path.{◌≡◌, sym, ◌∙◌}
-use Prim.Native.Nat.{ℕ, ◌-◌, ◌≤◌}
 use native.Mathlib.Omega.{arith}
-use lib.ListN.{length, get_or}
 use Rattle.model.specs.Bytes.{bytes_of}
 use Rattle.model.specs.Sector.{card_of}
 use Rattle.model.specs.Record.{committed}

@@ -1,13 +1,8 @@
-use mathlib.Core.Path.{◌≡◌, sym, ◌∙◌}
+use mathlib.Core.Path.{◌≡◌}
 use Prim.Native.Nat.{ℕ, ◌-◌, ◌≤◌}
-use native.Mathlib.Omega.{arith}
 use lib.ListN.{length, get_or}
 use Rattle.model.specs.Bytes.{bytes_of}
-use Rattle.model.specs.Sector.{card_of}
 use Rattle.model.specs.Record.{committed}
-use Rattle.model.proofs.Cards.{clip_same}
-use Rattle.model.proofs.Pieces.{loaded_at, committed_agree, committed_none, committed_more}
-use borrow.Author.Rules.{rules}
 use Rattle.log_steps.proofs.marked.Given as goal
 
 abbrev pub invariant-loop-k : goal.invariant-loop-k

@@ -3,7 +3,6 @@ use mathlib.Core.Path.{refl, ◌∙◌}
 use lib.ListN.{length}
 use Rattle.model.specs.Bytes.{bytes_of}
 use Rattle.model.specs.Record.{operation_records, with_text, records, group_records}
-use borrow.Author.Rules.{rules}
 use Rattle.log_steps.proofs.plan_for.Goals as goal
 
 pub text_length-requires : goal.text_length-requires

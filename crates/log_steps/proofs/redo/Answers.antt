@@ -7,7 +7,6 @@ use Rattle.model.proofs.Runs.{ran_stop, ran_then}
 use Rattle.operations.specs.Finish.{finish}
 use Rattle.operations.proofs.Roots.{redo_stores}
 use Rattle.log_steps.proofs.Kept.{group_kept}
-use borrow.Author.Rules.{rules}
 use Rattle.log_steps.proofs.redo.Goals as goal
 
 pub returns-then-not-done : goal.returns-then-not-done

@@ -2,7 +2,6 @@ use borrow.Author.Tests.{not-true, not-false}
 use Rattle.model.specs.Bytes.{bytes_of}
 use Rattle.model.specs.Record.{planned}
 use Rattle.log_steps.proofs.Laws.{group_steps_cut, group_steps_ran}
-use borrow.Author.Rules.{rules}
 use Rattle.log_steps.proofs.store_and_redo.Goals as goal
 
 pub returns-then-not-stored : goal.returns-then-not-stored

@@ -1,10 +1,6 @@
-use mathlib.Core.Path.{◌≡◌, refl}
-use mathlib.Core.Bool.{true}
-use Prim.Native.Nat.{◌-◌, ◌≤◌}
+use mathlib.Core.Path.{refl}
 use native.Mathlib.Omega.{arith}
-use lib.ListN.{length}
 use borrow.Author.Tests.{not-true, not-false}
-use Rattle.model.specs.Promises.{Ran, up_to}
 use Rattle.model.proofs.Runs.{turns_none, turns_more, turns_cut}
 use Rattle.log_write.proofs.Laws.{clear_turn, clear_turns, clear_end}
 use borrow.Author.Rules.{rules}

@@ -1,7 +1,6 @@
 use borrow.Author.Tests.{lt-ltb, le-ltb}
 use Rattle.model.proofs.Runs.{ran_none}
 use Rattle.operations.specs.Plan.{clearing}
-use borrow.Author.Rules.{rules}
 use Rattle.log_write.proofs.clear_log.Goals as goal
 
 pub returns-then-unused_sector-a : goal.returns-then-unused_sector-a

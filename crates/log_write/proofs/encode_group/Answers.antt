@@ -3,7 +3,6 @@ use mathlib.Core.Path.{ap, ◌∙◌}
 use lib.ListN.{length}
 use Rattle.model.specs.Bytes.{bytes_of, overlay, part}
 use Rattle.log_write.proofs.Laws.{text_laid}
-use borrow.Author.Rules.{rules}
 use Rattle.log_write.proofs.encode_group.Goals as goal
 
 pub returns : goal.returns

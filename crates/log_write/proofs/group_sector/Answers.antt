@@ -1,7 +1,6 @@
 use native.Mathlib.Omega.{arith}
 use borrow.Author.Tests.{lt-ltb, le-ltb}
 use Rattle.operations.specs.Plan.{group_sector}
-use borrow.Author.Rules.{rules}
 use Rattle.log_write.proofs.group_sector.Goals as goal
 
 pub returns-then-u-a : goal.returns-then-u-a

@@ -1,8 +1,7 @@
-use Prim.Native.Nat.{ℕ, ◌-◌, ◌*◌, ◌≤◌}
+use Prim.Native.Nat.{ℕ, ◌*◌}
 use native.Mathlib.Omega.{arith}
-use mathlib.Core.Path.{◌≡◌, ap, ◌∙◌}
+use mathlib.Core.Path.{ap, ◌∙◌}
 use mathlib.Core.List.{List, map}
-use lib.ListN.{length, take}
 use lib.Seq.{take_all}
 use Rattle.model.specs.Bytes.{bytes_of, overlay}
 use Rattle.model.specs.Record.{record_bytes, operation_records, lay}

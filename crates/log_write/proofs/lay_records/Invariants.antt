@@ -1,14 +1,9 @@
-use Prim.Native.Nat.{ℕ, ◌-◌, ◌*◌, ◌≤◌}
-use native.Mathlib.Omega.{arith}
-use mathlib.Core.Path.{◌≡◌, ap, ◌∙◌}
-use mathlib.Core.List.{List, map}
+use Prim.Native.Nat.{◌-◌, ◌≤◌}
+use mathlib.Core.Path.{◌≡◌}
+use mathlib.Core.List.{map}
 use lib.ListN.{length, take}
-use lib.Seq.{take_all}
-use Rattle.model.specs.Bytes.{bytes_of, overlay}
+use Rattle.model.specs.Bytes.{bytes_of}
 use Rattle.model.specs.Record.{record_bytes, operation_records, lay}
-use Rattle.model.specs.declared.Record.{Record}
-use Rattle.log_write.proofs.Laws.{lay_zeros, lay_next}
-use borrow.Author.Rules.{rules}
 use Rattle.log_write.proofs.lay_records.Given as goal
 
 abbrev pub invariant-loop-k : goal.invariant-loop-k

@@ -3,7 +3,6 @@ use Rattle.model.specs.Bytes.{Bytes, patch}
 use Rattle.model.specs.Record.{record_bytes}
 use Rattle.operations.specs.Finish.{set_name}
 use Rattle.model.proofs.Lists.{all_zero}
-use borrow.Author.Rules.{rules}
 use Rattle.log_write.proofs.record_bytes.Goals as goal
 
 pub returns : goal.returns

@@ -5,7 +5,6 @@ use lib.ListN.{get_or}
 use Rattle.model.specs.Bytes.{zeros}
 use Rattle.model.specs.Record.{record_in, stamp_record, operation_records}
 use Rattle.model.specs.declared.Record.{Record}
-use borrow.Author.Rules.{rules}
 use Rattle.log_write.proofs.record_of.Goals as goal
 
 pub stamped-requires : goal.stamped-requires

@@ -2,7 +2,6 @@ use mathlib.Core.Path.{ap}
 use Rattle.model.specs.Bytes.{Bytes}
 use Rattle.model.specs.Sector.{store}
 use Rattle.operations.specs.Plan.{group_store}
-use borrow.Author.Rules.{rules}
 use Rattle.log_write.proofs.store_group.Goals as goal
 
 pub returns : goal.returns

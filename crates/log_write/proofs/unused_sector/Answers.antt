@@ -1,10 +1,9 @@
 use mathlib.Core.Path.{sym, ◌∙◌}
-use Prim.Native.Nat.{◌-◌, ◌≤◌}
 use native.Mathlib.Omega.{arith}
 use mathlib.Core.Bool.{false}
 use borrow.Author.Tests.{eq-eqb, ne_eqb}
 use Rattle.model.specs.Log.{unused}
-use Rattle.model.proofs.Scan.{first_is, Sofar, sofar_none, sofar_more, none_below}
+use Rattle.model.proofs.Scan.{first_is, sofar_none, sofar_more, none_below}
 use Rattle.log_write.proofs.Laws.{begins_zero}
 use borrow.Author.Rules.{rules}
 use Rattle.log_write.proofs.unused_sector.Goals as goal

@@ -1,12 +1,7 @@
-use mathlib.Core.Path.{sym, ◌∙◌}
 use Prim.Native.Nat.{◌-◌, ◌≤◌}
-use native.Mathlib.Omega.{arith}
 use mathlib.Core.Bool.{false}
-use borrow.Author.Tests.{eq-eqb, ne_eqb}
-use Rattle.model.specs.Log.{unused}
-use Rattle.model.proofs.Scan.{first_is, Sofar, sofar_none, sofar_more, none_below}
+use Rattle.model.proofs.Scan.{Sofar}
 use Rattle.log_write.proofs.Laws.{begins_zero}
-use borrow.Author.Rules.{rules}
 use Rattle.log_write.proofs.unused_sector.Given as goal
 
 abbrev pub invariant-loop-k : goal.invariant-loop-k

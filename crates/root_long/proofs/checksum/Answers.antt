@@ -5,7 +5,6 @@ use Rattle.model.specs.Sector.{card_of}
 use Rattle.model.specs.Root.{slot_at}
 use Rattle.model.proofs.ReadBack.{sum_local}
 use Rattle.root_read.proofs.Laws.{slot_byte}
-use borrow.Author.Rules.{rules}
 use Rattle.root_long.proofs.checksum.Goals as goal
 
 pub returns : goal.returns

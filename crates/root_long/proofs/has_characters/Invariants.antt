@@ -1,15 +1,11 @@
-use mathlib.Core.Path.{sym, ap, ◌∙◌}
 use mathlib.Core.Bool.{true}
 use Prim.Native.Nat.{◌-◌, ◌≤◌}
-use native.Mathlib.Omega.{arith}
 use lib.Dec.{eqb}
-use borrow.Author.Tests.{eq-eqb, ne_eqb}
 use Rattle.model.specs.Bytes.{bytes_of}
 use Rattle.model.specs.Sector.{card_of}
 use Rattle.model.specs.Root.{slot_at}
 use Rattle.model.specs.LongName.{character, long_character}
-use Rattle.model.proofs.Scan.{Sofar, sofar_none, sofar_more, sofar_cut, all_of, all_not}
-use borrow.Author.Rules.{rules}
+use Rattle.model.proofs.Scan.{Sofar}
 use Rattle.root_long.proofs.has_characters.Given as goal
 
 abbrev pub invariant-loop-q : goal.invariant-loop-q

@@ -8,7 +8,6 @@ use Rattle.model.specs.Bytes.{bytes_of}
 use Rattle.model.specs.Scan.{every, all}
 use Rattle.model.specs.LongName.{character, long_character, has_text}
 use Rattle.model.proofs.Tests.{every_not}
-use borrow.Author.Rules.{rules}
 use Rattle.root_long.proofs.has_text.Goals as goal
 
 pub returns-then-not-is_listed : goal.returns-then-not-is_listed

@@ -4,7 +4,6 @@ use borrow.Author.Tests.{eq-eqb, ne_eqb}
 use Rattle.model.specs.Scan.{every}
 use Rattle.model.specs.Long.{is_long}
 use Rattle.model.proofs.Tests.{every_not}
-use borrow.Author.Rules.{rules}
 use Rattle.root_long.proofs.is_long.Goals as goal
 
 pub returns-then-slot_byte-order : goal.returns-then-slot_byte-order

@@ -2,7 +2,6 @@ use mathlib.Core.Path.{ap, ◌∙◌}
 use Prim.Native.Nat.{ℕ, ◌+◌, ◌-◌, ◌/◌, ◌%◌}
 use Rattle.model.specs.Sector.{card_of}
 use Rattle.model.specs.Root.{slot_at}
-use borrow.Author.Rules.{rules}
 use Rattle.root_long.proofs.long_byte.Goals as goal
 
 pub returns : goal.returns

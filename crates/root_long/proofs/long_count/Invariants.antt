@@ -1,14 +1,9 @@
-use Prim.Native.Nat.{ℕ, ◌+◌, ◌-◌, ◌≤◌}
-use native.Mathlib.Omega.{arith}
-use mathlib.Core.Path.{sym, ap, ◌∙◌}
+use Prim.Native.Nat.{◌-◌, ◌≤◌}
 use mathlib.Core.Bool.{true}
-use borrow.Author.Tests.{not-true, not-false}
 use Rattle.model.specs.Sector.{card_of}
-use Rattle.model.specs.Root.{Directory, slot_at}
-use Rattle.model.specs.Long.{checksum, is_long}
-use Rattle.model.proofs.Scan.{Sofar, sofar_none, sofar_more}
-use Rattle.model.proofs.Belong.{inner_test, count_past, count_over, count_found, count_broken}
-use borrow.Author.Rules.{rules}
+use Rattle.model.specs.Root.{slot_at}
+use Rattle.model.proofs.Scan.{Sofar}
+use Rattle.model.proofs.Belong.{inner_test}
 use Rattle.root_long.proofs.long_count.Given as goal
 
 abbrev pub invariant-loop-i : goal.invariant-loop-i

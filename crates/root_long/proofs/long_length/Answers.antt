@@ -1,14 +1,12 @@
 use mathlib.Core.Path.{◌≡◌, sym, ap, ◌∙◌}
-use mathlib.Core.Bool.{false}
-use Prim.Native.Nat.{ℕ, ◌*◌, ◌-◌, ◌≤◌}
+use Prim.Native.Nat.{ℕ, ◌*◌, ◌≤◌}
 use native.Mathlib.Omega.{arith}
-use lib.Dec.{eqb}
 use borrow.Author.Tests.{eq-eqb, ne_eqb}
 use Rattle.model.specs.Sector.{card_of}
 use Rattle.model.specs.Root.{Directory, slot_at}
 use Rattle.model.specs.Long.{long_count}
-use Rattle.model.specs.LongName.{long_character, long_length}
-use Rattle.model.proofs.Scan.{Sofar, sofar_none, sofar_more, none_below, first_is0}
+use Rattle.model.specs.LongName.{long_length}
+use Rattle.model.proofs.Scan.{sofar_none, sofar_more, none_below, first_is0}
 use Rattle.model.proofs.Belong.{count_few, count_low}
 use borrow.Author.Rules.{rules}
 use Rattle.root_long.proofs.long_length.Goals as goal

@@ -1,5 +1,4 @@
 use Rattle.operations.specs.Calls.{admit}
-use borrow.Author.Rules.{rules}
 use Rattle.root_lookup.proofs.admit.Goals as goal
 
 pub returns-in-Absent : goal.returns-in-Absent

@@ -1,6 +1,5 @@
 use Rattle.model.specs.Ground.{◌when◌, ◌>>◌}
 use Rattle.operations.specs.Calls.{admit}
-use borrow.Author.Rules.{rules}
 use Rattle.root_lookup.proofs.ask_mark.Goals as goal
 
 pub returns-then-locked : goal.returns-then-locked

@@ -3,7 +3,6 @@ use Rattle.model.specs.Bytes.{view}
 use Rattle.model.specs.Sector.{card_of}
 use Rattle.operations.specs.Calls.{admit, file_named}
 use Rattle.root_lookup.proofs.Laws.{sits}
-use borrow.Author.Rules.{rules}
 use Rattle.root_lookup.proofs.file_named.Goals as goal
 
 pub returns : goal.returns

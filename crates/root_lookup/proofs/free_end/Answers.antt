@@ -2,7 +2,6 @@ use Prim.Native.Nat.{◌+◌, ◌-◌}
 use native.Mathlib.Omega.{arith}
 use borrow.Author.Tests.{lt-ltb, le-ltb}
 use Rattle.root_lookup.specs.Found.{run_answer}
-use borrow.Author.Rules.{rules}
 use Rattle.root_lookup.proofs.free_end.Goals as goal
 
 pub returns-then-s-n : goal.returns-then-s-n

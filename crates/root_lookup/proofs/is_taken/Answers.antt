@@ -1,8 +1,7 @@
 use mathlib.Core.Path.{ap}
 use Prim.Native.Nat.{ℕ}
 use lib.Dec.{ltb}
-use Rattle.operations.specs.Calls.{slot_of, taken}
-use borrow.Author.Rules.{rules}
+use Rattle.operations.specs.Calls.{taken}
 use Rattle.root_lookup.proofs.is_taken.Goals as goal
 
 pub returns : goal.returns

@@ -5,7 +5,6 @@ use lib.Dec.{ltb}
 use lib.ListN.{length}
 use borrow.Author.Tests.{lt-ltb, le-ltb}
 use Rattle.operations.specs.Calls.{text_taken}
-use borrow.Author.Rules.{rules}
 use Rattle.root_lookup.proofs.is_text_taken.Goals as goal
 
 pub returns-then-text-eq0 : goal.returns-then-text-eq0

@@ -1,8 +1,7 @@
 use mathlib.Core.Path.{sym, ◌∙◌}
 use borrow.Author.Tests.{not-true, not-false}
 use Rattle.model.specs.Ground.{◌when◌, ◌>>◌}
-use Rattle.operations.specs.Calls.{whole, taken}
-use borrow.Author.Rules.{rules}
+use Rattle.operations.specs.Calls.{whole}
 use Rattle.root_lookup.proofs.keep_whole.Goals as goal
 
 pub returns-then-not-keeps : goal.returns-then-not-keeps

@@ -7,7 +7,6 @@ use Rattle.model.specs.Root.{file_at, entry_at, is_locked}
 use Rattle.model.specs.declared.File.{File}
 use Rattle.model.specs.declared.Lookup.TheVariants as Lookup
 use Rattle.model.proofs.Lookups.{holds_none, holds_directory, holds_file}
-use borrow.Author.Rules.{rules}
 use Rattle.root_lookup.proofs.look_in.Goals as goal
 
 pub returns-then-l-s : goal.returns-then-l-s

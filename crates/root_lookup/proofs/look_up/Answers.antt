@@ -2,7 +2,6 @@ use mathlib.Core.Path.{ap, ◌∙◌}
 use Rattle.model.specs.Sector.{card_of}
 use Rattle.model.specs.Root.{slot_holds, lookup}
 use Rattle.operations.specs.Calls.{slot_of}
-use borrow.Author.Rules.{rules}
 use Rattle.root_lookup.proofs.look_up.Goals as goal
 
 pub returns : goal.returns

@@ -5,7 +5,6 @@ use Rattle.model.specs.Ground.{◌when◌, ◌>>◌}
 use Rattle.operations.specs.Calls.{new_slot}
 use Rattle.root_lookup.specs.Found.{run_answer}
 use Rattle.root_lookup.proofs.Laws.{untaken}
-use borrow.Author.Rules.{rules}
 use Rattle.root_lookup.proofs.new_slot.Goals as goal
 
 pub returns-then-is_taken : goal.returns-then-is_taken

@@ -6,7 +6,6 @@ use Rattle.model.specs.Sector.{card_of}
 use Rattle.model.specs.Root.{name_ok, find}
 use Rattle.model.proofs.Tests.{every_at}
 use Rattle.operations.specs.Calls.{slot_of}
-use borrow.Author.Rules.{rules}
 use Rattle.root_lookup.proofs.slot_of.Goals as goal
 
 pub name_of-requires : goal.name_of-requires

@@ -1,7 +1,6 @@
-use Rattle.std.proofs.Common.{◌-◌, ◌≤◌, true, not, sym, ap, ◌∙◌, arith, rules}
-use Rattle.model.specs.Bytes.{bytes_of}
-use Rattle.model.specs.LongName.{character, forbidden, all_allowed}
-use Rattle.model.proofs.Scan.{Sofar, sofar_none, sofar_more, sofar_cut, all_of, all_not}
+use Rattle.std.proofs.Common.{not, sym, ap, ◌∙◌, arith, rules}
+use Rattle.model.specs.LongName.{forbidden, all_allowed}
+use Rattle.model.proofs.Scan.{sofar_none, sofar_more, sofar_cut, all_of, all_not}
 use Rattle.root_names.proofs.all_allowed.Goals as goal
 
 pub loop-q-init : goal.loop-q-init

@@ -1,7 +1,7 @@
-use Rattle.std.proofs.Common.{◌-◌, ◌≤◌, true, not, sym, ap, ◌∙◌, arith, rules}
+use Rattle.std.proofs.Common.{◌-◌, ◌≤◌, true, not}
 use Rattle.model.specs.Bytes.{bytes_of}
-use Rattle.model.specs.LongName.{character, forbidden, all_allowed}
-use Rattle.model.proofs.Scan.{Sofar, sofar_none, sofar_more, sofar_cut, all_of, all_not}
+use Rattle.model.specs.LongName.{character, forbidden}
+use Rattle.model.proofs.Scan.{Sofar}
 use Rattle.root_names.proofs.all_allowed.Given as goal
 
 abbrev pub invariant-loop-q : goal.invariant-loop-q

@@ -1,4 +1,4 @@
-use Rattle.std.proofs.Common.{◌≡◌, ℕ, ◌+◌, ◌-◌, ◌%◌, ◌≤◌, refl, ap, ◌∙◌, arith, rules}
+use Rattle.std.proofs.Common.{◌≡◌, ℕ, ◌+◌, ◌%◌, refl, ap, ◌∙◌, arith, rules}
 use Rattle.model.specs.Bytes.{bytes_of, part}
 use Rattle.model.specs.Long.{turned, sum_of}
 use Rattle.model.proofs.ReadBack.{sum_more}

@@ -1,7 +1,6 @@
-use Rattle.std.proofs.Common.{◌≡◌, ℕ, ◌+◌, ◌-◌, ◌%◌, ◌≤◌, refl, ap, ◌∙◌, arith, rules}
+use Rattle.std.proofs.Common.{◌≡◌, ◌-◌, ◌≤◌}
 use Rattle.model.specs.Bytes.{bytes_of, part}
-use Rattle.model.specs.Long.{turned, sum_of}
-use Rattle.model.proofs.ReadBack.{sum_more}
+use Rattle.model.specs.Long.{sum_of}
 use Rattle.root_names.proofs.checksum.Given as goal
 
 abbrev pub invariant-loop-i : goal.invariant-loop-i

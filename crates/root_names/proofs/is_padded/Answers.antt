@@ -1,7 +1,7 @@
-use Rattle.std.proofs.Common.{◌+◌, ◌-◌, ◌≤◌, true, ◌||◌, eqb, ltb, get_or, sym, arith, rules, le-ltb, lt-ltb, eq-eqb, ne_eqb}
+use Rattle.std.proofs.Common.{sym, arith, rules, le-ltb, lt-ltb, eq-eqb, ne_eqb}
 use Rattle.model.specs.Bytes.{bytes_of, part}
 use Rattle.model.specs.Root.{stem_length, padded}
-use Rattle.model.proofs.Scan.{Sofar, sofar_more, sofar_cut, all_of, all_not}
+use Rattle.model.proofs.Scan.{sofar_more, sofar_cut, all_of, all_not}
 use Rattle.root_names.proofs.is_padded.Goals as goal
 
 pub loop-i-init : goal.loop-i-init

@@ -1,7 +1,7 @@
-use Rattle.std.proofs.Common.{◌+◌, ◌-◌, ◌≤◌, true, ◌||◌, eqb, ltb, get_or, sym, arith, rules, le-ltb, lt-ltb, eq-eqb, ne_eqb}
+use Rattle.std.proofs.Common.{◌+◌, ◌-◌, ◌≤◌, true, ◌||◌, eqb, ltb, get_or}
 use Rattle.model.specs.Bytes.{bytes_of, part}
-use Rattle.model.specs.Root.{stem_length, padded}
-use Rattle.model.proofs.Scan.{Sofar, sofar_more, sofar_cut, all_of, all_not}
+use Rattle.model.specs.Root.{stem_length}
+use Rattle.model.proofs.Scan.{Sofar}
 use Rattle.root_names.proofs.is_padded.Given as goal
 
 abbrev pub invariant-loop-i : goal.invariant-loop-i

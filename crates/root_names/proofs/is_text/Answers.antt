@@ -1,4 +1,4 @@
-use Rattle.std.proofs.Common.{◌/◌, length, sym, arith, rules, eq-eqb, ne_eqb}
+use Rattle.std.proofs.Common.{◌/◌, length, sym, arith, eq-eqb, ne_eqb}
 use mathlib.Core.Bool.{and-true}
 use Rattle.model.specs.Scan.{every}
 use Rattle.model.specs.LongName.{text_ok, most_characters}

@@ -1,4 +1,4 @@
-use Rattle.std.proofs.Common.{add-zero, rules}
+use Rattle.std.proofs.Common.{add-zero}
 use Rattle.model.specs.Sector.{card_of}
 use Rattle.model.proofs.Sectors.{le_part}
 use Rattle.root_names.proofs.name_at.Goals as goal

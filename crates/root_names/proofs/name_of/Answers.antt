@@ -1,5 +1,4 @@
 use Rattle.model.specs.Bytes.{le}
-use Rattle.std.proofs.Common.{rules}
 use Rattle.root_names.proofs.name_of.Goals as goal
 
 pub returns : goal.returns

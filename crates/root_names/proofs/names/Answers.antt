@@ -1,4 +1,4 @@
-use Rattle.std.proofs.Common.{eqb, sym, ◌∙◌, rules}
+use Rattle.std.proofs.Common.{eqb, sym, ◌∙◌}
 use Rattle.root_names.proofs.names.Goals as goal
 
 pub returns-then-has_slot : goal.returns-then-has_slot

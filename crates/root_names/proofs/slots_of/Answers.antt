@@ -1,6 +1,5 @@
 use Rattle.model.specs.Pending.{named_slots}
 use Rattle.model.proofs.Long.{any_end}
-use Rattle.std.proofs.Common.{rules}
 use Rattle.root_names.proofs.slots_of.Goals as goal
 
 pub returns-in-Create : goal.returns-in-Create

@@ -1,6 +1,6 @@
-use Rattle.std.proofs.Common.{◌+◌, ◌-◌, ◌≤◌, false, not, get_or, sym, ap, ◌∙◌, arith, rules}
-use Rattle.model.specs.Root.{name_byte, stem_length}
-use Rattle.model.proofs.Scan.{Sofar, sofar_none, sofar_more, none_below, first_is}
+use Rattle.std.proofs.Common.{not, sym, ap, ◌∙◌, arith, rules}
+use Rattle.model.specs.Root.{stem_length}
+use Rattle.model.proofs.Scan.{sofar_none, sofar_more, none_below, first_is}
 use Rattle.root_names.proofs.stem_length.Goals as goal
 
 pub loop-i-init : goal.loop-i-init

@@ -1,7 +1,5 @@
-use Rattle.std.proofs.Common.{◌≡◌, ◌-◌, ◌/◌, ◌≤◌, false, eqb, length, sym, ◌∙◌, arith, rules, eq-eqb, ne_eqb}
-use Rattle.model.specs.Bytes.{bytes_of}
-use Rattle.model.specs.LongName.{character}
-use Rattle.model.proofs.Scan.{Sofar, sofar_none, sofar_more, sofar_cut}
+use Rattle.std.proofs.Common.{sym, ◌∙◌, arith, rules, eq-eqb, ne_eqb}
+use Rattle.model.proofs.Scan.{sofar_none, sofar_more, sofar_cut}
 use Rattle.model.proofs.Texts.{length_found, length_whole}
 use Rattle.root_names.proofs.text_length.Goals as goal
 

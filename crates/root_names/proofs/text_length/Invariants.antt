@@ -1,8 +1,7 @@
-use Rattle.std.proofs.Common.{◌≡◌, ◌-◌, ◌/◌, ◌≤◌, false, eqb, length, sym, ◌∙◌, arith, rules, eq-eqb, ne_eqb}
+use Rattle.std.proofs.Common.{◌≡◌, ◌-◌, ◌/◌, ◌≤◌, false, eqb, length}
 use Rattle.model.specs.Bytes.{bytes_of}
 use Rattle.model.specs.LongName.{character}
-use Rattle.model.proofs.Scan.{Sofar, sofar_none, sofar_more, sofar_cut}
-use Rattle.model.proofs.Texts.{length_found, length_whole}
+use Rattle.model.proofs.Scan.{Sofar}
 use Rattle.root_names.proofs.text_length.Given as goal
 
 abbrev pub invariant-loop-q : goal.invariant-loop-q

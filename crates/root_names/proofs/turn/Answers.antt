@@ -1,4 +1,4 @@
-use Rattle.std.proofs.Common.{refl, rules}
+use Rattle.std.proofs.Common.{refl}
 use Rattle.model.specs.Long.{turned}
 use Rattle.root_names.proofs.turn.Goals as goal
 

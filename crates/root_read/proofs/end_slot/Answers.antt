@@ -1,12 +1,8 @@
 use mathlib.Core.Path.{sym, ◌∙◌}
-use mathlib.Core.Bool.{false}
-use Prim.Native.Nat.{◌-◌, ◌≤◌}
 use native.Mathlib.Omega.{arith}
-use lib.Dec.{eqb}
 use borrow.Author.Tests.{eq-eqb, ne_eqb}
-use Rattle.model.specs.Sector.{card_of}
-use Rattle.model.specs.Root.{slot_at, end_slot}
-use Rattle.model.proofs.Scan.{Sofar, sofar_none, sofar_more, none_below, first_is}
+use Rattle.model.specs.Root.{end_slot}
+use Rattle.model.proofs.Scan.{sofar_none, sofar_more, none_below, first_is}
 use borrow.Author.Rules.{rules}
 use Rattle.root_read.proofs.end_slot.Goals as goal
 

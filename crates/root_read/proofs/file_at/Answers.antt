@@ -2,7 +2,6 @@ use Prim.Native.Nat.{◌*◌, ◌/◌, ◌%◌}
 use Rattle.model.specs.Sector.{card_of}
 use Rattle.model.specs.Root.{root_place, slot_at, entry_at, file_at}
 use Rattle.model.proofs.Sectors.{le_part}
-use borrow.Author.Rules.{rules}
 use Rattle.root_read.proofs.file_at.Goals as goal
 
 pub returns : goal.returns

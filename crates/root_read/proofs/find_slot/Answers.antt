@@ -1,11 +1,10 @@
 use mathlib.Core.Path.{sym, ◌∙◌}
 use mathlib.Core.Bool.{false}
-use Prim.Native.Nat.{◌-◌, ◌≤◌}
 use native.Mathlib.Omega.{arith}
 use lib.Dec.{eqb}
 use Rattle.model.specs.Sector.{card_of}
 use Rattle.model.specs.Root.{slot_at, bears, find, lowest_slot}
-use Rattle.model.proofs.Scan.{Sofar, sofar_none, sofar_more, none_below, first_is}
+use Rattle.model.proofs.Scan.{sofar_none, sofar_more, none_below, first_is}
 use Rattle.model.proofs.Searches.{sofar_past}
 use Rattle.root_read.proofs.Laws.{blank_nameless}
 use borrow.Author.Rules.{rules}

@@ -1,12 +1,12 @@
 use mathlib.Core.Path.{◌≡◌, sym, ◌∙◌}
-use mathlib.Core.Bool.{Bool, true, false}
-use Prim.Native.Nat.{ℕ, ◌+◌, ◌-◌, ◌≤◌, ◌<◌}
+use mathlib.Core.Bool.{Bool, true}
+use Prim.Native.Nat.{ℕ, ◌+◌, ◌-◌}
 use native.Mathlib.Omega.{arith}
 use borrow.Author.Tests.{not-true, not-false}
 use Rattle.model.specs.Scan.{all_from}
 use Rattle.model.specs.Sector.{card_of}
 use Rattle.model.specs.Root.{slot_at, vacant, free_run}
-use Rattle.model.proofs.Scan.{Sofar, sofar_none, sofar_more, sofar_cut, none_below, first_is0, all_of}
+use Rattle.model.proofs.Scan.{sofar_none, sofar_more, sofar_cut, none_below, first_is0, all_of}
 use Rattle.root_read.proofs.Laws.{run_broken}
 use borrow.Author.Rules.{rules}
 use Rattle.root_read.proofs.free_run.Goals as goal

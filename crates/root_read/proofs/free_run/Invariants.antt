@@ -1,14 +1,9 @@
-use mathlib.Core.Path.{◌≡◌, sym, ◌∙◌}
-use mathlib.Core.Bool.{Bool, true, false}
-use Prim.Native.Nat.{ℕ, ◌+◌, ◌-◌, ◌≤◌, ◌<◌}
-use native.Mathlib.Omega.{arith}
-use borrow.Author.Tests.{not-true, not-false}
+use mathlib.Core.Bool.{true, false}
+use Prim.Native.Nat.{◌+◌, ◌-◌, ◌≤◌, ◌<◌}
 use Rattle.model.specs.Scan.{all_from}
 use Rattle.model.specs.Sector.{card_of}
-use Rattle.model.specs.Root.{slot_at, vacant, free_run}
-use Rattle.model.proofs.Scan.{Sofar, sofar_none, sofar_more, sofar_cut, none_below, first_is0, all_of}
-use Rattle.root_read.proofs.Laws.{run_broken}
-use borrow.Author.Rules.{rules}
+use Rattle.model.specs.Root.{slot_at, vacant}
+use Rattle.model.proofs.Scan.{Sofar}
 use Rattle.root_read.proofs.free_run.Given as goal
 
 abbrev pub invariant-loop-k : goal.invariant-loop-k

@@ -3,7 +3,6 @@ use borrow.Author.Tests.{eq-eqb, ne_eqb, not-true, not-false}
 use Rattle.model.specs.Sector.{card_of}
 use Rattle.model.specs.Root.{slot_at, bears}
 use Rattle.root_read.proofs.Laws.{bears_by}
-use borrow.Author.Rules.{rules}
 use Rattle.root_read.proofs.has_name.Goals as goal
 
 pub returns-then-not-is_listed : goal.returns-then-not-is_listed

@@ -4,7 +4,6 @@ use native.Mathlib.Omega.{arith}
 use Rattle.model.specs.Sector.{card_of}
 use Rattle.model.proofs.Tests.{clash}
 use Rattle.root_read.proofs.Laws.{blank_slots}
-use borrow.Author.Rules.{rules}
 use Rattle.root_read.proofs.is_blank.Goals as goal
 
 pub returns-then-k-ne0 : goal.returns-then-k-ne0

@@ -1,5 +1,4 @@
 use Rattle.model.specs.Root.{is_directory}
-use borrow.Author.Rules.{rules}
 use Rattle.root_read.proofs.is_directory.Goals as goal
 
 pub returns : goal.returns

@@ -1,7 +1,6 @@
 use mathlib.Core.Path.{sym, ◌∙◌}
 use borrow.Author.Tests.{eq-eqb, ne_eqb}
 use Rattle.model.specs.Root.{listed, vacant, is_label}
-use borrow.Author.Rules.{rules}
 use Rattle.root_read.proofs.is_listed.Goals as goal
 
 pub returns-then-b-eq0 : goal.returns-then-b-eq0

@@ -3,7 +3,6 @@ use borrow.Author.Tests.{eq-eqb, ne_eqb}
 use Rattle.model.specs.Sector.{card_of}
 use Rattle.model.specs.Root.{slot_at}
 use Rattle.root_read.proofs.Laws.{vacant_by}
-use borrow.Author.Rules.{rules}
 use Rattle.root_read.proofs.is_vacant.Goals as goal
 
 pub returns-then-b-eq0 : goal.returns-then-b-eq0

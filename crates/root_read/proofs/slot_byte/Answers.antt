@@ -1,5 +1,4 @@
 use Rattle.model.specs.Root.{slot_at}
-use borrow.Author.Rules.{rules}
 use Rattle.root_read.proofs.slot_byte.Goals as goal
 
 pub returns : goal.returns

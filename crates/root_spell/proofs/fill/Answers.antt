@@ -1,8 +1,8 @@
-use Prim.Native.Nat.{◌+◌, ◌-◌, ◌≤◌}
+use Prim.Native.Nat.{◌+◌}
 use native.Mathlib.Omega.{arith}
 use mathlib.Core.Path.{◌≡◌, ap, ◌∙◌}
 use Rattle.model.specs.Bytes.{bytes_of, patch}
-use Rattle.model.specs.LongName.{spelled, fill, place}
+use Rattle.model.specs.LongName.{spelled, fill}
 use Rattle.root_spell.proofs.Laws.{fill_more, fill_none}
 use borrow.Author.Rules.{rules}
 use Rattle.root_spell.proofs.fill.Goals as goal

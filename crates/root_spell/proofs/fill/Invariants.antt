@@ -1,10 +1,7 @@
 use Prim.Native.Nat.{◌+◌, ◌-◌, ◌≤◌}
-use native.Mathlib.Omega.{arith}
-use mathlib.Core.Path.{◌≡◌, ap, ◌∙◌}
-use Rattle.model.specs.Bytes.{bytes_of, patch}
-use Rattle.model.specs.LongName.{spelled, fill, place}
-use Rattle.root_spell.proofs.Laws.{fill_more, fill_none}
-use borrow.Author.Rules.{rules}
+use mathlib.Core.Path.{◌≡◌}
+use Rattle.model.specs.Bytes.{bytes_of}
+use Rattle.model.specs.LongName.{spelled, fill}
 use Rattle.root_spell.proofs.fill.Given as goal
 
 abbrev pub invariant-loop-k : goal.invariant-loop-k

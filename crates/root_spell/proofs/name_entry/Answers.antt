@@ -4,7 +4,6 @@ use Rattle.model.specs.Bytes.{Bytes, bytes_of, patch}
 use Rattle.model.specs.Long.{order_byte}
 use Rattle.model.specs.LongName.{spelled, fill, long_entry, name_entry}
 use Rattle.model.proofs.Lists.{all_zero}
-use borrow.Author.Rules.{rules}
 use Rattle.root_spell.proofs.name_entry.Goals as goal
 
 pub returns : goal.returns

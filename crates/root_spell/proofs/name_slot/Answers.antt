@@ -5,9 +5,8 @@ use borrow.Author.Tests.{eq-eqb, ne_eqb}
 use Rattle.model.specs.Bytes.{Bytes, bytes_of}
 use Rattle.model.specs.Long.{checksum}
 use Rattle.model.specs.LongName.{name_entry}
-use Rattle.operations.specs.Finish.{name_slot, new_entry}
+use Rattle.operations.specs.Finish.{name_slot}
 use Rattle.model.proofs.Sectors.{part_zero}
-use borrow.Author.Rules.{rules}
 use Rattle.root_spell.proofs.name_slot.Goals as goal
 
 pub returns-then-k-e : goal.returns-then-k-e

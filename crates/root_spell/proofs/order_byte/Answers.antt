@@ -1,5 +1,4 @@
 use borrow.Author.Tests.{eq-eqb, ne_eqb}
-use borrow.Author.Rules.{rules}
 use Rattle.root_spell.proofs.order_byte.Goals as goal
 
 pub returns-then-i-n : goal.returns-then-i-n

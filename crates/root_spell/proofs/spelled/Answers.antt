@@ -1,6 +1,5 @@
 use borrow.Author.Tests.{eq-eqb, ne_eqb, lt-ltb, le-ltb}
 use Rattle.model.specs.LongName.{spelled}
-use borrow.Author.Rules.{rules}
 use Rattle.root_spell.proofs.spelled.Goals as goal
 
 pub returns-then-q-n : goal.returns-then-q-n

@@ -1,7 +1,6 @@
 use Prim.Native.Nat.{◌/◌}
 use mathlib.Core.Path.{sym, ◌∙◌}
 use lib.Dec.{eqb}
-use borrow.Author.Rules.{rules}
 use Rattle.root_write.proofs.concerns.Goals as goal
 
 pub returns-then-reaches : goal.returns-then-reaches

@@ -1,15 +1,12 @@
-use Prim.Native.Nat.{◌-◌, ◌*◌, ◌≤◌}
-use native.Mathlib.Omega.{arith}
-use mathlib.Core.Path.{◌≡◌, ◌∙◌, fun_ext}
+use Prim.Native.Nat.{◌-◌, ◌≤◌}
+use mathlib.Core.Path.{◌≡◌}
 use lib.ListN.{length}
-use Rattle.model.specs.Bytes.{bytes_of, overlay}
+use Rattle.model.specs.Bytes.{bytes_of}
 use Rattle.model.specs.Sector.{card_of}
 use Rattle.model.specs.Root.{slot_at}
 use Rattle.model.specs.Record.{with_text}
-use Rattle.model.proofs.Sectors.{part_zero}
 use Rattle.operations.specs.Finish.{effect}
-use Rattle.root_write.proofs.Laws.{Laid, laid_more}
-use borrow.Author.Rules.{rules}
+use Rattle.root_write.proofs.Laws.{Laid}
 use Rattle.root_write.proofs.load_edited.Given as goal
 
 abbrev pub invariant-loop-i : goal.invariant-loop-i

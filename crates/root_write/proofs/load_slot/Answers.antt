@@ -2,7 +2,6 @@ use mathlib.Core.Path.{◌∙◌}
 use Rattle.model.specs.Bytes.{bytes_of, part}
 use Rattle.model.proofs.Overlays.{overlay_front}
 use Rattle.root_read.proofs.Laws.{slot_byte}
-use borrow.Author.Rules.{rules}
 use Rattle.root_write.proofs.load_slot.Goals as goal
 
 pub returns : goal.returns

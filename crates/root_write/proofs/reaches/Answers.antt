@@ -1,7 +1,6 @@
 use native.Mathlib.Omega.{arith}
 use mathlib.Core.Path.{sym, ◌∙◌}
 use Rattle.root_write.proofs.Laws.{reaches_none, reaches_own, reaches_back}
-use borrow.Author.Rules.{rules}
 use Rattle.root_write.proofs.reaches.Goals as goal
 
 pub returns-then-s-r : goal.returns-then-s-r

@@ -1,6 +1,5 @@
 use mathlib.Core.Path.{ap, ◌∙◌}
 use Rattle.model.specs.Bytes.{Bytes, patch}
-use borrow.Author.Rules.{rules}
 use Rattle.root_write.proofs.resize.Goals as goal
 
 pub returns-then-moves : goal.returns-then-moves

@@ -1,7 +1,6 @@
 use mathlib.Core.Path.{ap, ◌∙◌}
 use Rattle.model.specs.Bytes.{Bytes}
 use Rattle.operations.specs.Finish.{set_stamp}
-use borrow.Author.Rules.{rules}
 use Rattle.root_write.proofs.rewrite.Goals as goal
 
 pub returns : goal.returns

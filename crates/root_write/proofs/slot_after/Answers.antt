@@ -9,7 +9,6 @@ use Rattle.model.specs.Pending.{named_slots}
 use Rattle.model.proofs.Long.{low_named}
 use Rattle.root_write.proofs.Laws.{out, in_create, in_update, in_delete, in_truncate, in_rename, in_renamed, in_replace}
 use Rattle.root_write.proofs.Laws.{rename_source, create_slot}
-use borrow.Author.Rules.{rules}
 use Rattle.root_write.proofs.slot_after.Goals as goal
 
 pub returns-then-not-names : goal.returns-then-not-names

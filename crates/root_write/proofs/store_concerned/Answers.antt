@@ -8,7 +8,6 @@ use Rattle.model.proofs.Cards.{store_same}
 use Rattle.model.proofs.Runs.{ran_none}
 use Rattle.operations.specs.Finish.{effect, root_sector}
 use Rattle.operations.proofs.Seats.{concerns_named}
-use borrow.Author.Rules.{rules}
 use Rattle.root_write.proofs.store_concerned.Goals as goal
 
 pub returns-then-not-concerns : goal.returns-then-not-concerns

@@ -1,13 +1,10 @@
 use mathlib.Core.Path.{◌≡◌, refl}
-use mathlib.Core.Bool.{true}
-use Prim.Native.Nat.{◌-◌, ◌/◌, ◌≤◌}
+use Prim.Native.Nat.{◌/◌}
 use native.Mathlib.Omega.{arith}
-use lib.ListN.{length}
 use borrow.Author.Tests.{not-true, not-false}
 use Rattle.model.specs.Bytes.{bytes_of}
 use Rattle.model.specs.Sector.{card_of}
 use Rattle.model.specs.Record.{with_text}
-use Rattle.model.specs.Promises.{Ran, up_to}
 use Rattle.model.proofs.Runs.{turns_none, turns_more, turns_cut}
 use Rattle.root_write.specs.Slots.{root_turn}
 use Rattle.root_write.proofs.Laws.{root_turns, turn_same}

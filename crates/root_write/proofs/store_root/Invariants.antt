@@ -1,17 +1,12 @@
-use mathlib.Core.Path.{◌≡◌, refl}
+use mathlib.Core.Path.{◌≡◌}
 use mathlib.Core.Bool.{true}
 use Prim.Native.Nat.{◌-◌, ◌/◌, ◌≤◌}
-use native.Mathlib.Omega.{arith}
 use lib.ListN.{length}
-use borrow.Author.Tests.{not-true, not-false}
 use Rattle.model.specs.Bytes.{bytes_of}
 use Rattle.model.specs.Sector.{card_of}
 use Rattle.model.specs.Record.{with_text}
 use Rattle.model.specs.Promises.{Ran, up_to}
-use Rattle.model.proofs.Runs.{turns_none, turns_more, turns_cut}
 use Rattle.root_write.specs.Slots.{root_turn}
-use Rattle.root_write.proofs.Laws.{root_turns, turn_same}
-use borrow.Author.Rules.{rules}
 use Rattle.root_write.proofs.store_root.Given as goal
 
 abbrev pub invariant-loop-r : goal.invariant-loop-r

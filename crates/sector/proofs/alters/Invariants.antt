@@ -1,12 +1,9 @@
-use mathlib.Core.Path.{◌≡◌, refl}
-use Prim.Native.Nat.{◌+◌, ◌*◌, ◌-◌, ◌≤◌}
-use native.Mathlib.Omega.{arith}
+use mathlib.Core.Path.{◌≡◌}
+use Prim.Native.Nat.{◌+◌, ◌-◌, ◌≤◌}
 use lib.ListN.{get_or}
 use Rattle.model.specs.Bytes.{bytes_of}
 use Rattle.model.specs.Scan.{all_from}
-use Rattle.model.specs.Sector.{card_of}
-use Rattle.sector.proofs.Stored.{in_sector, all_none, all_more, equal, compared}
-use borrow.Author.Rules.{rules}
+use Rattle.sector.proofs.Stored.{equal}
 use Rattle.sector.proofs.alters.Given as goal
 
 abbrev pub invariant-loop-j : goal.invariant-loop-j

@@ -1,10 +1,7 @@
-use mathlib.Core.Path.{◌≡◌, refl, sym, ap, ◌∙◌}
+use mathlib.Core.Path.{◌≡◌}
 use Prim.Native.Nat.{ℕ, ◌-◌, ◌≤◌}
-use native.Mathlib.Omega.{arith}
 use lib.ListN.{length, get_or}
 use Rattle.model.specs.Bytes.{bytes_of, overlay, part}
-use Rattle.model.proofs.Overlays.{overlay_none, overlay_more}
-use borrow.Author.Rules.{rules}
 use Rattle.sector.proofs.copy.Given as goal
 
 abbrev pub invariant-loop-j : goal.invariant-loop-j

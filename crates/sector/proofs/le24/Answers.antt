@@ -2,7 +2,6 @@ use Prim.Native.Nat.{◌+◌}
 use native.Mathlib.Omega.{arith}
 use Rattle.model.specs.Sector.{card_of}
 use Rattle.model.proofs.Numbers.{le_add, le_suc, le_zero}
-use borrow.Author.Rules.{rules}
 use Rattle.sector.proofs.le24.Goals as goal
 
 pub returns : goal.returns

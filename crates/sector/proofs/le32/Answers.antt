@@ -1,7 +1,6 @@
 use native.Mathlib.Omega.{arith}
 use Rattle.model.specs.Sector.{card_of}
 use Rattle.model.proofs.Numbers.{le_add}
-use borrow.Author.Rules.{rules}
 use Rattle.sector.proofs.le32.Goals as goal
 
 pub returns : goal.returns

@@ -4,7 +4,6 @@ use lib.ListN.{get_or}
 use Rattle.model.specs.Bytes.{bytes_of, part}
 use Rattle.model.proofs.Cards.{clip_same}
 use Rattle.model.proofs.Overlays.{overlay_front}
-use borrow.Author.Rules.{rules}
 use Rattle.sector.proofs.load.Goals as goal
 
 pub returns : goal.returns

@@ -1,6 +1,5 @@
 use mathlib.Core.Path.{ap, ◌∙◌}
 use mathlib.Core.List.{[]}
-use Prim.Native.Nat.{◌-◌}
 use native.Mathlib.Nat.{zero-add}
 use native.Mathlib.Omega.{arith}
 use Rattle.model.specs.Bytes.{bytes_of}
@@ -8,7 +7,6 @@ use Rattle.model.specs.Sector.{card_of, put, store}
 use Rattle.model.proofs.Cards.{store_same}
 use Rattle.model.proofs.Runs.{ran_one, ran_zero}
 use Rattle.sector.proofs.Stored.{lent_put}
-use borrow.Author.Rules.{rules}
 use Rattle.model.proofs.Overlays.{overlay_front}
 use Rattle.model.specs.Bytes.{part}
 use Rattle.sector.proofs.overwrite.Goals as goal

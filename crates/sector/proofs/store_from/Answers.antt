@@ -3,7 +3,6 @@ use Prim.Native.Nat.{◌+◌, ◌*◌, ◌-◌}
 use native.Mathlib.Omega.{arith}
 use Rattle.model.specs.Bytes.{bytes_of}
 use Rattle.sector.proofs.Stored.{ran_lent}
-use borrow.Author.Rules.{rules}
 use Rattle.sector.proofs.store_from.Goals as goal
 
 pub returns : goal.returns

@@ -1,5 +1,4 @@
 use Rattle.sector.proofs.Stored.{zeros_ran}
-use borrow.Author.Rules.{rules}
 use Rattle.sector.proofs.store_zeros.Goals as goal
 
 pub returns : goal.returns

@@ -2,7 +2,6 @@ use mathlib.Core.Path.{ap, ◌∙◌, fun_ext}
 use Prim.Native.Nat.{◌*◌}
 use Rattle.model.specs.Bytes.{Bytes, bytes_of, overlay}
 use Rattle.model.proofs.Sectors.{part_zero}
-use borrow.Author.Rules.{rules}
 use Rattle.sector_build.proofs.lay.Goals as goal
 
 pub returns : goal.returns

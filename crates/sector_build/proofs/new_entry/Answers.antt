@@ -3,7 +3,6 @@ use Rattle.model.specs.Bytes.{Bytes, patch}
 use Rattle.model.specs.Calendar.{stamp_time, stamp_date}
 use Rattle.operations.specs.Finish.{set_name, set_stamp, new_entry}
 use Rattle.model.proofs.Lists.{all_zero}
-use borrow.Author.Rules.{rules}
 use Rattle.sector_build.proofs.new_entry.Goals as goal
 
 pub returns : goal.returns

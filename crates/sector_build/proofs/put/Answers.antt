@@ -1,9 +1,8 @@
 use mathlib.Core.Path.{◌≡◌, refl, sym, ap, ◌∙◌, fun_ext}
-use Prim.Native.Nat.{ℕ, ◌-◌, ◌/◌, ◌%◌, ◌^◌, ◌≤◌}
+use Prim.Native.Nat.{ℕ, ◌%◌}
 use native.Mathlib.Nat.{div-one}
 use native.Mathlib.Omega.{arith}
-use lib.ListN.{length, get_or}
-use Rattle.model.specs.Bytes.{bytes_of, byte_of, overlay}
+use Rattle.model.specs.Bytes.{bytes_of, byte_of}
 use Rattle.model.proofs.Overlays.{overlay_none, overlay_more}
 use Rattle.sector_build.proofs.Laws.{rest_next}
 use borrow.Author.Rules.{rules}

@@ -1,7 +1,6 @@
 use mathlib.Core.Path.{ap, ◌∙◌}
 use Prim.Native.Nat.{ℕ}
 use Rattle.model.specs.Bytes.{bytes_of, patch}
-use borrow.Author.Rules.{rules}
 use Rattle.sector_build.proofs.set.Goals as goal
 
 pub returns : goal.returns

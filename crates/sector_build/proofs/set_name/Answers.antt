@@ -1,6 +1,5 @@
 use mathlib.Core.Path.{ap, ◌∙◌}
 use Rattle.model.specs.Bytes.{Bytes, patch}
-use borrow.Author.Rules.{rules}
 use Rattle.sector_build.proofs.set_name.Goals as goal
 
 pub returns : goal.returns

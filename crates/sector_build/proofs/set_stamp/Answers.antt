@@ -1,7 +1,6 @@
 use mathlib.Core.Path.{ap, ◌∙◌}
 use Rattle.model.specs.Bytes.{Bytes, patch}
 use Rattle.model.specs.Calendar.{stamp_time, stamp_date}
-use borrow.Author.Rules.{rules}
 use Rattle.sector_build.proofs.set_stamp.Goals as goal
 
 pub returns : goal.returns

@@ -1,8 +1,7 @@
 use mathlib.Core.Path.{sym, ap, ◌∙◌}
 use Rattle.model.specs.Ground.{◌>>=◌}
-use Rattle.model.specs.Volume.{examine, clean}
+use Rattle.model.specs.Volume.{clean}
 use Rattle.volume.specs.Examined.{examined_of}
-use borrow.Author.Rules.{rules}
 use Rattle.volume.proofs.clean.Goals as goal
 
 pub settle-requires : goal.settle-requires

@@ -2,7 +2,6 @@ use mathlib.Core.Path.{sym, ap, ◌∙◌}
 use Rattle.model.specs.Sector.{window_of}
 use Rattle.model.proofs.Volumes.{at_refused, at_late, at_granted}
 use Rattle.volume.specs.Examined.{examined_of}
-use borrow.Author.Rules.{rules}
 use Rattle.volume.proofs.clean_at.Goals as goal
 
 pub returns-then-seconds-gt-LAST_SECOND : goal.returns-then-seconds-gt-LAST_SECOND

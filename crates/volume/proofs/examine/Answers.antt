@@ -2,7 +2,6 @@ use mathlib.Core.Path.{sym, ap, ◌∙◌}
 use Rattle.model.specs.Ground.{◌>>=◌}
 use Rattle.model.specs.Volume.{examine}
 use Rattle.volume.specs.Examined.{mounted_of, examine_on}
-use borrow.Author.Rules.{rules}
 use Rattle.volume.proofs.examine.Goals as goal
 
 pub examine_log-requires : goal.examine_log-requires

@@ -3,7 +3,6 @@ use borrow.Author.Tests.{not-true, not-false}
 use Rattle.model.specs.Sector.{card_of}
 use Rattle.model.specs.Pending.{pending, is_broken}
 use Rattle.volume.proofs.Laws.{inspect_root, inspect_record, inspect_volume}
-use borrow.Author.Rules.{rules}
 use Rattle.volume.proofs.inspect.Goals as goal
 
 pub returns-then-not-root_ok : goal.returns-then-not-root_ok

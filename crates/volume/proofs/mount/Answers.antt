@@ -2,7 +2,6 @@ use mathlib.Core.Path.{sym, ◌∙◌}
 use native.Mathlib.Omega.{arith}
 use Rattle.model.specs.Sector.{window_of}
 use Rattle.boot.proofs.Grounds.{mount_short, mount_boot, mount_window, mount_layout}
-use borrow.Author.Rules.{rules}
 use Rattle.volume.proofs.mount.Goals as goal
 
 pub returns-then-w-lt512 : goal.returns-then-w-lt512

@@ -2,7 +2,6 @@ use mathlib.Core.Path.{sym, ◌∙◌}
 use borrow.Author.Tests.{not-true, not-false}
 use Rattle.model.specs.Sector.{card_of}
 use Rattle.volume.proofs.Laws.{settled_held, settled_differ, settled_clean}
-use borrow.Author.Rules.{rules}
 use Rattle.volume.proofs.settle.Goals as goal
 
 pub returns-then-is_held : goal.returns-then-is_held
