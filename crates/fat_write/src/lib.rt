@@ -44,11 +44,7 @@ fn link_sector(w: &[u8], l: Layout, s: u32, last: u32, first: u32, at: u32, left
     let mut n = left;
     while 0 < n {
         if end <= k {
-            return Built {
-                buf,
-                at: k,
-                left: n,
-            };
+            break;
         }
         let next = next_new(w, l, k, n);
         fat_copy::put_entry(&mut buf, k, next);

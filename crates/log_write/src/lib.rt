@@ -199,20 +199,18 @@ fn record_of(o: Operation, k: u32) -> Record
     }
 }
 
-// The records that tell an operation, in a sector from record 0 on, the rest zero.
-fn lay_records(o: Operation) -> [u8; 512]
-    ensures { bytes_of result ≡ lay (map record_bytes (operation_records o)) }
+// The records that tell an operation, laid into a sector of zeros from record 0 on.
+fn lay_records(o: Operation, buf: &mut [u8])
+    requires { (length buf.old ≡ 512) × (bytes_of buf.old ≡ zeros) }
+    ensures { bytes_of buf.new ≡ lay (map record_bytes (operation_records o)) }
 {
     let n = log_group::records_of(o);
-    let mut buf = [0u8; 512];
     let mut k = 0;
     while k < n {
         let b = record_bytes(record_of(o, k));
-        let more = sector_build::lay(buf, sector::index(k), b);
-        buf = more;
+        sector::copy(buf, 32 * sector::index(k), &b, 0, 32);
         k += 1;
     }
-    buf
 }
 
 // The group of an operation with a text, as its log sector: the characters stand after the records.
@@ -220,7 +218,8 @@ fn encode_group(o: Operation, text: &[u8]) -> [u8; 512]
     requires { Room o text.now }
     ensures { bytes_of result ≡ encode (with_text o (bytes_of text.now)) }
 {
-    let mut buf = lay_records(o);
+    let mut buf = [0u8; 512];
+    lay_records(o, &mut buf);
     sector::copy(
         &mut buf,
         32 * sector::index(log_group::records_of(o)),

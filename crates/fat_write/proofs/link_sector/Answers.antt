@@ -39,8 +39,8 @@ loop-n-preserved c =
     linking_more _ _ _ _ _ _ _ _ _ turn.invariant (omega arith) (omega arith) next-new.result next-new.ensures.0 c.put_entry.new.buf
     (omega arith) c.put_entry.ensures
 
-pub returns : goal.returns
-returns c =
+pub returns-after-loop-n : goal.returns-after-loop-n
+returns-after-loop-n c =
     let a = c.args in
     let so = c.loop-n.invariant in
     let up : 0 < c.loop-n.n → 256 * (a.s + 1) ≤ c.loop-n.k = λ h. absurd (omega arith) in

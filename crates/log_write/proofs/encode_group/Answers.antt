@@ -1,16 +1,20 @@
+use borrow.Author.Rules.{rules}
 use Prim.Native.Nat.{ℕ, ◌*◌}
 use mathlib.Core.Path.{ap, ◌∙◌}
 use lib.ListN.{length}
 use Rattle.model.specs.Bytes.{bytes_of, overlay, part}
+use Rattle.model.proofs.Lists.{all_zero}
 use Rattle.log_write.proofs.Laws.{text_laid}
 use Rattle.log_write.proofs.encode_group.Goals as goal
+
+pub lay_records-requires : goal.lay_records-requires
+lay_records-requires c = (search rules, all_zero 512)
 
 pub returns : goal.returns
 returns c =
     let a = c.args in
-    let the-lay-records = c.lay_records-buf in
-    let the-records-of = c.records_of in
+    let laid = c.lay_records.new.buf in
     let the_copy = c.copy in
-    text_laid a.o a.text.now (bytes_of the-lay-records.result) (bytes_of the_copy.new.out) the-lay-records.ensures
+    text_laid a.o a.text.now (bytes_of laid) (bytes_of the_copy.new.out) c.lay_records.ensures
     (λ j. the_copy.ensures j ∙ ap (λ (z : ℕ). overlay (length a.text.now) (part (bytes_of a.text.now) 0) (32 * z)
-    (bytes_of the-lay-records.result) j) (c.index.ensures ∙ the-records-of.ensures.0))
+    (bytes_of laid) j) (c.index.ensures ∙ c.records_of.ensures.0))

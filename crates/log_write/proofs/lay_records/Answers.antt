@@ -1,17 +1,19 @@
 use Prim.Native.Nat.{ℕ, ◌*◌}
 use native.Mathlib.Omega.{arith}
-use mathlib.Core.Path.{ap, ◌∙◌}
+use mathlib.Core.Path.{sym, ap, ◌∙◌, fun_ext}
 use mathlib.Core.List.{List, map}
 use lib.Seq.{take_all}
-use Rattle.model.specs.Bytes.{bytes_of, overlay}
+use Rattle.model.specs.Bytes.{Bytes, bytes_of, overlay}
 use Rattle.model.specs.Record.{record_bytes, operation_records, lay}
 use Rattle.model.specs.declared.Record.{Record}
-use Rattle.log_write.proofs.Laws.{lay_zeros, lay_next}
+use Rattle.model.proofs.Sectors.{part_zero}
+use Rattle.model.proofs.Pieces.{lay_none}
+use Rattle.log_write.proofs.Laws.{lay_next}
 use borrow.Author.Rules.{rules}
 use Rattle.log_write.proofs.lay_records.Goals as goal
 
 pub loop-k-init : goal.loop-k-init
-loop-k-init c = (search rules, search rules, lay_zeros)
+loop-k-init c = (search rules, c.requires.0, c.requires.1 ∙ sym lay_none)
 
 pub record_of-requires : goal.record_of-requires
 record_of-requires c = omega (arith, c.records_of-n.ensures.0)
@@ -21,9 +23,10 @@ loop-k-preserved c = (
   search rules,
   search rules,
   lay_next (operation_records c.args.o) c.loop-k.k (bytes_of c.record_bytes-b.result) (bytes_of c.loop-k.buf)
-      (bytes_of c.lay-more.result) (omega (arith, c.records_of-n.ensures.0)) (c.record_bytes-b.ensures ∙ ap record_bytes c.record_of.ensures)
-      c.loop-k.invariant.2 (c.lay-more.ensures ∙ ap (λ (z : ℕ). overlay 32 (bytes_of c.record_bytes-b.result) (32 * z) (bytes_of c.loop-k.buf))
-      c.index.ensures),
+      (bytes_of c.copy.new.out) (omega (arith, c.records_of-n.ensures.0)) (c.record_bytes-b.ensures ∙ ap record_bytes c.record_of.ensures)
+      c.loop-k.invariant.2 (fun_ext (λ i. c.copy.ensures i
+      ∙ ap (λ (p : Bytes). overlay 32 p (32 * c.index.result) (bytes_of c.loop-k.buf) i) (part_zero _))
+      ∙ ap (λ (z : ℕ). overlay 32 (bytes_of c.record_bytes-b.result) (32 * z) (bytes_of c.loop-k.buf)) c.index.ensures),
 )
 
 pub returns : goal.returns
