@@ -6,7 +6,7 @@ DISK := target/host/release/liblfat_disk.a
 LOADER := target/loader
 SAVE := target/save
 CARD := target/run/card.img
-PROVED := crates.txt $(shell find crates -name '*.rt' -o -name '*.antt')
+PROVED := crates.txt $(shell find crates -name out -prune -o '(' -name '*.rt' -o -name '*.antt' ')' -print)
 
 export PATH := $(PATH):$(HOME)/.cargo/bin
 
@@ -31,7 +31,7 @@ help:
 
 # rt proves only what has changed; from nothing it takes a while. A line for each crate.
 $(LIBRARY): $(PROVED)
-	@.ci/prove-progress lfat
+	@.ci/build
 	@touch $@
 
 lfat: $(LIBRARY)

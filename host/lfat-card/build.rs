@@ -1,4 +1,4 @@
-// Links liblfat.a: from the folder LFAT_LIB_DIR, or from where `rt staticlib lfat` writes it.
+// Links liblfat.a: from the folder LFAT_LIB_DIR, or from where `.ci/build` writes it.
 use std::env;
 use std::path::PathBuf;
 
@@ -16,7 +16,7 @@ fn main() {
     }
     if !library.exists() {
         println!(
-            "cargo::error={} is missing: run `rt staticlib lfat`, or set LFAT_LIB_DIR to the folder of a built library",
+            "cargo::error={} is missing: run `.ci/build`, or set LFAT_LIB_DIR to the folder of a built library",
             library.display()
         );
     }

@@ -1,6 +1,6 @@
 //! Prints docs/BENCH.md: each call of the library against the independent Rust implementation, on the same input.
 //!
-//! `cargo run --release --offline -p bench > ../docs/BENCH.md` in `host`, after `rt staticlib lfat`. With `-- --floor` only what is
+//! `cargo run --release --offline -p bench > ../docs/BENCH.md` in `host`, after `.ci/build`. With `-- --floor` only what is
 //! set against memcmp and memcpy, with `-- --clock` only the clock, with `-- --only TEXT` only the calls whose row has the text.
 
 mod cards;
@@ -32,7 +32,7 @@ fn main() {
 fn print() {
     println!("# Speed and write cost\n");
     println!(
-        "Printed by `cargo run --release --offline -p bench` in `host`, after `rt staticlib lfat`. The library is compared with the\n\
+        "Printed by `cargo run --release --offline -p bench` in `host`, after `.ci/build`. The library is compared with the\n\
          plain Rust implementation `host/reference`: same machine, same card, both built for release, runs by turns. Before each run\n\
          of a writing call the card is put back; that is not timed.\n"
     );

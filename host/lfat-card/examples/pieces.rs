@@ -1,6 +1,6 @@
 //! What reading a file in pieces costs: prints the section 'Reading in pieces' of docs/BENCH.md.
 //!
-//! `cargo run --release --offline -p lfat-card --example pieces` in `host`, after `rt staticlib lfat`.
+//! `cargo run --release --offline -p lfat-card --example pieces` in `host`, after `.ci/build`.
 
 use lfat_card::{CardView, Name, Refusal};
 use reference::CardSpec;

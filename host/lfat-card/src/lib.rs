@@ -36,7 +36,7 @@
 //! What is stored in the window must reach the card by whole sectors and in order, or a power cut may leave something else than the
 //! old file or the new one: see `include/lfat.h`.
 //!
-//! The library is linked from `target/staticlib` of the repository, where `rt staticlib lfat` writes it, or from the folder that
+//! The library is linked from `target/staticlib` of the repository, where `.ci/build` writes it, or from the folder that
 //! the environment variable `LFAT_LIB_DIR` names when this crate is built. It is for x86-64 and ELF.
 
 #![deny(missing_docs)]

@@ -11,7 +11,7 @@ const CRATES: &str =
 /// What the script prints and ends with, where rt is a script with these lines.
 fn run(name: &str, rt: &str) -> (String, Option<i32>) {
     let folder = Path::new(env!("CARGO_TARGET_TMPDIR")).join(format!("progress-{name}"));
-    fs::create_dir_all(&folder).expect("a folder");
+    fs::create_dir_all(folder.join("crates/top")).expect("a folder");
     fs::write(folder.join("crates.txt"), CRATES).expect("crates.txt");
     let program = folder.join("rt");
     fs::write(&program, format!("#!/bin/sh\n{rt}")).expect("a stand-in");
@@ -33,33 +33,53 @@ fn run(name: &str, rt: &str) -> (String, Option<i32>) {
     fs::remove_dir_all(folder).expect("removed");
     let text = String::from_utf8_lossy(&output.stdout);
     // The stand-in may run across the turn of a second.
-    let text = text.replace(" 1 s, and built", " 0 s, and built");
+    let text = text.replace(" 1 s", " 0 s");
     (text, output.status.code())
+}
+
+/// What rt prints of a crate: its functions, and last whether it is proved.
+fn page(name: &str, proved: bool) -> String {
+    let verdict = if proved {
+        "proved functions=1"
+    } else {
+        "not-proved"
+    };
+    format!("echo 'fn {name}::f: proved' >&2\necho 'crate {name}: modules loaded=0 checked=9'\necho 'logic={verdict}'\n")
 }
 
 #[test]
 fn all_proved() {
-    let rt = "[ \"$*\" = 'staticlib top' ] || exit 9\n\
-              echo 'fn one::f: proved' >&2\necho 'rt: one proved (12 s)' >&2\n\
-              echo 'rt: two proved (unchanged since it was last proved)' >&2\n\
-              echo 'fn top::g: proved'\necho 'rt: target/staticlib/libtop.a has the functions'\n";
-    let lines = "  1 of 3  one          12 s\n  2 of 3  two          unchanged\n  3 of 3  top          0 s, and built\n";
-    assert_eq!(run("proved", rt), (lines.to_string(), Some(0)));
+    // Of what has not changed since it was proved rt prints nothing.
+    let rt = format!(
+        "[ \"$*\" = lib ] || exit 9\n{}{}",
+        page("one", true),
+        page("top", true)
+    );
+    let lines = "  1 of 3  one          0 s\n  2 of 3  two          unchanged\n  3 of 3  top          0 s, and built\n";
+    assert_eq!(run("proved", &rt), (lines.to_string(), Some(0)));
 }
 
 #[test]
 fn a_dependency_not_proved() {
-    let rt = "echo 'fn one::f: proved'\necho 'rt: one proved (1 s)'\n\
-              echo 'two/src/lib.rt:3:1: error: no'\necho 'rt: two NOT PROVED (exit 1, 2 s)'\n\
-              echo 'rt: FAILED: two'\nexit 1\n";
-    let lines = "  1 of 3  one          1 s\ntwo/src/lib.rt:3:1: error: no\nrt: two NOT PROVED (exit 1, 2 s)\nrt: FAILED: two\n";
-    assert_eq!(run("dependency", rt), (lines.to_string(), Some(1)));
+    let rt = format!(
+        "{}echo 'two/src/lib.rt:3:1: error: no'\n{}echo 'rt: the library two did not build, so nothing above it was checked'\nexit 1\n",
+        page("one", true),
+        page("two", false)
+    );
+    let lines = "  1 of 3  one          0 s\ntwo/src/lib.rt:3:1: error: no\nfn two::f: proved\n\
+                 crate two: modules loaded=0 checked=9\nlogic=not-proved\n\
+                 rt: the library two did not build, so nothing above it was checked\n";
+    assert_eq!(run("dependency", &rt), (lines.to_string(), Some(1)));
 }
 
 #[test]
 fn the_crate_itself_not_proved() {
-    let rt = "echo 'rt: one proved (1 s)'\necho 'rt: two proved (1 s)'\necho 'top/src/lib.rt:9:1: error: no'\nexit 3\n";
+    let rt = format!(
+        "{}{}echo 'top/src/lib.rt:9:1: error: no'\nexit 3\n",
+        page("one", true),
+        page("two", true)
+    );
     let lines =
-        "  1 of 3  one          1 s\n  2 of 3  two          1 s\ntop/src/lib.rt:9:1: error: no\n";
-    assert_eq!(run("itself", rt), (lines.to_string(), Some(3)));
+        "  1 of 3  one          0 s\n  2 of 3  two          0 s\ntop/src/lib.rt:9:1: error: no\n";
+    assert_eq!(run("itself", &rt), (lines.to_string(), Some(3)));
 }
