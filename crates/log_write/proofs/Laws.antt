@@ -35,7 +35,10 @@ pub clear_turns : (a : Area) → clear_all a ≡ up_to (clear_turn a) a.sectors
 unfolding clear_all
 clear_turns a = map_falling (λ s. store s zeros) a.sector a.sectors
 
--- One more record than those laid so far.
+-- The records laid so far, and one more.
+pub lay_zeros : bytes_of (replicate 512 0) ≡ lay []
+lay_zeros = all_zero 512 ∙ sym lay_none
+
 pub lay_next : (rs : List Record) (k : ℕ) (b old new : Bytes) → k < length rs → b ≡ record_bytes (get_or rs k (record_in zeros))
     → old ≡ lay (map record_bytes (take k rs)) → new ≡ overlay 32 b (32 * k) old → new ≡ lay (map record_bytes (take (k + 1) rs))
 lay_next rs k b old new less own so is =

@@ -199,11 +199,11 @@ fn record_of(o: Operation, k: u32) -> Record
     }
 }
 
-// The records that tell an operation, laid into a sector of zeros from record 0 on.
-fn lay_records(o: Operation, buf: &mut [u8])
-    requires { (length buf.old ≡ 512) × (bytes_of buf.old ≡ zeros) }
+// The records that tell an operation, in a sector from record 0 on, the rest zero.
+fn lay_records(o: Operation, buf: &mut [u8; 512])
     ensures { bytes_of buf.new ≡ lay (map record_bytes (operation_records o)) }
 {
+    *buf = [0u8; 512];
     let n = log_group::records_of(o);
     let mut k = 0;
     while k < n {

@@ -1,14 +1,9 @@
-use borrow.Author.Rules.{rules}
 use Prim.Native.Nat.{ℕ, ◌*◌}
 use mathlib.Core.Path.{ap, ◌∙◌}
 use lib.ListN.{length}
 use Rattle.model.specs.Bytes.{bytes_of, overlay, part}
-use Rattle.model.proofs.Lists.{all_zero}
 use Rattle.log_write.proofs.Laws.{text_laid}
 use Rattle.log_write.proofs.encode_group.Goals as goal
-
-pub lay_records-requires : goal.lay_records-requires
-lay_records-requires c = (search rules, all_zero 512)
 
 pub returns : goal.returns
 returns c =

@@ -1,19 +1,18 @@
 use Prim.Native.Nat.{ℕ, ◌*◌}
 use native.Mathlib.Omega.{arith}
-use mathlib.Core.Path.{sym, ap, ◌∙◌, fun_ext}
+use mathlib.Core.Path.{ap, ◌∙◌, fun_ext}
 use mathlib.Core.List.{List, map}
 use lib.Seq.{take_all}
 use Rattle.model.specs.Bytes.{Bytes, bytes_of, overlay}
 use Rattle.model.specs.Record.{record_bytes, operation_records, lay}
 use Rattle.model.specs.declared.Record.{Record}
 use Rattle.model.proofs.Sectors.{part_zero}
-use Rattle.model.proofs.Pieces.{lay_none}
-use Rattle.log_write.proofs.Laws.{lay_next}
+use Rattle.log_write.proofs.Laws.{lay_zeros, lay_next}
 use borrow.Author.Rules.{rules}
 use Rattle.log_write.proofs.lay_records.Goals as goal
 
 pub loop-k-init : goal.loop-k-init
-loop-k-init c = (search rules, c.requires.0, c.requires.1 ∙ sym lay_none)
+loop-k-init c = (search rules, search rules, lay_zeros)
 
 pub record_of-requires : goal.record_of-requires
 record_of-requires c = omega (arith, c.records_of-n.ensures.0)
