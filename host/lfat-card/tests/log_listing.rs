@@ -13,7 +13,7 @@ fn printed(table: &[u8]) -> Vec<u8> {
         .stdin(Stdio::piped())
         .stdout(Stdio::piped())
         .spawn()
-        .expect("loglist is built by rt check");
+        .expect("loglist is built by `.ci/build --loglist`");
     let mut input = child.stdin.take().expect("a pipe");
     let table = table.to_vec();
     let writer = std::thread::spawn(move || {
