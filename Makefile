@@ -25,7 +25,7 @@ help:
 	@echo 'make disk    build the disk layer for C, $(DISK)'
 	@echo 'make save    build examples/save.c with it, $(SAVE)'
 	@echo 'make cases   the random tests of the library, N times as many: make cases N=10'
-	@echo 'make test    the gate, .ci/run: proves what is not proved on this machine yet (from nothing half an hour and more)'
+	@echo 'make test    the gate, .ci/run: proves what is not proved on this machine yet'
 	@echo 'make install command line, headers and libraries to PREFIX ($(PREFIX)): make install PREFIX=/opt/lfat'
 	@echo 'make clean   remove what cargo, gcc and make run have made; proofs and library stay'
 
