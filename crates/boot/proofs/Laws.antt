@@ -1,9 +1,9 @@
 -- Sectors per cluster as a power of two, and layouts judged by their sizes.
 use Prim.Native.Nat.{ℕ, ◌+◌, ◌-◌, ◌/◌, ◌^◌, ◌<◌, ◌≤◌}
 use native.Mathlib.Omega.{arith}
-use native.Mathlib.Nat.{zero-div, div-le_self}
-use mathlib.Core.Path.{◌≡◌, refl, ap, ◌∙◌}
-use mathlib.Core.Bool.{Bool, true, false, ◌&&◌}
+use native.Mathlib.Nat.{div-le_self}
+use mathlib.Core.Path.{◌≡◌, refl}
+use mathlib.Core.Bool.{Bool, true, ◌&&◌}
 use lib.Dec.{eqb, ltb}
 use lib.Count.{ones, ones_in, count_trailing_zeros}
 use borrow.Author.Tests.{eqb-true, ltb-true, leb-true}
@@ -12,11 +12,11 @@ use Rattle.model.specs.Scan.{all, all_from, walk}
 use Rattle.model.specs.Boot.{fields_ok, size_ok, fat_holds, arrange, data_start}
 use Rattle.model.specs.Promises.{Fits}
 use Rattle.model.specs.declared.Fields.{Fields}
-use Rattle.model.proofs.Tests.{and_left, and_right, every_at, every_not, each_every, between_is, between_low, between_high}
+use Rattle.model.proofs.Tests.{and_left, and_right, every_at, each_every, between_is}
 use Rattle.model.proofs.Scan.{all_at}
 use Rattle.model.proofs.Boot.{arranged}
 use Rattle.boot.specs.Booted.{sized, Narrow}
-use Rattle.boot.specs.declared.Booted.TheVariants.{Bad, Good}
+use Rattle.std.specs.Prelude.{Some}
 
 -- Of the numbers to 64, each with one bit set is 2 to the power of its trailing zeros.
 abbrev test : ℕ → Bool
@@ -44,17 +44,6 @@ module _ (f : Fields) where
   abbrev n : ℕ
   n = (arrange f).clusters
 
-  pub too_few : n < 4085 → sized (arrange f) ≡ Bad
-  unfolding sized size_ok
-  too_few h = rw (every_not _ 0 (between_low 4085 65524 n h))
-
-  -- A card that ends before its data has none.
-  pub no_clusters : f.total < data_start f → n ≡ 0
-  unfolding arrange
-  no_clusters h =
-      let z : f.total - data_start f ≡ 0 = omega arith in
-      ap (λ x. x / f.factor) z ∙ zero-div f.factor
-
   -- There are not more of them than sectors after the first three.
   pub few_clusters : fields_ok f ≡ true → f.total < 4294967296 → n + 2 < 4294967296
   unfolding fields_ok arrange
@@ -64,20 +53,12 @@ module _ (f : Fields) where
       let d : (f.total - data_start f) / f.factor ≤ f.total - data_start f = div-le_self (f.total - data_start f) f.factor in
       omega arith
 
-  pub too_many : 65524 < n → sized (arrange f) ≡ Bad
-  unfolding sized size_ok
-  too_many h = rw (every_not _ 0 (between_high 4085 65524 n h))
-
-  pub too_wide : fat_holds (arrange f) ≡ false → sized (arrange f) ≡ Bad
-  unfolding sized size_ok
-  too_wide h = rw (every_not _ 1 h)
-
   module _ (low : 4085 ≤ n) (high : n ≤ 65524) (wide : fat_holds (arrange f) ≡ true) where
     ok : size_ok (arrange f) ≡ true
     unfolding size_ok
     ok = each_every _ (between_is 4085 65524 n low high, (wide, tt))
 
-    pub right : sized (arrange f) ≡ Good (arrange f)
+    pub right : sized (arrange f) ≡ Some (arrange f)
     unfolding sized
     right = rw ok
 

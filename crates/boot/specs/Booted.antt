@@ -1,24 +1,22 @@
 -- The layout that a boot sector gives, or none.
-use Rattle.std.specs.Prelude.{◌<◌}
+use Rattle.std.specs.Prelude.{◌<◌, Option, Some, None}
+use Rattle.std.specs.Option.{IfSome}
 use Rattle.model.specs.Bytes.{Bytes, pick}
 use Rattle.model.specs.Boot.{layout, size_ok, boot_ok}
 use Rattle.model.specs.Promises.{Fits}
 use Rattle.model.specs.declared.Fields.{Fields}
 use Rattle.model.specs.declared.Layout.{Layout}
-use Rattle.boot.specs.declared.Booted.{Booted}
-use Rattle.boot.specs.declared.Booted.TheVariants.{Bad, Good}
 
-unfoldable pub booted : Bytes → Booted
-booted b = pick (boot_ok b) (Good (layout b)) Bad
+unfoldable pub booted : Bytes → Option Layout
+booted b = pick (boot_ok b) (Some (layout b)) None
 
 -- A layout whose fields were accepted is judged by its sizes.
-unfoldable pub sized : Layout → Booted
-sized l = pick (size_ok l) (Good l) Bad
+unfoldable pub sized : Layout → Option Layout
+sized l = pick (size_ok l) (Some l) None
 
 -- What a layout that is given is like.
-abbrev pub Placed : Booted → Type 0
-Placed Bad = Unit {0}
-Placed (Good l) = Fits l
+abbrev pub Placed : Option Layout → Type 0
+Placed o = IfSome o Fits
 
 -- Fields that come from two bytes.
 pub record Narrow (f : Fields) : Type 0 where

@@ -1,18 +1,19 @@
 -- Append by its parts: grounds, the stores of the chain, and the steps through the log.
-use Prim.Native.Nat.{ℕ, ◌+◌, ◌-◌, ◌<◌, ◌≤◌}
+use Prim.Native.Nat.{ℕ, ◌+◌, ◌<◌, ◌≤◌}
 use native.Mathlib.Omega.{arith}
 use mathlib.Core.Path.{◌≡◌, sym, ap, subst}
-use mathlib.Core.Bool.{Bool, true, false}
+use Rattle.std.proofs.Common.{Result, Ok, Err}
+use Rattle.model.specs.declared.Stopped.{Stopped}
 use mathlib.Core.List.{List, []}
 use lib.ListN.{length}
-use borrow.Author.Tests.{lt-ltb, le-ltb, ne_eqb}
+use lib.Dec.{eqb}
+use borrow.Author.Tests.{lt-ltb, le-ltb}
+use mathlib.Core.Bool.{true, false}
 use Rattle.model.specs.Bytes.{Span}
-use Rattle.model.specs.Sector.{Card, card_of, Window, Store}
+use Rattle.model.specs.Sector.{Card, card_of, Store}
 use Rattle.model.specs.Fat.{Fat, entry, fat1_of, fat2_of, free_clusters, write_fat}
-use Rattle.model.specs.Ground.{refused, granted, ◌when◌, ◌>>=◌, ◌>>◌}
-use Rattle.model.specs.Calendar.{stamp_of}
-use Rattle.model.specs.Volume.{clean_at}
-use Rattle.model.specs.Promises.{Shape, Ran}
+use Rattle.model.specs.Ground.{refused, granted, ◌when◌, ◌>>◌}
+use Rattle.model.specs.Promises.{Shape, Spent}
 use Rattle.model.specs.declared.Area.{Area}
 use Rattle.model.specs.declared.Layout.{Layout}
 use Rattle.model.specs.declared.File.{File}
@@ -26,7 +27,7 @@ use Rattle.model.proofs.Cards.{Away}
 use Rattle.model.proofs.Chains.{Used, chain_used}
 use Rattle.operations.specs.Program.{ending, stores}
 use Rattle.operations.specs.Plan.{clusters_of, last_cluster, added, new_clusters, operate, append_along, append_stores}
-use Rattle.operations.specs.Calls.{append_to, append_on, append, unless_none}
+use Rattle.operations.specs.Calls.{append_to, unless_none}
 use Rattle.volume.specs.Opened.{Ready}
 use Rattle.volume.proofs.Ready.{ready_run, ready_log}
 use Rattle.file_read.specs.Files.{Proper}
@@ -35,21 +36,12 @@ use Rattle.fat_write.proofs.Extends.{extend_grown}
 use Rattle.fat_write.proofs.Kept.{free_kept, grown_kept}
 use Rattle.file_append.specs.Extents.{append_data, Room, first_new}
 use Rattle.file_append.proofs.Apart.{append_off_log}
-use Rattle.file_append.proofs.Front.{front_kept, data_cut, data_then}
+use Rattle.file_append.proofs.Front.{front_kept, data_then}
 use Rattle.log_steps.specs.Steps.{log_steps}
 use Rattle.log_steps.proofs.Parts.{operate_cut, operate_ran}
 use Rattle.call_append.specs.Append.{chain_stores}
 
 -- ---- grounds
-
-module _ (w : Window) (n d : Span) (s : ℕ) where
-  pub append_refused : (g : Ground) → clean_at w s ≡ refused g → append w n d s ≡ refused g
-  unfolding append ◌>>=◌
-  append_refused g e = rw e
-
-  pub append_clean : (v : Volume) → clean_at w s ≡ granted v → append w n d s ≡ append_on v w.card n d (stamp_of s)
-  unfolding append ◌>>=◌
-  append_clean v e = rw e
 
 module _ (c : Card) (v : Volume) (f : File) (d : Span) (st : ℕ) where
   abbrev free_count : ℕ
@@ -59,13 +51,13 @@ module _ (c : Card) (v : Volume) (f : File) (d : Span) (st : ℕ) where
   unfolding append_to ◌when◌ ◌>>◌
   append_full h = rw (lt-ltb free_count (added v.layout f d.size) h)
 
-  pub append_none : added v.layout f d.size ≤ free_count → d.size ≡ 0 → append_to v c f d st ≡ granted (ending [])
+  pub append_none : added v.layout f d.size ≤ free_count → eqb d.size 0 ≡ true → append_to v c f d st ≡ granted (ending [])
   unfolding append_to ◌when◌ ◌>>◌ unless_none
   append_none h e = rw (le-ltb free_count (added v.layout f d.size) h, e)
 
-  pub append_some : added v.layout f d.size ≤ free_count → (d.size ≡ 0 → ⊥) → append_to v c f d st ≡ granted (append_stores v c f d st)
+  pub append_some : added v.layout f d.size ≤ free_count → eqb d.size 0 ≡ false → append_to v c f d st ≡ granted (append_stores v c f d st)
   unfolding append_to ◌when◌ ◌>>◌ unless_none
-  append_some h e = rw (le-ltb free_count (added v.layout f d.size) h, ne_eqb d.size 0 e)
+  append_some h e = rw (le-ltb free_count (added v.layout f d.size) h, e)
 
 -- ---- the chain
 
@@ -77,21 +69,17 @@ old_used l c f sh h = all_map (Used l (entry (fat1_of l c))) (λ k. k ≡ 0 → 
 
 -- ---- data and FAT2 under one limit
 
-module _ (l : Layout) (f : File) (d : Span) (last n limit : ℕ) (e x : List ℕ) (m : ℕ) where
-  abbrev linked : Card → List Store
-  linked c = write_fat l l.fat2 (grown l (fat1_of l c) last n) (fat2_of l c)
+module _ (l : Layout) (f : File) (d : Span) {limit left : ℕ} {e x : List ℕ} {r : Result Unit Stopped} (sh : Shape l) (h : Proper l (card_of e) f)
+    (so : Spent limit left (append_data l (card_of e) f d) e x r) where
+  pub enough_kept : {n : ℕ} → n ≤ length (free_clusters l (fat1_of l (card_of e))) → n ≤ length (free_clusters l (fat1_of l (card_of x)))
+  enough_kept enough = rw (free_kept l sh (card_of e) (card_of x) (front_kept l f d so sh h)) enough
 
-  pub chain_cut : Ran limit (append_data l (card_of e) f d) e x m false → Ran limit (chain_stores l (card_of e) f d last n) e x m false
-  chain_cut so = data_cut l f d limit e x m linked so
-
-  module _ (sh : Shape l) (h : Proper l (card_of e) f) where
-    pub enough_kept : (w : Bool) → Ran limit (append_data l (card_of e) f d) e x m w → n ≤ length (free_clusters l (fat1_of l (card_of e)))
-        → n ≤ length (free_clusters l (fat1_of l (card_of x)))
-    enough_kept w so enough = rw (free_kept l sh (card_of e) (card_of x) (front_kept l f d limit e x m sh h w so)) enough
-
-    pub chain_ran : Ran limit (append_data l (card_of e) f d) e x m true → (y : List ℕ) (k : ℕ) (w : Bool) → Ran (limit - m) (linked (card_of x)) x y k w
-        → Ran limit (chain_stores l (card_of e) f d last n) e y (m + k) w
-    chain_ran so = data_then l f d limit e x m linked so (grown_kept l sh (card_of e) (card_of x) (front_kept l f d limit e x m sh h true so) last n)
+  pub chain_ran : {u : Unit} → r ≡ Ok u → (last n : ℕ) → {k : ℕ} {y : List ℕ} {q : Result Unit Stopped}
+      → Spent left k (write_fat l l.fat2 (grown l (fat1_of l (card_of x)) last n) (fat2_of l (card_of x))) x y q
+      → Spent limit k (chain_stores l (card_of e) f d last n) e y q
+  chain_ran g last n next =
+      data_then l f d so g (λ c. write_fat l l.fat2 (grown l (fat1_of l c) last n) (fat2_of l c))
+      (grown_kept l sh (card_of e) (card_of x) (front_kept l f d so sh h) last n) next
 
 -- ---- the steps through the log
 
@@ -126,14 +114,14 @@ module _ (v : Volume) (xs : List ℕ) (f : File) (d : Span) (st : ℕ) (ready : 
   append_is = ap (λ (t : Fat). operate v c ds t update)
       (extend_grown old (old_used v.layout c f sh room.chain) (fat1_of v.layout c) v.layout n room.enough)
 
-  module _ (limit : ℕ) (x : List ℕ) (m last count : ℕ) (end : last ≡ last_cluster old) (many : count ≡ n) where
-    pub append_cut : Ran limit (chain_stores v.layout c f d last count) xs x m false → Ran limit (stores (append_stores v c f d st)) xs x m false
-    append_cut so = rw append_is (operate_cut v ds new_fat update sh ready.lies.above off_log limit xs x m (rw (end, many) at so))
+  module _ {limit left : ℕ} {x : List ℕ} {r : Result Unit Stopped} (last count : ℕ) (end : last ≡ last_cluster old) (many : count ≡ n)
+      (so : Spent limit left (chain_stores v.layout c f d last count) xs x r) where
+    pub append_cut : {z : Stopped} → r ≡ Err z → Spent limit left (stores (append_stores v c f d st)) xs x (Err z)
+    append_cut g = rw append_is (operate_cut v ds new_fat update sh ready.lies.above off_log g (rw (end, many) at so))
 
-    pub append_ran : Ran limit (chain_stores v.layout c f d last count) xs x m true → (from size : ℕ) → from ≡ first_new v.layout c count
-        → size ≡ f.size + d.size
-        → (y : List ℕ) (k : ℕ) (w : Bool) → Ran (limit - m) (log_steps v (plain (Update f.entry last from size st)) (card_of x)) x y k w
-        → Ran limit (stores (append_stores v c f d st)) xs y (m + k) w
-    append_ran so from size first total y k w next =
-        rw append_is (operate_ran v ds new_fat update sh ready.lies.above off_log limit xs x m (rw (end, many) at so) y k w
-        (rw (end, first, many, total) at next))
+    pub append_ran : {u : Unit} → r ≡ Ok u → (from size : ℕ) → from ≡ first_new v.layout c count → size ≡ f.size + d.size
+        → {k : ℕ} {y : List ℕ} {q : Result Unit Stopped}
+        → Spent left k (log_steps v (plain (Update f.entry last from size st)) (card_of x)) x y q
+        → Spent limit k (stores (append_stores v c f d st)) xs y q
+    append_ran g from size first total next =
+        rw append_is (operate_ran v ds new_fat update sh ready.lies.above off_log g (rw (end, many) at so) (rw (end, first, many, total) at next))

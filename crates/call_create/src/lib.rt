@@ -1,7 +1,7 @@
 // Create, with a long name or without, and rename: the calls that change the root directory and neither data nor FATs.
 #![tactic(auto)]
 
-ghost use Rattle.std.specs.Prelude.{true, ◌&&◌, ◌≡◌, [], ◌*◌, ◌%◌, ◌≤◌, ◌<◌, length};
+ghost use Rattle.std.specs.Prelude.{true, ◌≡◌, [], ◌*◌, ◌%◌, ◌≤◌, ◌<◌, length, Ok};
 ghost use Rattle.model.specs.Bytes.{bytes_of, view};
 ghost use Rattle.model.specs.Record.{with_text};
 ghost use Rattle.model.specs.LongName.{most_characters};
@@ -15,19 +15,19 @@ ghost use Rattle.operations.specs.Calls.{name_of, create_as, create_on, create_l
 ghost use Rattle.volume.specs.Opened.{Ready};
 ghost use Rattle.call_outcome.specs.Did.{Did};
 
-use model::{Access, Entry, File, Ground, Operation, Outcome, Volume};
-use root_lookup::{Found, Vacancy};
-use volume::Examined;
+use model::{Access, Ended, Entry, File, Ground, Operation, Volume};
 
 // The stores of an operation with a text that needs neither data nor FAT stores.
-fn record_change(w: &mut [u8], v: Volume, o: Operation, text: &[u8], limit: u32) -> Outcome
+fn record_change(w: &mut [u8], v: Volume, o: Operation, text: &[u8], limit: u32) -> Ended
     requires ready { Ready v w.old }
     requires slots { Slots v.layout.entries (with_text o (bytes_of text.now)) × Texted text.now × Room o text.now }
     ensures { Did limit
         (granted (operate v (card_of w.old) [] (old_fat v (card_of w.old)) (with_text o (bytes_of text.now))))
-        w.old w.new result }
+        w.old w.new (Ok result) }
 {
-    call_outcome::ended(log_steps::log_steps(w, v, o, text, limit))
+    let mut left = limit;
+    let stored = log_steps::log_steps(w, v, o, text, &mut left);
+    call_outcome::ended(stored, limit - left)
 }
 
 // The stores of a create, once its slot is known.
@@ -39,11 +39,12 @@ fn create_at(
     stamp: u32,
     slot: u32,
     limit: u32,
-) -> Outcome
+) -> Ended
     requires ready { Ready v w.old }
-    requires slot_and_names { (slot < v.layout.entries) × (name_ok (view name.now) ≡ true) × (length text.now % 2 ≡ 0) × (length text.now ≤ 2 * most_characters) }
+    requires slot_and_names { (slot < v.layout.entries) × (name_ok (view name.now) ≡ true) × (length text.now % 2 ≡ 0)
+        × (length text.now ≤ 2 * most_characters) }
     ensures { Did limit (granted (create_stores v (card_of w.old) slot (name_of (view name.now)) (view text.now) stamp))
-        w.old w.new result }
+        w.old w.new (Ok result) }
 {
     let entry = Entry {
         slot,
@@ -59,38 +60,38 @@ fn create_at(
 }
 
 // Create with a text, once NAME and LONGNAME are asked.
-fn create_as(w: &mut [u8], v: Volume, name: &[u8], text: &[u8], stamp: u32, limit: u32) -> Outcome
+fn create_as(
+    w: &mut [u8],
+    v: Volume,
+    name: &[u8],
+    text: &[u8],
+    stamp: u32,
+    limit: u32,
+) -> Result<Ended, Ground>
     requires ready { Ready v w.old }
     requires names { (name_ok (view name.now) ≡ true) × (length text.now % 2 ≡ 0) × (length text.now ≤ 2 * most_characters) }
     ensures { Did limit (create_as v (card_of w.old) (view name.now) (view text.now) stamp) w.old w.new result }
 {
-    let p = root_lookup::new_slot(w, v, name, text);
-    match p {
-        Vacancy::Denied(g) => Outcome::Refused(g),
-        Vacancy::Slot(s) => create_at(w, v, name, text, stamp, s, limit),
-    }
+    let s = root_lookup::new_slot(w, v, name, text)?;
+    Ok(create_at(w, v, name, text, stamp, s, limit))
 }
 
 // Create, on a clean card.
-fn create_on(w: &mut [u8], v: Volume, name: &[u8], stamp: u32, limit: u32) -> Outcome
+fn create_on(w: &mut [u8], v: Volume, name: &[u8], stamp: u32, limit: u32) -> Result<Ended, Ground>
     requires { Ready v w.old }
     ensures { Did limit (create_on v (card_of w.old) (view name.now) stamp) w.old w.new result }
 {
     if !root_names::is_name(name) {
-        return Outcome::Refused(Ground::Name);
+        return Err(Ground::Name);
     }
-    let none = [0u8; 0];
-    create_as(w, v, name, &none, stamp, limit)
+    create_as(w, v, name, &[], stamp, limit)
 }
 
-pub fn create(w: &mut [u8], name: &[u8], seconds: u32, limit: u32) -> Outcome
+pub fn create(w: &mut [u8], name: &[u8], seconds: u32, limit: u32) -> Result<Ended, Ground>
     ensures { Did limit (create (window_of w.old) (view name.now) seconds) w.old w.new result }
 {
-    let e = volume::clean_at(w, seconds);
-    match e {
-        Examined::Refused(g) => Outcome::Refused(g),
-        Examined::Granted(v) => create_on(w, v, name, clock::stamp(seconds), limit),
-    }
+    let v = volume::clean_at(w, seconds)?;
+    create_on(w, v, name, clock::stamp(seconds), limit)
 }
 
 // Create with a long name, on a clean card.
@@ -101,36 +102,39 @@ fn create_long_on(
     text: &[u8],
     stamp: u32,
     limit: u32,
-) -> Outcome
+) -> Result<Ended, Ground>
     requires { Ready v w.old }
     ensures { Did limit (create_long_on v (card_of w.old) (view name.now) (view text.now) stamp) w.old
         w.new result }
 {
     if !root_names::is_name(name) {
-        return Outcome::Refused(Ground::Name);
+        return Err(Ground::Name);
     }
     if !root_names::is_text(text) {
-        return Outcome::Refused(Ground::Longname);
+        return Err(Ground::Longname);
     }
     create_as(w, v, name, text, stamp, limit)
 }
 
-pub fn create_long(w: &mut [u8], name: &[u8], text: &[u8], seconds: u32, limit: u32) -> Outcome
+pub fn create_long(
+    w: &mut [u8],
+    name: &[u8],
+    text: &[u8],
+    seconds: u32,
+    limit: u32,
+) -> Result<Ended, Ground>
     ensures { Did limit (create_long (window_of w.old) (view name.now) (view text.now) seconds) w.old
         w.new result }
 {
-    let e = volume::clean_at(w, seconds);
-    match e {
-        Examined::Refused(g) => Outcome::Refused(g),
-        Examined::Granted(v) => { create_long_on(w, v, name, text, clock::stamp(seconds), limit) }
-    }
+    let v = volume::clean_at(w, seconds)?;
+    create_long_on(w, v, name, text, clock::stamp(seconds), limit)
 }
 
 // The stores of a rename, once its slots are known.
-fn rename_to(w: &mut [u8], v: Volume, f: File, name: &[u8], to: u32, limit: u32) -> Outcome
+fn rename_to(w: &mut [u8], v: Volume, f: File, name: &[u8], to: u32, limit: u32) -> Ended
     requires ready { Ready v w.old }
     requires slots_and_name { (f.entry.slot < v.layout.entries) × (to < v.layout.entries) × (name_ok (view name.now) ≡ true) }
-    ensures { Did limit (granted (rename_stores v (card_of w.old) f to (name_of (view name.now)))) w.old w.new result }
+    ensures { Did limit (granted (rename_stores v (card_of w.old) f to (name_of (view name.now)))) w.old w.new (Ok result) }
 {
     let l = v.layout;
     let entry = f.entry;
@@ -142,54 +146,34 @@ fn rename_to(w: &mut [u8], v: Volume, f: File, name: &[u8], to: u32, limit: u32)
         to,
         renamed: root_names::name_of(name),
     };
-    let none = [0u8; 0];
-    record_change(w, v, o, &none, limit)
+    record_change(w, v, o, &[], limit)
 }
 
 // Rename of a file, whose new name keeps the name rule.
-fn rename_as(w: &mut [u8], v: Volume, f: File, name: &[u8], limit: u32) -> Outcome
+fn rename_as(w: &mut [u8], v: Volume, f: File, name: &[u8], limit: u32) -> Result<Ended, Ground>
     requires ready { Ready v w.old }
     requires slot_and_name { (f.entry.slot < v.layout.entries) × (name_ok (view name.now) ≡ true) }
     ensures { Did limit (rename_as v (card_of w.old) f (view name.now)) w.old w.new result }
 {
-    let none = [0u8; 0];
-    let p = root_lookup::new_slot(w, v, name, &none);
-    match p {
-        Vacancy::Denied(g) => Outcome::Refused(g),
-        Vacancy::Slot(s) => rename_to(w, v, f, name, s, limit),
-    }
-}
-
-fn are_names(old: &[u8], new: &[u8]) -> bool
-    ensures { result ≡ (name_ok (view old.now) && name_ok (view new.now)) }
-{
-    if !root_names::is_name(old) {
-        return false;
-    }
-    root_names::is_name(new)
+    let s = root_lookup::new_slot(w, v, name, &[])?;
+    Ok(rename_to(w, v, f, name, s, limit))
 }
 
 // Rename, on a clean card.
-fn rename_on(w: &mut [u8], v: Volume, old: &[u8], new: &[u8], limit: u32) -> Outcome
+fn rename_on(w: &mut [u8], v: Volume, old: &[u8], new: &[u8], limit: u32) -> Result<Ended, Ground>
     requires { Ready v w.old }
     ensures { Did limit (rename_on v (card_of w.old) (view old.now) (view new.now)) w.old w.new result }
 {
-    if !are_names(old, new) {
-        return Outcome::Refused(Ground::Name);
+    if !root_names::is_name(old) || !root_names::is_name(new) {
+        return Err(Ground::Name);
     }
-    let o = root_lookup::file_named(w, v, Access::Write, old);
-    match o {
-        Found::Missing(g) => Outcome::Refused(g),
-        Found::At(f) => rename_as(w, v, f, new, limit),
-    }
+    let f = root_lookup::file_named(w, v, Access::Write, old)?;
+    rename_as(w, v, f, new, limit)
 }
 
-pub fn rename(w: &mut [u8], old: &[u8], new: &[u8], limit: u32) -> Outcome
+pub fn rename(w: &mut [u8], old: &[u8], new: &[u8], limit: u32) -> Result<Ended, Ground>
     ensures { Did limit (rename (window_of w.old) (view old.now) (view new.now)) w.old w.new result }
 {
-    let e = volume::clean(w);
-    match e {
-        Examined::Refused(g) => Outcome::Refused(g),
-        Examined::Granted(v) => rename_on(w, v, old, new, limit),
-    }
+    let v = volume::clean(w)?;
+    rename_on(w, v, old, new, limit)
 }

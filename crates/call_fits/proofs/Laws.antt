@@ -11,8 +11,7 @@ use Rattle.model.specs.Volume.{clean}
 use Rattle.model.specs.declared.Ground.{Ground}
 use Rattle.model.specs.declared.Layout.{Layout}
 use Rattle.model.specs.declared.Volume.{Volume}
-use Rattle.model.specs.declared.Outcome.{Outcome}
-use Rattle.model.specs.declared.Outcome.TheVariants.{Refused, Done, No}
+use Rattle.model.specs.Outcome.{Outcome, Refused, Done, No}
 use Rattle.model.proofs.Grounds.{ends}
 use Rattle.model.proofs.Indices.{indices_length}
 use Rattle.operations.specs.Fitting.{Fit, fit, fits_on, fits, fit_outcome}

@@ -1,33 +1,36 @@
 -- The numbers of a fresh card as the code finds them, its sectors as it builds them, and its stores as it makes them.
 use Prim.Native.Nat.{ℕ, ◌+◌, ◌-◌, ◌*◌, ◌/◌, ◌%◌, ◌^◌, ◌<◌, ◌≤◌}
 use native.Mathlib.Omega.{arith}
-use native.Mathlib.Nat.{mul-le-mul_left, mul-le-mul_right, zero-div}
+use native.Mathlib.Nat.{mul-le-mul_right, zero-div}
 use mathlib.Core.Path.{◌≡◌, refl, sym, ap, ◌∙◌, subst}
 use mathlib.Core.Logic.{⊎_elim}
-use mathlib.Core.Bool.{Bool, true, false, ◌&&◌, and-false, and-true}
+use mathlib.Core.Bool.{Bool, true, false, ◌&&◌, and-true}
 use mathlib.Core.List.{List, [], ◌∷◌}
 use lib.Dec.{leb, ltb}
-use lib.ListN.{length}
-use borrow.Author.Tests.{le-leb, lt-leb, leb-true, eqb-true, lt-ltb, le-ltb, ltb-false}
-use Rattle.model.specs.Bytes.{Bytes, byte_of, zeros}
+use lib.ListN.{length, get_or}
+use borrow.Author.Tests.{le-leb, leb-true, eqb-true, lt-ltb, le-ltb, ltb-false}
+use Rattle.model.specs.Bytes.{Bytes, byte_of, bytes_of, patch, zeros}
 use Rattle.model.specs.Scan.{every}
 use Rattle.model.specs.Sector.{Window, Store, store}
 use Rattle.model.specs.Boot.{arrange, fields_ok, fat_holds}
 use Rattle.model.specs.Log.{most_sectors}
 use Rattle.model.specs.Ground.{refused, granted, ◌when◌, ◌>>◌}
-use Rattle.model.specs.Promises.{Shape, Held, Ran, up_to}
+use Rattle.model.specs.Promises.{Shape, Held, Spent, up_to}
 use Rattle.model.specs.declared.Fields.{Fields}
 use Rattle.model.specs.declared.Layout.{Layout}
-use Rattle.model.specs.declared.Ground.TheVariants as Ground
-use Rattle.model.proofs.Tests.{every_at, every_not, which, and_left, and_right, by_pick}
+use Rattle.model.specs.declared.Ground.{Ground}
+use Rattle.model.proofs.Tests.{every_at, every_not, which, and_left, and_right, by_pick, less?}
+use Rattle.model.proofs.Overlays.{overlay_in, overlay_below}
 use Rattle.model.proofs.Boot.{one_bit}
 use Rattle.model.proofs.Scan.{first_is, first_none}
 use Rattle.model.proofs.Cards.{store_same}
-use Rattle.model.proofs.Runs.{ran_then, ran_stop}
 use Rattle.model.proofs.Turns.{map_indices}
 use Rattle.operations.specs.Program.{stores}
 use Rattle.boot.specs.Booted.{Narrow, sized}
-use Rattle.boot.specs.declared.Booted.TheVariants.{Bad, Good}
+use Rattle.std.proofs.Common.{Result, Ok, Err, Option, Some, None}
+use Rattle.std.specs.Option.{ok_or}
+use Rattle.std.proofs.lemmas.Option.{none-some, same_Some}
+use Rattle.model.specs.declared.Stopped.{Stopped}
 use Rattle.formatting.specs.Fresh.{with_fats, fewest, fresh_fields, write_fields, fresh_boot, wide_fat, fresh_entry, fresh_fat}
 use Rattle.formatting.specs.Format.{form_ok, fresh_table, fresh_tables, format_stores, format}
 use Rattle.formatting.proofs.Fat.{entry_free}
@@ -58,24 +61,14 @@ module _ (total factor n : ℕ) (none : (k : ℕ) → 1 ≤ k → k < n → hold
   unfolding fewest
   fewest_here some less here = sym (first_is (holds_with total factor) 1 65534 n some less none here)
 
-  pub fewest_past : n ≡ 65535 → n ≡ fewest total factor
+  pub fewest_past : n ≡ 65535 → 65535 ≡ fewest total factor
   unfolding fewest
-  fewest_past end = end ∙ sym (first_none (holds_with total factor) 1 65534 (λ k lo hi. none k lo (omega arith)))
+  fewest_past end = sym (first_none (holds_with total factor) 1 65534 (λ k lo hi. none k lo (omega arith)))
 
--- A log of no cluster, of more than 128, and of others.
-module _ (n factor : ℕ) where
-  pub log_none : n < 1 → false ≡ (leb 1 n && leb (n * factor) most_sectors)
-  log_none h = rw (lt-leb 1 n h)
-
-  pub log_many : 1 ≤ factor → 128 < n → false ≡ (leb 1 n && leb (n * factor) most_sectors)
-  log_many one h =
-      let m : n * 1 ≤ n * factor = mul-le-mul_left n one in
-      rw (lt-leb (n * factor) most_sectors (omega arith), and-false (leb 1 n))
-
-  pub log_product : factor ≤ 64 → n ≤ 128 → n * factor ≤ 8192
-  log_product high few =
-      let m : n * factor ≤ 128 * factor = mul-le-mul_right factor few in
-      omega arith
+pub log_product : (n factor : ℕ) → factor ≤ 64 → n ≤ 128 → n * factor ≤ 8192
+log_product n factor high few =
+    let m : n * factor ≤ 128 * factor = mul-le-mul_right factor few in
+    omega arith
 
 -- ---- the layout, or none
 
@@ -86,15 +79,15 @@ module _ (total factor n : ℕ) where
   pub fresh_plain : fields_ok f ≡ fields_ok (with_fats total factor 1)
   fresh_plain = plain_with total factor (fewest total factor) (fewest_low total factor)
 
-  pub unplain : fields_ok (with_fats total factor 1) ≡ false → Bad ≡ formed total factor n
+  pub unplain : fields_ok (with_fats total factor 1) ≡ false → None ≡ formed total factor n
   unfolding formed form_ok
   unplain h = rw (every_not _ 0 (fresh_plain ∙ h))
 
-  pub unlogged : (leb 1 n && leb (n * factor) most_sectors) ≡ false → Bad ≡ formed total factor n
+  pub unlogged : (leb 1 n && leb (n * factor) most_sectors) ≡ false → None ≡ formed total factor n
   unfolding formed form_ok
   unlogged h = go (leb 1 n) (leb (n * factor) most_sectors) refl refl h
     where
-      go : (a b : Bool) → leb 1 n ≡ a → leb (n * factor) most_sectors ≡ b → (a && b) ≡ false → Bad ≡ formed total factor n
+      go : (a b : Bool) → leb 1 n ≡ a → leb (n * factor) most_sectors ≡ b → (a && b) ≡ false → None ≡ formed total factor n
       go true b some e z = rw (every_not _ 3 (e ∙ z))
       go false b none e z = rw (every_not _ 2 none)
 
@@ -107,42 +100,46 @@ module _ (total factor n : ℕ) where
     and-true,
   )
 
-  pub formed_bad : formed total factor n ≡ Bad → form_ok f n ≡ false
+  formed_none : formed total factor n ≡ None → form_ok f n ≡ false
   unfolding formed
-  formed_bad h =
-      ⊎_elim (λ t. let z : ◌≡◌ {A = ℕ} 0 1 = cc t.1 in absurd (omega arith)) (λ t. t.0)
-      (which (form_ok f n) (Good (arrange f)) Bad Bad h)
+  formed_none h =
+      ⊎_elim (λ t. absurd (none-some (arrange f) (sym t.1))) (λ t. t.0) (which (form_ok f n) (Some (arrange f)) None None h)
 
-  pub formed_good : (l : Layout) → formed total factor n ≡ Good l → (form_ok f n ≡ true) × (l ≡ arrange f)
+  formed_some : (l : Layout) → formed total factor n ≡ Some l → (form_ok f n ≡ true) × (l ≡ arrange f)
   unfolding formed
-  formed_good l h =
-      ⊎_elim (λ t. (t.0, cc t.1)) (λ t. let z : ◌≡◌ {A = ℕ} 0 1 = cc t.1 in absurd (omega arith))
-      (which (form_ok f n) (Good (arrange f)) Bad (Good l) h)
+  formed_some l h =
+      ⊎_elim (λ t. (t.0, sym (same_Some (arrange f) l t.1))) (λ t. absurd (none-some l t.1)) (which (form_ok f n) (Some (arrange f)) None (Some l) h)
+
+  -- SIZE where there is none.
+  module _ {o : Option Layout} {r : Result Layout Ground} (is : o ≡ formed total factor n) (at : r ≡ ok_or o Ground.Size) where
+    pub formed_bad : {g : Ground} → r ≡ Err g → (form_ok f n ≡ false) × (g ≡ Ground.Size)
+    formed_bad {g} was = let none : o ≡ None = grind (arith, at, was) in (formed_none (sym is ∙ none), grind (arith, at, was))
+
+    pub formed_good : {l : Layout} → r ≡ Ok l → (form_ok f n ≡ true) × (l ≡ arrange f)
+    formed_good {l} was = let some : o ≡ Some l = grind (arith, at, was) in formed_some l (sym is ∙ some)
 
 -- ---- the bytes of a fresh FAT's first sector
 
-module _ (n j v : ℕ) where
-  pub fat_low : j % 2 ≡ 0 → v ≡ fresh_entry n (j / 2) → v % 256 ≡ fresh_fat n 0 j
-  unfolding wide_fat byte_of
-  fat_low even is =
-      let e : 256 * 0 + j / 2 ≡ j / 2 = omega arith in
-      rw (e, even, is) (omega arith)
-
-  pub fat_high : (j % 2 ≡ 0 → ⊥) → v ≡ fresh_entry n (j / 2) → v < 65536 → v / 256 ≡ fresh_fat n 0 j
-  unfolding wide_fat byte_of
-  fat_high uneven is small =
-      let e : 256 * 0 + j / 2 ≡ j / 2 = omega arith in
-      let odd : j % 2 ≡ 1 = omega arith in
-      let less : fresh_entry n (j / 2) < 65536 = rw is at small in
-      rw (e, odd, is) (omega arith)
+-- One entry more.
+pub fat_more : (n k v : ℕ) (old new : List ℕ) → v ≡ fresh_entry n k → bytes_of new ≡ patch 2 v (2 * k) (bytes_of old)
+    → ((m : ℕ) → m < 2 * k → get_or old m 0 ≡ fresh_fat n 0 m) → (m : ℕ) → m < 2 * (k + 1) → get_or new m 0 ≡ fresh_fat n 0 m
+unfolding wide_fat
+fat_more n k v old new is laid before m less =
+    ap (λ (b : Bytes). b m) laid ∙ ⊎_elim
+    (λ l. overlay_below (byte_of v) (2 * k) (bytes_of old) 2 m l ∙ before m l)
+    (λ h.
+    let e : 256 * 0 + m / 2 ≡ k = omega arith in
+    let o : m % 2 ≡ m - 2 * k = omega arith in
+    overlay_in (byte_of v) (2 * k) (bytes_of old) 2 m h (omega arith) ∙ rw (e, o, is))
+    (less? m (2 * k))
 
 -- ---- stores
 
 -- A store goes by its sector and its 512 bytes.
-pub ran_same : (limit s t : ℕ) (a b : Bytes) (e x : List ℕ) (m : ℕ) (w : Bool) → s ≡ t → ((j : ℕ) → j < 512 → a j ≡ b j)
-    → Ran limit (store s a ∷ []) e x m w → Ran limit (store t b ∷ []) e x m w
-ran_same limit s t a b e x m w at same r =
-    subst (λ (u : Store). Ran limit (u ∷ []) e x m w) (ap (λ (i : ℕ). store i a) at ∙ store_same t a b same) r
+pub spent_same : {limit left s t : ℕ} {a b : Bytes} {e x : List ℕ} {r : Result Unit Stopped} → s ≡ t → ((j : ℕ) → j < 512 → a j ≡ b j)
+    → Spent limit left (store s a ∷ []) e x r → Spent limit left (store t b ∷ []) e x r
+spent_same {limit} {left} {s} {t} {a} {b} {e} {x} {r} at same so =
+    subst (λ (u : Store). Spent limit left (u ∷ []) e x r) (ap (λ (i : ℕ). store i a) at ∙ store_same t a b same) so
 
 -- The boot sector, from its three parts.
 pub boot_made : (l : Layout) (b c d x : Bytes) → b ≡ zeros → c ≡ with_marks b → d ≡ with_sizes l.total l.fatsize c → x ≡ with_shape l.factor d
@@ -187,18 +184,6 @@ tables_within l n sh few =
     let m : n * l.factor ≤ l.clusters * l.factor = mul-le-mul_right l.factor (omega (arith, sh.many)) in
     omega (arith, sh.data_end)
 
--- ---- parts under one limit
-
-module _ (limit : ℕ) (l : Layout) (n : ℕ) (e x : List ℕ) (m : ℕ) where
-  pub rest_cut : Ran limit (fresh_tables l n) e x m false → Ran limit (rest_stores l n) e x m false
-  unfolding rest_stores
-  rest_cut so = ran_stop limit (fresh_tables l n) e x m so (store 0 (fresh_boot (fields_in l)) ∷ [])
-
-  pub rest_ran : Ran limit (fresh_tables l n) e x m true → (y : List ℕ) (k : ℕ) (w : Bool)
-      → Ran (limit - m) (store 0 (fresh_boot (fields_in l)) ∷ []) x y k w → Ran limit (rest_stores l n) e y (m + k) w
-  unfolding rest_stores
-  rest_ran so y k w next = ran_then limit (fresh_tables l n) e x m so (store 0 (fresh_boot (fields_in l)) ∷ []) y k w next
-
 -- ---- the call
 
 module _ (total factor n : ℕ) (ok : form_ok (fresh_fields total factor) n ≡ true) where
@@ -220,10 +205,10 @@ module _ (total factor n : ℕ) (ok : form_ok (fresh_fields total factor) n ≡ 
   unfolding rest_stores format_stores arrange
   card_stores = refl
 
-  pub card_ran : (l : Layout) → l ≡ arrange (fresh_fields total factor) → (limit : ℕ) (e x : List ℕ) (m : ℕ) (w : Bool)
-      → Ran limit (store 0 zeros ∷ rest_stores l n) e x m w → Ran limit (stores (format_stores (fresh_fields total factor) n)) e x m w
-  card_ran l is limit e x m w r =
-      subst (λ (ss : List Store). Ran limit ss e x m w) (ap (λ (k : Layout). store 0 zeros ∷ rest_stores k n) is ∙ card_stores) r
+  pub card_spent : {l : Layout} → l ≡ arrange (fresh_fields total factor) → {limit left : ℕ} {e x : List ℕ} {r : Result Unit Stopped}
+      → Spent limit left (store 0 zeros ∷ rest_stores l n) e x r → Spent limit left (stores (format_stores (fresh_fields total factor) n)) e x r
+  card_spent is {limit} {left} {e} {x} {r} so =
+      subst (λ (ss : List Store). Spent limit left ss e x r) (ap (λ (k : Layout). store 0 zeros ∷ rest_stores k n) is ∙ card_stores) so
 
 module _ (w : Window) (total factor n : ℕ) where
   pub format_size : form_ok (fresh_fields total factor) n ≡ false → format w total factor n ≡ refused Ground.Size

@@ -1,18 +1,16 @@
 -- The layout of a fresh card, and its boot sector and its stores as the code makes them.
-use Rattle.std.specs.Prelude.{ℕ, List, [], ◌∷◌, ◌++◌}
+use Rattle.std.specs.Prelude.{ℕ, List, [], ◌∷◌, ◌++◌, Option, Some, None}
 use Rattle.model.specs.Bytes.{Bytes, pick, patch}
 use Rattle.model.specs.Sector.{Store, store}
 use Rattle.model.specs.Boot.{arrange}
 use Rattle.model.specs.declared.Fields.{Fields}
 use Rattle.model.specs.declared.Layout.{Layout}
-use Rattle.boot.specs.declared.Booted.{Booted}
-use Rattle.boot.specs.declared.Booted.TheVariants.{Bad, Good}
 use Rattle.formatting.specs.Fresh.{with_fats, fresh_fields, fresh_boot, total_at_19, total_at_32}
 use Rattle.formatting.specs.Format.{form_ok, fresh_tables}
 
 -- The layout, or none where SIZE refuses.
-unfoldable pub formed : ℕ → ℕ → ℕ → Booted
-formed total factor n = pick (form_ok (fresh_fields total factor) n) (Good (arrange (fresh_fields total factor))) Bad
+unfoldable pub formed : ℕ → ℕ → ℕ → Option Layout
+formed total factor n = pick (form_ok (fresh_fields total factor) n) (Some (arrange (fresh_fields total factor))) None
 
 -- The fields that a layout came from.
 abbrev pub fields_in : Layout → Fields

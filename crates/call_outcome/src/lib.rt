@@ -4,14 +4,14 @@
 ghost use Rattle.std.specs.Prelude.{◌≡◌};
 ghost use Rattle.call_outcome.specs.Did.{ended_as};
 
-use model::{Outcome, Progress};
+use model::{Ended, Stopped};
 
-// How a call ends whose stores went so far.
-pub fn ended(p: Progress) -> Outcome
-    ensures { result ≡ ended_as p }
+// How a call ends that has made so many stores, by whether those were all.
+pub fn ended(stored: Result<(), Stopped>, made: u32) -> Ended
+    ensures { result ≡ ended_as stored made }
 {
-    if p.whole {
-        return Outcome::Done(p.made);
+    match stored {
+        Ok(()) => Ended::Done(made),
+        Err(Stopped) => Ended::Stopped(made),
     }
-    Outcome::Stopped(p.made)
 }

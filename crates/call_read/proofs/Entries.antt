@@ -62,7 +62,8 @@ module _ (l : Layout) (c : Card) (ss : List ℕ) (room : ℕ) (e x y : List ℕ)
   unfolding directory_listing
   listing_more fits step = record { counted = sym long; bytes = λ i. rw long (step i ∙ byte i ∙ sym (over_first _ _ (bytes_of e) i)) }
     where
-      byte : (i : ℕ) → overlay 32 (slot_at l c k) (32 * n) (bytes_of x) i ≡ pick (ltb i (32 * min (n + 1) (room / 32))) (slots (ss ++ (k ∷ [])) i) (get_or e i 0)
+      byte : (i : ℕ) → overlay 32 (slot_at l c k) (32 * n) (bytes_of x) i ≡ pick (ltb i (32 * min (n + 1) (room / 32)))
+          (slots (ss ++ (k ∷ [])) i) (get_or e i 0)
       byte i = ⊎_elim low (λ u. ⊎_elim (mid u) high (less? i (32 * n + 32))) (less? i (32 * n))
         where
           low : i < 32 * n → overlay 32 (slot_at l c k) (32 * n) (bytes_of x) i ≡ pick (ltb i (32 * min (n + 1) (room / 32)))

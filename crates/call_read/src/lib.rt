@@ -12,11 +12,9 @@ ghost use Rattle.model.specs.LongName.{long_byte};
 ghost use Rattle.operations.specs.Promises.{Fills};
 ghost use Rattle.call_read.specs.Filled.{Listed};
 
-use model::{Access, Ground, Layout, Outcome, Volume};
-use root_lookup::Found;
-use volume::Examined;
+use model::{Access, Ended, Ground, Layout, Volume};
 
-// Slot k into the 32 bytes of the buffer from at on.
+// Slot k into the 32 bytes of the buffer from `at` on: of a list of slots, so the place is the caller's.
 fn copy_slot(out: &mut [u8], at: usize, w: &[u8], l: Layout, k: u32)
     requires { Held l w.now × (k < l.entries) × (at + 32 ≤ length out.old) }
     ensures { (i : ℕ) → get_or out.new i 0 ≡ overlay 32 (slot_at l (card_of w.now) k) at (bytes_of out.old) i }
@@ -32,7 +30,7 @@ fn list_slot(out: &mut [u8], w: &[u8], l: Layout, k: u32, n: u32) -> u32
     if !root_read::is_listed(w, l, k) {
         return n;
     }
-    let at = 32 * sector::index(n);
+    let at = 32 * n as usize;
     if out.len() < at + 32 {
         return n + 1;
     }
@@ -49,6 +47,7 @@ fn copy_listed(out: &mut [u8], w: &[u8], l: Layout) -> u32
     let entries = l.entries;
     let mut k = 0;
     let mut n = 0;
+    // no `for`, since k passes over whole sectors that were never used
     while k < entries {
         if root_read::is_blank(w, l, k) {
             k += 16;
@@ -60,43 +59,36 @@ fn copy_listed(out: &mut [u8], w: &[u8], l: Layout) -> u32
     n
 }
 
-pub fn list(w: &[u8], buffer: &mut [u8]) -> Outcome
+pub fn list(w: &[u8], buffer: &mut [u8]) -> Result<Ended, Ground>
     ensures { Gave (list (window_of w.now) (length buffer.old)) buffer.old buffer.new result }
 {
-    let e = volume::clean(w);
-    match e {
-        Examined::Refused(g) => Outcome::Refused(g),
-        Examined::Granted(v) => {
-            let l = v.layout;
-            Outcome::Done(copy_listed(buffer, w, l))
-        }
-    }
+    let v = volume::clean(w)?;
+    let l = v.layout;
+    Ok(Ended::Done(copy_listed(buffer, w, l)))
 }
 
-fn read_from(w: &[u8], v: Volume, name: &[u8], offset: u64, buffer: &mut [u8]) -> Outcome
+fn read_from(
+    w: &[u8],
+    v: Volume,
+    name: &[u8],
+    offset: u64,
+    buffer: &mut [u8],
+) -> Result<Ended, Ground>
     requires { Held v.layout w.now }
     ensures { Gave (read_on v (card_of w.now) (view name.now) offset (length buffer.old)) buffer.old
         buffer.new result }
 {
-    let o = root_lookup::file_of(w, v, Access::Read, name);
-    match o {
-        Found::Missing(g) => Outcome::Refused(g),
-        Found::At(f) => {
-            let l = v.layout;
-            Outcome::Done(file_read::read_file(w, l, f, offset, buffer))
-        }
-    }
+    let f = root_lookup::file_of(w, v, Access::Read, name)?;
+    let l = v.layout;
+    Ok(Ended::Done(file_read::read_file(w, l, f, offset, buffer)))
 }
 
-pub fn read(w: &[u8], name: &[u8], offset: u64, buffer: &mut [u8]) -> Outcome
+pub fn read(w: &[u8], name: &[u8], offset: u64, buffer: &mut [u8]) -> Result<Ended, Ground>
     ensures { Gave (read (window_of w.now) (view name.now) offset (length buffer.old)) buffer.old
         buffer.new result }
 {
-    let e = volume::clean(w);
-    match e {
-        Examined::Refused(g) => Outcome::Refused(g),
-        Examined::Granted(v) => read_from(w, v, name, offset, buffer),
-    }
+    let v = volume::clean(w)?;
+    read_from(w, v, name, offset, buffer)
 }
 
 // The first n characters in the long entries of slot s, as many as fit.
@@ -106,15 +98,9 @@ fn copy_characters(out: &mut [u8], w: &[u8], l: Layout, s: u32, n: u32)
         ≡ overlay (2 * min (length out.old / 2) n) (long_byte (slot_at l (card_of w.now)) s) 0 (bytes_of out.old) i }
 {
     let room = out.len() / 2 * 2;
-    let end = 2 * n;
-    let mut i = 0;
-    while i < end {
-        let at = sector::index(i);
-        if room <= at {
-            return;
-        }
-        out[at] = root_long::long_byte(w, l, s, i) as u8;
-        i += 1;
+    let end = 2 * n as usize;
+    for i in 0..end.min(room) {
+        out[i] = root_long::long_byte(w, l, s, i as u32) as u8;
     }
 }
 
@@ -129,29 +115,26 @@ fn copy_name(out: &mut [u8], w: &[u8], l: Layout, s: u32) -> u32
 }
 
 // NAME and ABSENT; a directory's long name is read too.
-fn long_name_on(w: &[u8], v: Volume, name: &[u8], buffer: &mut [u8]) -> Outcome
+fn long_name_on(w: &[u8], v: Volume, name: &[u8], buffer: &mut [u8]) -> Result<Ended, Ground>
     requires { Held v.layout w.now }
     ensures { Gave (long_name_on v (card_of w.now) (view name.now) (length buffer.old)) buffer.old
         buffer.new result }
 {
     if !root_names::is_name(name) {
-        return Outcome::Refused(Ground::Name);
+        return Err(Ground::Name);
     }
     let l = v.layout;
     let s = root_lookup::slot_of(w, v, name);
     if l.entries <= s {
-        return Outcome::Refused(Ground::Absent);
+        return Err(Ground::Absent);
     }
-    Outcome::Done(copy_name(buffer, w, l, s))
+    Ok(Ended::Done(copy_name(buffer, w, l, s)))
 }
 
-pub fn long_name(w: &[u8], name: &[u8], buffer: &mut [u8]) -> Outcome
+pub fn long_name(w: &[u8], name: &[u8], buffer: &mut [u8]) -> Result<Ended, Ground>
     ensures { Gave (long_name (window_of w.now) (view name.now) (length buffer.old)) buffer.old
         buffer.new result }
 {
-    let e = volume::clean(w);
-    match e {
-        Examined::Refused(g) => Outcome::Refused(g),
-        Examined::Granted(v) => long_name_on(w, v, name, buffer),
-    }
+    let v = volume::clean(w)?;
+    long_name_on(w, v, name, buffer)
 }

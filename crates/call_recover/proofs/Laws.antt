@@ -6,21 +6,16 @@ use mathlib.Core.Bool.{true}
 use mathlib.Core.List.{List}
 use lib.ListN.{length}
 use Rattle.model.specs.Bytes.{Bytes}
-use Rattle.model.specs.Sector.{Window, card_of}
+use Rattle.model.specs.Sector.{card_of}
 use Rattle.model.specs.Log.{Log, log_of}
 use Rattle.model.specs.Record.{Group, record_at, text_in, change_of, group_in}
 use Rattle.model.specs.Pending.{seen_end, pending, accepted, group_ok, records_ok}
-use Rattle.model.specs.Ground.{refused, granted, ◌>>=◌}
-use Rattle.model.specs.Volume.{examine}
-use Rattle.model.specs.declared.Ground.{Ground}
 use Rattle.model.specs.declared.Volume.{Volume}
 use Rattle.model.specs.declared.Pending.TheVariants as Pending
 use Rattle.model.proofs.Tests.{every_at}
 use Rattle.model.proofs.Pendings.{group_place}
 use Rattle.model.proofs.Volumes.{examined}
 use Rattle.operations.specs.Finish.{Slots}
-use Rattle.operations.specs.Plan.{recover_stores}
-use Rattle.operations.specs.Calls.{recover}
 use Rattle.operations.proofs.Seats.{told_slots}
 use Rattle.volume.specs.Opened.{Legible}
 
@@ -77,12 +72,3 @@ module _ (v : Volume) (xs : List ℕ) (h : Legible v xs) (s : ℕ) (held : v.pen
         low = sector_low;
         high = sector_high;
       }
-
-module _ (w : Window) where
-  pub recover_refused : (g : Ground) → examine w ≡ refused g → recover w ≡ refused g
-  unfolding recover ◌>>=◌
-  recover_refused g e = rw e
-
-  pub recover_granted : (v : Volume) → examine w ≡ granted v → recover w ≡ granted (recover_stores v.layout w.card v.pending)
-  unfolding recover ◌>>=◌
-  recover_granted v e = rw e

@@ -2,39 +2,38 @@
 #![tactic(auto)]
 
 ghost use Rattle.model.specs.Sector.{card_of, window_of};
-ghost use Rattle.model.specs.Ground.{granted};
+ghost use Rattle.model.specs.Promises.{Spent};
+ghost use Rattle.operations.specs.Program.{stores};
 ghost use Rattle.operations.specs.Plan.{recover_stores};
 ghost use Rattle.operations.specs.Calls.{recover};
 ghost use Rattle.call_outcome.specs.Did.{Did};
 ghost use Rattle.volume.specs.Opened.{Legible};
 
-use model::{Outcome, Pending, Volume};
-use volume::Examined;
+use model::{Ended, Ground, Pending, Stopped, Volume};
 
 // The stores of a recovery, on a card that passes grounds 1 to 6.
-fn recover_on(w: &mut [u8], v: Volume, limit: u32) -> Outcome
+fn recover_on(w: &mut [u8], v: Volume, limit: &mut u32) -> Result<(), Stopped>
     requires { Legible v w.old }
-    ensures { Did limit (granted (recover_stores v.layout (card_of w.old) v.pending)) w.old w.new result }
+    ensures { Spent limit.old limit.new (stores (recover_stores v.layout (card_of w.old) v.pending)) w.old w.new result }
 {
     let l = v.layout;
-    let p = v.pending;
-    match p {
-        Pending::Nothing => call_outcome::ended(fat_copy::to_fat2(w, l, limit)),
-        Pending::Broken => Outcome::Done(0),
+    match v.pending {
+        Pending::Nothing => fat_copy::to_fat2(w, l, limit),
+        Pending::Broken => Ok(()),
         Pending::Held(s) => {
             let plan = log_group::plan_at(w, s);
-            let text = log_group::text_at(w, s);
-            call_outcome::ended(log_steps::redo(w, l, plan, &text, limit))
+            let mut text = [0u8; log_record::TEXT_ROOM];
+            log_group::text_at(w, s, &mut text);
+            log_steps::redo(w, l, plan, &text, limit)
         }
     }
 }
 
-pub fn recover(w: &mut [u8], limit: u32) -> Outcome
+pub fn recover(w: &mut [u8], limit: u32) -> Result<Ended, Ground>
     ensures { Did limit (recover (window_of w.old)) w.old w.new result }
 {
-    let e = volume::examine(w);
-    match e {
-        Examined::Refused(g) => Outcome::Refused(g),
-        Examined::Granted(v) => recover_on(w, v, limit),
-    }
+    let v = volume::examine(w)?;
+    let mut left = limit;
+    let stored = recover_on(w, v, &mut left);
+    Ok(call_outcome::ended(stored, limit - left))
 }

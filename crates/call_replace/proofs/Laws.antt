@@ -1,18 +1,17 @@
 -- Replace by its parts: grounds, the stores of the chain, and the steps through the log.
-use Prim.Native.Nat.{ℕ, ◌+◌, ◌-◌, ◌<◌, ◌≤◌}
+use Prim.Native.Nat.{ℕ, ◌+◌, ◌<◌, ◌≤◌}
 use mathlib.Core.Path.{◌≡◌, refl, sym, ap, subst}
-use mathlib.Core.Bool.{Bool, true, false}
+use Rattle.std.proofs.Common.{Result, Ok, Err}
+use Rattle.model.specs.declared.Stopped.{Stopped}
 use mathlib.Core.List.{List, []}
 use lib.ListN.{length}
 use borrow.Author.Tests.{lt-ltb, le-ltb}
 use Rattle.model.specs.Bytes.{Span}
-use Rattle.model.specs.Sector.{Card, card_of, Window, Store}
+use Rattle.model.specs.Sector.{Card, card_of, Store}
 use Rattle.model.specs.Fat.{Fat, entry, fat1_of, fat2_of, free_clusters, write_fat}
 use Rattle.model.specs.Chain.{needed, chain, keeps_chain}
-use Rattle.model.specs.Ground.{refused, granted, ◌when◌, ◌>>=◌, ◌>>◌}
-use Rattle.model.specs.Calendar.{stamp_of}
-use Rattle.model.specs.Volume.{clean_at}
-use Rattle.model.specs.Promises.{Shape, Ran}
+use Rattle.model.specs.Ground.{refused, granted, ◌when◌, ◌>>◌}
+use Rattle.model.specs.Promises.{Shape, Spent}
 use Rattle.model.specs.declared.Area.{Area}
 use Rattle.model.specs.declared.Layout.{Layout}
 use Rattle.model.specs.declared.File.{File}
@@ -25,7 +24,7 @@ use Rattle.model.proofs.Cards.{Away}
 use Rattle.model.proofs.Needed.{needed_none}
 use Rattle.operations.specs.Program.{stores}
 use Rattle.operations.specs.Plan.{clusters_of, last_cluster, added, fresh_clusters, operate, replace_along, replace_stores}
-use Rattle.operations.specs.Calls.{replace_file, replace_on, replace}
+use Rattle.operations.specs.Calls.{replace_file}
 use Rattle.operations.proofs.Added.{added_empty}
 use Rattle.volume.specs.Opened.{Ready}
 use Rattle.volume.proofs.Ready.{ready_run, ready_log}
@@ -35,7 +34,7 @@ use Rattle.fat_write.specs.Renew.{exchanged}
 use Rattle.fat_write.proofs.Kept.{free_kept, chain_kept, exchange_kept}
 use Rattle.file_append.specs.Extents.{append_data, Room, first_new}
 use Rattle.file_append.proofs.Apart.{append_off_log}
-use Rattle.file_append.proofs.Front.{front_kept, data_cut, data_then}
+use Rattle.file_append.proofs.Front.{front_kept, data_then}
 use Rattle.log_steps.specs.Steps.{log_steps}
 use Rattle.log_steps.proofs.Parts.{operate_cut, operate_ran}
 use Rattle.call_replace.specs.Replace.{emptied, exchange_stores}
@@ -63,15 +62,6 @@ emptied_proper l c f = refl
 
 -- ---- grounds
 
-module _ (w : Window) (n d : Span) (s : ℕ) where
-  pub replace_refused : (g : Ground) → clean_at w s ≡ refused g → replace w n d s ≡ refused g
-  unfolding replace ◌>>=◌
-  replace_refused g e = rw e
-
-  pub replace_clean : (v : Volume) → clean_at w s ≡ granted v → replace w n d s ≡ replace_on v w.card n d (stamp_of s)
-  unfolding replace ◌>>=◌
-  replace_clean v e = rw e
-
 module _ (c : Card) (v : Volume) (f : File) (d : Span) (st : ℕ) where
   abbrev free_count : ℕ
   free_count = length (free_clusters v.layout (fat1_of v.layout c))
@@ -86,25 +76,22 @@ module _ (c : Card) (v : Volume) (f : File) (d : Span) (st : ℕ) where
 
 -- ---- data and FAT2 under one limit
 
-module _ (l : Layout) (g : File) (d : Span) (n old m limit : ℕ) (e x : List ℕ) (made : ℕ) where
-  abbrev exchanging : Card → List Store
-  exchanging c = write_fat l l.fat2 (exchanged l (fat1_of l c) n old m) (fat2_of l c)
+module _ (l : Layout) (g : File) (d : Span) (old m : ℕ) {limit left : ℕ} {e x : List ℕ} {r : Result Unit Stopped} (sh : Shape l)
+    (h : Proper l (card_of e) g) (inside : Inside l (chain (entry (fat1_of l (card_of e))) m old))
+    (so : Spent limit left (append_data l (card_of e) g d) e x r) where
+  -- What the FAT's part asks of the card that it finds.
+  pub still : {n : ℕ} → n ≤ length (free_clusters l (fat1_of l (card_of e)))
+      → (n ≤ length (free_clusters l (fat1_of l (card_of x)))) × Inside l (chain (entry (fat1_of l (card_of x))) m old)
+  still enough =
+      let front = front_kept l g d so sh h in
+      (rw (free_kept l sh (card_of e) (card_of x) front) enough, rw (chain_kept l sh (card_of e) (card_of x) front old m inside) inside)
 
-  pub data_stopped : Ran limit (append_data l (card_of e) g d) e x made false → Ran limit (exchange_stores l (card_of e) g d n old m) e x made false
-  data_stopped so = data_cut l g d limit e x made exchanging so
-
-  module _ (sh : Shape l) (h : Proper l (card_of e) g) (inside : Inside l (chain (entry (fat1_of l (card_of e))) m old)) where
-    -- What the FAT's part asks of the card that it finds.
-    pub still : (w : Bool) → Ran limit (append_data l (card_of e) g d) e x made w → n ≤ length (free_clusters l (fat1_of l (card_of e)))
-        → (n ≤ length (free_clusters l (fat1_of l (card_of x)))) × Inside l (chain (entry (fat1_of l (card_of x))) m old)
-    still w so enough =
-        let front = front_kept l g d limit e x made sh h w so in
-        (rw (free_kept l sh (card_of e) (card_of x) front) enough, rw (chain_kept l sh (card_of e) (card_of x) front old m inside) inside)
-
-    pub both_ran : Ran limit (append_data l (card_of e) g d) e x made true → (y : List ℕ) (k : ℕ) (w : Bool)
-        → Ran (limit - made) (exchanging (card_of x)) x y k w → Ran limit (exchange_stores l (card_of e) g d n old m) e y (made + k) w
-    both_ran so = data_then l g d limit e x made exchanging so
-        (exchange_kept l sh (card_of e) (card_of x) (front_kept l g d limit e x made sh h true so) old m inside n)
+  pub both_ran : {u : Unit} → r ≡ Ok u → (n : ℕ) → {k : ℕ} {y : List ℕ} {q : Result Unit Stopped}
+      → Spent left k (write_fat l l.fat2 (exchanged l (fat1_of l (card_of x)) n old m) (fat2_of l (card_of x))) x y q
+      → Spent limit k (exchange_stores l (card_of e) g d n old m) e y q
+  both_ran f n next =
+      data_then l g d so f (λ c. write_fat l l.fat2 (exchanged l (fat1_of l c) n old m) (fat2_of l c))
+      (exchange_kept l sh (card_of e) (card_of x) (front_kept l g d so sh h) old m inside n) next
 
 -- ---- the steps through the log
 
@@ -141,16 +128,14 @@ module _ (v : Volume) (xs : List ℕ) (f : File) (d : Span) (st : ℕ) (ready : 
       whole_chain : clusters_of v.layout (fat1_of v.layout c) f ≡ chain (entry (fat1_of v.layout c)) (needed v.layout f.size) f.first
       whole_chain = clusters_chain v.layout (fat1_of v.layout c) f
 
-  module _ (limit : ℕ) (x : List ℕ) (made count : ℕ) (many : count ≡ n) where
-    abbrev front : List Store
-    front = exchange_stores v.layout c (emptied f) d count f.first (needed v.layout f.size)
+  module _ {limit left : ℕ} {x : List ℕ} {r : Result Unit Stopped} (count : ℕ) (many : count ≡ n)
+      (so : Spent limit left (exchange_stores v.layout c (emptied f) d count f.first (needed v.layout f.size)) xs x r) where
+    pub replace_cut : {z : Stopped} → r ≡ Err z → Spent limit left (stores (replace_stores v c f d st)) xs x (Err z)
+    replace_cut g = rw replace_is (operate_cut v ds new_fat change sh ready.lies.above off_log g (rw many at so))
 
-    pub replace_cut : Ran limit front xs x made false → Ran limit (stores (replace_stores v c f d st)) xs x made false
-    replace_cut so = rw replace_is (operate_cut v ds new_fat change sh ready.lies.above off_log limit xs x made (rw many at so))
-
-    pub replace_ran : Ran limit front xs x made true → (from size : ℕ) → from ≡ first_new v.layout c count → size ≡ d.size
-        → (y : List ℕ) (k : ℕ) (w : Bool) → Ran (limit - made) (log_steps v (plain (Replace f.entry f.first from size st)) (card_of x)) x y k w
-        → Ran limit (stores (replace_stores v c f d st)) xs y (made + k) w
-    replace_ran so from size first total y k w next =
-        rw replace_is (operate_ran v ds new_fat change sh ready.lies.above off_log limit xs x made (rw many at so) y k w
-        (rw (first, many, total) at next))
+    pub replace_ran : {u : Unit} → r ≡ Ok u → (from size : ℕ) → from ≡ first_new v.layout c count → size ≡ d.size
+        → {k : ℕ} {y : List ℕ} {q : Result Unit Stopped}
+        → Spent left k (log_steps v (plain (Replace f.entry f.first from size st)) (card_of x)) x y q
+        → Spent limit k (stores (replace_stores v c f d st)) xs y q
+    replace_ran g from size first total next =
+        rw replace_is (operate_ran v ds new_fat change sh ready.lies.above off_log g (rw many at so) (rw (first, many, total) at next))

@@ -7,7 +7,7 @@ ghost use Rattle.model.specs.Sector.{card_of, window_of};
 ghost use Rattle.model.specs.Fat.{entry, fat1_of};
 ghost use Rattle.model.specs.Chain.{chain};
 ghost use Rattle.model.specs.Record.{plain};
-ghost use Rattle.model.specs.Promises.{Held, Ran};
+ghost use Rattle.model.specs.Promises.{Held, Spent};
 ghost use Rattle.operations.specs.Finish.{Slots};
 ghost use Rattle.operations.specs.Program.{stores};
 ghost use Rattle.operations.specs.Plan.{operate, old_fat, truncate_stores, delete_stores};
@@ -19,9 +19,7 @@ ghost use Rattle.fat_release.specs.Release.{cut, Inside};
 ghost use Rattle.call_outcome.specs.Did.{Did};
 ghost use Rattle.call_truncate.specs.Parts.{Parts};
 
-use model::{Access, File, Ground, Layout, Operation, Outcome, Progress, Volume};
-use root_lookup::Found;
-use volume::Examined;
+use model::{Access, Ended, File, Ground, Layout, Operation, Stopped, Volume};
 
 // The part of a chain that is freed: the last cluster kept before it, its first cluster, 0 where there is none, and how many it has.
 #[derive(Clone, Copy)]
@@ -32,27 +30,24 @@ pub struct Tail {
 }
 
 // The stores of an operation that cuts a chain: FAT2's, then those that its group makes to be done.
-fn shorten(w: &mut [u8], v: Volume, c: Tail, o: Operation, limit: u32) -> Progress
+fn shorten(w: &mut [u8], v: Volume, c: Tail, o: Operation, limit: &mut u32) -> Result<(), Stopped>
     requires ready { Ready v w.old }
     requires inside { Inside v.layout (chain (entry (fat1_of v.layout (card_of w.old))) c.freed c.from) }
     requires slots { Slots v.layout.entries (plain o) }
-    ensures { Ran limit (stores (operate v (card_of w.old) [] (cut (old_fat v (card_of w.old)) c.kept c.from c.freed) (plain o)))
-        w.old w.new result.made result.whole }
+    ensures { Spent limit.old limit.new
+        (stores (operate v (card_of w.old) [] (cut (old_fat v (card_of w.old)) c.kept c.from c.freed) (plain o)))
+        w.old w.new result }
 {
     let l = v.layout;
-    let p = fat_write::shorten_fat(w, l, c.kept, c.from, c.freed, limit);
-    if !p.whole {
-        return p;
-    }
-    let q = log_steps::plain_steps(w, v, o, limit - p.made);
-    sector::joined(p, q)
+    fat_write::shorten_fat(w, l, c.kept, c.from, c.freed, limit)?;
+    log_steps::plain_steps(w, v, o, limit)
 }
 
 // Delete of a file that keeps the chain rule.
-fn delete_file(w: &mut [u8], v: Volume, f: File, limit: u32) -> Progress
+fn delete_file(w: &mut [u8], v: Volume, f: File, limit: &mut u32) -> Result<(), Stopped>
     requires ready { Ready v w.old }
     requires chained { Chained v (card_of w.old) f }
-    ensures { Ran limit (stores (delete_stores v (card_of w.old) f)) w.old w.new result.made result.whole }
+    ensures { Spent limit.old limit.new (stores (delete_stores v (card_of w.old) f)) w.old w.new result }
 {
     let l = v.layout;
     let c = Tail {
@@ -71,25 +66,21 @@ fn delete_file(w: &mut [u8], v: Volume, f: File, limit: u32) -> Progress
 }
 
 // Delete, on a clean card.
-fn delete_on(w: &mut [u8], v: Volume, name: &[u8], limit: u32) -> Outcome
+fn delete_on(w: &mut [u8], v: Volume, name: &[u8], limit: u32) -> Result<Ended, Ground>
     requires { Ready v w.old }
     ensures { Did limit (delete_on v (card_of w.old) (view name.now)) w.old w.new result }
 {
-    let o = root_lookup::file_of(w, v, Access::Write, name);
-    match o {
-        Found::Missing(g) => Outcome::Refused(g),
-        Found::At(f) => call_outcome::ended(delete_file(w, v, f, limit)),
-    }
+    let f = root_lookup::file_of(w, v, Access::Write, name)?;
+    let mut left = limit;
+    let stored = delete_file(w, v, f, &mut left);
+    Ok(call_outcome::ended(stored, limit - left))
 }
 
-pub fn delete(w: &mut [u8], name: &[u8], limit: u32) -> Outcome
+pub fn delete(w: &mut [u8], name: &[u8], limit: u32) -> Result<Ended, Ground>
     ensures { Did limit (delete (window_of w.old) (view name.now)) w.old w.new result }
 {
-    let e = volume::clean(w);
-    match e {
-        Examined::Refused(g) => Outcome::Refused(g),
-        Examined::Granted(v) => delete_on(w, v, name, limit),
-    }
+    let v = volume::clean(w)?;
+    delete_on(w, v, name, limit)
 }
 
 // Where the chain of a file is cut that is to have a smaller size. It is walked up to the first cluster freed.
@@ -122,10 +113,17 @@ fn cut_at(w: &[u8], l: Layout, f: File, size: u32) -> Tail
 }
 
 // Truncate of a file that keeps the chain rule, to a smaller size.
-fn truncate_file(w: &mut [u8], v: Volume, f: File, size: u32, stamp: u32, limit: u32) -> Progress
+fn truncate_file(
+    w: &mut [u8],
+    v: Volume,
+    f: File,
+    size: u32,
+    stamp: u32,
+    limit: &mut u32,
+) -> Result<(), Stopped>
     requires ready { Ready v w.old }
     requires chained { Chained v (card_of w.old) f × (size < f.size) }
-    ensures { Ran limit (stores (truncate_stores v (card_of w.old) f size stamp)) w.old w.new result.made result.whole }
+    ensures { Spent limit.old limit.new (stores (truncate_stores v (card_of w.old) f size stamp)) w.old w.new result }
 {
     let l = v.layout;
     let c = cut_at(w, l, f, size);
@@ -141,39 +139,55 @@ fn truncate_file(w: &mut [u8], v: Volume, f: File, size: u32, stamp: u32, limit:
 }
 
 // LENGTH, and a size that is the present one. Any other fits 32 bits.
-fn truncate_as(w: &mut [u8], v: Volume, f: File, size: u64, stamp: u32, limit: u32) -> Outcome
+fn truncate_as(
+    w: &mut [u8],
+    v: Volume,
+    f: File,
+    size: u64,
+    stamp: u32,
+    limit: u32,
+) -> Result<Ended, Ground>
     requires ready { Ready v w.old }
     requires chained { Chained v (card_of w.old) f }
     ensures { Did limit (truncate_as v (card_of w.old) f size stamp) w.old w.new result }
 {
-    let present = sector::wider(f.size);
+    let present = u64::from(f.size);
     if present < size {
-        return Outcome::Refused(Ground::Length);
+        return Err(Ground::Length);
     }
     if present == size {
-        return Outcome::Done(0);
+        return Ok(Ended::Done(0));
     }
-    call_outcome::ended(truncate_file(w, v, f, size as u32, stamp, limit))
+    let mut left = limit;
+    let stored = truncate_file(w, v, f, size as u32, stamp, &mut left);
+    Ok(call_outcome::ended(stored, limit - left))
 }
 
 // Truncate, on a clean card.
-fn truncate_on(w: &mut [u8], v: Volume, name: &[u8], size: u64, stamp: u32, limit: u32) -> Outcome
+fn truncate_on(
+    w: &mut [u8],
+    v: Volume,
+    name: &[u8],
+    size: u64,
+    stamp: u32,
+    limit: u32,
+) -> Result<Ended, Ground>
     requires { Ready v w.old }
     ensures { Did limit (truncate_on v (card_of w.old) (view name.now) size stamp) w.old w.new result }
 {
-    let o = root_lookup::file_of(w, v, Access::Write, name);
-    match o {
-        Found::Missing(g) => Outcome::Refused(g),
-        Found::At(f) => truncate_as(w, v, f, size, stamp, limit),
-    }
+    let f = root_lookup::file_of(w, v, Access::Write, name)?;
+    truncate_as(w, v, f, size, stamp, limit)
 }
 
-pub fn truncate(w: &mut [u8], name: &[u8], size: u64, seconds: u32, limit: u32) -> Outcome
+pub fn truncate(
+    w: &mut [u8],
+    name: &[u8],
+    size: u64,
+    seconds: u32,
+    limit: u32,
+) -> Result<Ended, Ground>
     ensures { Did limit (truncate (window_of w.old) (view name.now) size seconds) w.old w.new result }
 {
-    let e = volume::clean_at(w, seconds);
-    match e {
-        Examined::Refused(g) => Outcome::Refused(g),
-        Examined::Granted(v) => { truncate_on(w, v, name, size, clock::stamp(seconds), limit) }
-    }
+    let v = volume::clean_at(w, seconds)?;
+    truncate_on(w, v, name, size, clock::stamp(seconds), limit)
 }

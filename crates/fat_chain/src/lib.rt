@@ -13,49 +13,39 @@ ghost use Rattle.fat_chain.specs.Links.{Adjacent};
 use model::{Class, Layout};
 
 // A cluster of the card.
+#[tactic(auto, unfolding(model::specs::Fat::class, model::specs::Fat::in_range, model::specs::Fat::is_end, model::specs::Scan::between))]
 fn is_inside(l: Layout, k: u32) -> bool
     requires { l.clusters ≤ 65524 }
     ensures { result ≡ in_range l k }
 {
-    let c = fat_read::classify(l, k);
-    match c {
-        Class::Next => true,
-        _ => false,
-    }
+    fat_read::classify(l, k) == Class::Next
 }
 
 // A value that ends a chain.
+#[tactic(auto, unfolding(model::specs::Fat::class, model::specs::Fat::in_range, model::specs::Fat::is_end, model::specs::Scan::between))]
 fn is_end(l: Layout, v: u32) -> bool
     requires { l.clusters ≤ 65524 }
     ensures { result ≡ is_end v }
 {
-    let c = fat_read::classify(l, v);
-    match c {
-        Class::End => true,
-        _ => false,
-    }
+    fat_read::classify(l, v) == Class::End
 }
 
 // The clusters that so many bytes need, whatever their number.
+#[tactic(auto, using(crate::proofs::Laws::needed_ceil))]
 pub fn clusters_needed(l: Layout, bytes: u64) -> u64
     requires { Fits l }
     ensures { result ≡ needed l bytes }
 {
-    if bytes == 0 {
-        return 0;
-    }
-    (bytes - 1) / (512 * sector::wider(l.factor)) + 1
+    bytes.div_ceil(512 * u64::from(l.factor))
 }
 
-// Those that a file's size needs: in 32 bits, by which reading keeps to its 512 bytes of stack.
+// Those that a file's size needs, by the same rule: a function of its own, in 32 bits, by which reading keeps to its 512 bytes of stack.
+#[tactic(auto, using(crate::proofs::Laws::needed_ceil))]
 pub fn clusters_for(l: Layout, size: u32) -> u32
     requires { Fits l }
     ensures { result ≡ needed l size }
 {
-    if size == 0 {
-        return 0;
-    }
-    (size - 1) / (512 * l.factor) + 1
+    size.div_ceil(512 * l.factor)
 }
 
 // How many clusters from k on lie one after another on the card, each linked to the next: at least 1, at most n.
@@ -63,18 +53,16 @@ pub fn run_length(w: &[u8], l: Layout, k: u32, n: u32) -> u32
     requires { Held l w.now × (k < 65536) × (1 ≤ n) }
     ensures { (1 ≤ result) × (result ≤ n) × (k + result ≤ 65536) × Adjacent (entry (fat1_of l (card_of w.now))) k result }
 {
-    let mut m = 1;
-    while m < n {
+    for m in 1..n {
         if fat_read::entry_at(w, l.fat1, k + m - 1) != k + m {
             return m;
         }
-        m += 1;
     }
-    m
+    n
 }
 
 // The n clusters from the first on are within range, and the last holds an end value. Clusters that lie one after another are
-// passed at once: the processor need not wait for one entry to know where the next is.
+// passed at once: the processor need not wait for one entry to know where the next is. So a turn takes a run, and this is no `for`.
 fn ends(w: &[u8], l: Layout, first: u32, n: u32) -> bool
     requires { Held l w.now }
     ensures { result ≡ ends_after l (entry (fat1_of l (card_of w.now))) n first }
@@ -109,10 +97,7 @@ pub fn keeps(w: &[u8], l: Layout, first: u32, size: u32) -> bool
         return first == 0;
     }
     let n = clusters_for(l, size);
-    if l.clusters < n {
-        return false;
-    }
-    ends(w, l, first, n)
+    n <= l.clusters && ends(w, l, first, n)
 }
 
 // How many clusters are free.

@@ -11,13 +11,15 @@ use borrow.Author.Tests.{lt-ltb, le-ltb, ne_eqb}
 use Rattle.model.specs.Bytes.{Bytes, bytes_of, byte_of, overlay, patch, pick}
 use Rattle.model.specs.Sector.{Card, Store, store, card_of, clip}
 use Rattle.model.specs.Fat.{Fat, entry, fat1_of, fat2_of, same, write_fat, set_entry}
-use Rattle.model.specs.Promises.{Ran, up_to, Shape}
+use Rattle.std.proofs.Common.{Result}
+use Rattle.model.specs.Promises.{Spent, up_to, Shape}
+use Rattle.model.specs.declared.Stopped.{Stopped}
 use Rattle.model.specs.declared.Layout.{Layout}
 use Rattle.model.proofs.Tests.{less?, by_pick}
 use Rattle.model.proofs.Scan.{all_same}
 use Rattle.model.proofs.Overlays.{overlay_none, overlay_more}
 use Rattle.model.proofs.Cards.{store_same, clip_at, Away}
-use Rattle.model.proofs.Runs.{upto_away, ran_away}
+use Rattle.model.proofs.Runs.{upto_away, spent_away}
 use Rattle.model.proofs.Turns.{upto_same}
 use Rattle.model.proofs.Copies.{write_fat_turns}
 use Rattle.model.proofs.Fats.{entry_same}
@@ -118,11 +120,11 @@ write_same l f g old h =
     ∙ write_turns l g old
 
 -- What the stores so far leave alone: FAT1, and the sectors of FAT2 that come next.
-module _ (l : Layout) (sh : Shape l) (new : Fat) (limit k : ℕ) (e x : List ℕ) (m : ℕ)
-    (so : Ran limit (up_to (renewals l new (fat2_of l (card_of e))) k) e x m true) where
+module _ (l : Layout) (sh : Shape l) (new : Fat) (k : ℕ) {b left : ℕ} {e x : List ℕ} {r : Result Unit Stopped}
+    (so : Spent b left (up_to (renewals l new (fat2_of l (card_of e))) k) e x r) where
   left_alone : (s : ℕ) → ((i : ℕ) → i < k → s ≡ l.fat2 + i → ⊥) → card_of x s ≡ card_of e s
   left_alone s ne =
-      ran_away limit (up_to (renewals l new (fat2_of l (card_of e))) k) e x m true so s
+      spent_away so s
       (upto_away (renewals l new (fat2_of l (card_of e))) k s (λ i less. renewal_away (l.fat2 + i) (new i) (card_of e (l.fat2 + i)) s (ne i less)))
 
   pub next_kept : (s : ℕ) → k ≤ s → card_of x (l.fat2 + s) ≡ card_of e (l.fat2 + s)

@@ -18,7 +18,7 @@ use Rattle.model.proofs.Tests.{less?, clash, every_not, each_every}
 use Rattle.model.proofs.Scan.{all_of, all_not, first_before, first_has, first_ge, first_le, count_none}
 use Rattle.model.proofs.Searches.{count_add, count_all, count_zero, count_some}
 use Rattle.fat_read.specs.Located.{lacks, located}
-use Rattle.fat_read.specs.declared.Located.TheVariants.{Nowhere, At}
+use Rattle.std.specs.Prelude.{Some, None}
 
 -- A product of a count of clusters and sectors per cluster.
 pub product : (n f : ℕ) → n ≤ 65526 → f ≤ 64 → n * f ≤ 4193664
@@ -78,7 +78,7 @@ module _ (l : Layout) (f : Fat) (start stop : ℕ)
       let d = rw t at (count_add p start (stop - start) (end - stop)) in
       omega (arith, c, d, x, y)
 
-  pub nothing : stop - start ≡ 0 → located l f ≡ Nowhere
+  pub nothing : stop - start ≡ 0 → located l f ≡ None
   unfolding located run run_ok
   nothing h =
       let lo = low in let hi = high in let u = up in let d = down in
@@ -92,7 +92,7 @@ module _ (l : Layout) (f : Fat) (start stop : ℕ)
       rw (every_not _ 0 (lt-leb _ _ e)))
       (less? start end)
 
-  pub too_long : 128 < (stop - start) * l.factor → located l f ≡ Nowhere
+  pub too_long : 128 < (stop - start) * l.factor → located l f ≡ None
   unfolding located run run_ok
   too_long h =
       let e : (stop - start) * l.factor ≤ count_from p 2 l.clusters * l.factor = mul-le-mul_right l.factor (omega (arith, counted)) in
@@ -100,7 +100,7 @@ module _ (l : Layout) (f : Fat) (start stop : ℕ)
       rw (every_not _ 1 (lt-leb _ _ more))
 
   module _ (rest : ℕ) (c : rest ≡ first_from p stop (end - stop)) where
-    pub another : rest < end → located l f ≡ Nowhere
+    pub another : rest < end → located l f ≡ None
     unfolding located run run_ok
     another h =
         let u = up in let d = down in
@@ -113,7 +113,7 @@ module _ (l : Layout) (f : Fat) (start stop : ℕ)
         rw (every_not _ 2 gap)
 
     pub only : end ≤ rest → 1 ≤ stop - start → (stop - start) * l.factor ≤ 128
-        → located l f ≡ At (record { sector = cluster_sector l start; sectors = (stop - start) * l.factor })
+        → located l f ≡ Some (record { sector = cluster_sector l start; sectors = (stop - start) * l.factor })
     unfolding located run run_ok area
     only h some few =
         let u = up in let d = down in

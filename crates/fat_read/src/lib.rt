@@ -12,28 +12,24 @@ ghost use Rattle.fat_read.specs.Located.{holds, lacks, located, Locates};
 
 use model::{Area, Class, Layout};
 
-// Where the log was found.
-#[derive(Clone, Copy)]
-pub enum Located {
-    Nowhere,
-    At(Area),
-}
-
+#[tactic(auto, unfolding(model::specs::Bytes::le))]
 fn pair(w: &[u8], at: usize) -> u32
     requires { at + 2 ≤ length w.now }
     ensures { Number 2 (bytes_of w.now) at result }
 {
-    sector::wide(w[at]) + 256 * sector::wide(w[at + 1])
+    u32::from(w[at]) + 256 * u32::from(w[at + 1])
 }
 
 // Entry k of the FAT that begins at a sector.
+#[tactic(auto, using(crate::proofs::Laws::flat))]
 pub fn entry_at(w: &[u8], fat: u32, k: u32) -> u32
     requires { 512 * fat + 2 * (k + 1) ≤ length w.now }
     ensures { (result ≡ entry (fat_at (card_of w.now) fat) k) × (result < 65536) }
 {
-    pair(w, 512 * sector::index(fat) + 2 * sector::index(k))
+    pair(w, 512 * fat as usize + 2 * k as usize)
 }
 
+#[tactic(auto, unfolding(model::specs::Fat::class, model::specs::Fat::in_range, model::specs::Fat::is_end, model::specs::Scan::between))]
 pub fn classify(l: Layout, v: u32) -> Class
     requires { l.clusters ≤ 65524 }
     ensures { result ≡ class l v }
@@ -43,30 +39,22 @@ pub fn classify(l: Layout, v: u32) -> Class
         0xFFF6 => Class::Reserved,
         0xFFF7 => Class::Bad,
         0xFFF8..=0xFFFF => Class::End,
-        2..=0xFFF5 => {
-            if v <= l.clusters + 1 {
-                Class::Next
-            } else {
-                Class::Other
-            }
-        }
+        2..=0xFFF5 if v <= l.clusters + 1 => Class::Next,
         _ => Class::Other,
     }
 }
 
 // The mark of the log.
+#[tactic(auto, unfolding(model::specs::Fat::class, model::specs::Fat::in_range, model::specs::Fat::is_end, model::specs::Scan::between))]
 fn is_reserved(l: Layout, v: u32) -> bool
     requires { l.clusters ≤ 65524 }
     ensures { result ≡ eqb v 0xFFF6 }
 {
-    let c = classify(l, v);
-    match c {
-        Class::Reserved => true,
-        _ => false,
-    }
+    classify(l, v) == Class::Reserved
 }
 
 // The first sector of cluster k.
+#[tactic(auto, using(crate::proofs::Runs::product, crate::proofs::Runs::on_card), unfolding(model::specs::Chain::cluster_sector))]
 pub fn cluster_sector(l: Layout, k: u32) -> u32
     requires { Fits l × (2 ≤ k) × (k ≤ l.clusters + 1) }
     ensures { (result ≡ cluster_sector l k) × (l.start ≤ result) × (result + l.factor ≤ l.total) }
@@ -79,16 +67,14 @@ pub fn count_entries(w: &[u8], fat: u32, k: u32, n: u32, v: u32) -> u32
     requires { (512 * fat + 2 * (k + n) ≤ length w.now) × (n < 65536) }
     ensures { (result ≡ count_from (holds v (fat_at (card_of w.now) fat)) k n) × (result ≤ n) }
 {
-    let at = 512 * sector::index(fat) + 2 * sector::index(k);
+    let at = 512 * fat as usize + 2 * k as usize;
     let mut found: u16 = 0;
-    let mut i = 0;
-    while i < n {
-        if pair(w, at + 2 * sector::index(i)) == v {
+    for i in 0..n as usize {
+        if pair(w, at + 2 * i) == v {
             found += 1;
         }
-        i += 1;
     }
-    found as u32
+    u32::from(found)
 }
 
 // Whether one of the 256 entries from k on holds v. The loop has no way out but its end: so the compiler compares eight entries
@@ -97,12 +83,10 @@ fn is_among(w: &[u8], fat: u32, k: u32, v: u32) -> bool
     requires { 512 * fat + 2 * (k + 256) ≤ length w.now }
     ensures { result ≡ false → count_from (holds v (fat_at (card_of w.now) fat)) k 256 ≡ 0 }
 {
-    let at = 512 * sector::index(fat) + 2 * sector::index(k);
+    let at = 512 * fat as usize + 2 * k as usize;
     let mut seen = false;
-    let mut i = 0;
-    while i < 256 {
-        seen = seen | (pair(w, at + 2 * i) == v);
-        i += 1;
+    for i in 0..256 {
+        seen |= pair(w, at + 2 * i) == v;
     }
     seen
 }
@@ -112,16 +96,10 @@ fn is_bare(w: &[u8], fat: u32, k: u32, end: u32, v: u32) -> bool
     requires { (k ≤ end) × (512 * fat + 2 * end ≤ length w.now) }
     ensures { result ≡ true → (k + 256 ≤ end) × (count_from (holds v (fat_at (card_of w.now) fat)) k 256 ≡ 0) }
 {
-    if k % 256 != 0 {
-        return false;
-    }
-    if end - k < 256 {
-        return false;
-    }
-    !is_among(w, fat, k, v)
+    k % 256 == 0 && 256 <= end - k && !is_among(w, fat, k, v)
 }
 
-// The first entry from k on that holds v, or the end. A sector that holds none is passed over whole.
+// The first entry from k on that holds v, or the end. A sector that holds none is passed over whole, so this is no `for`.
 pub fn find_entry(w: &[u8], fat: u32, k: u32, n: u32, v: u32) -> u32
     requires { (k + n < 4294967296) × (512 * fat + 2 * (k + n) ≤ length w.now) }
     ensures { (result ≡ first_from (holds v (fat_at (card_of w.now) fat)) k n) × (k ≤ result) × (result ≤ k + n) }
@@ -146,11 +124,7 @@ fn sector_left(k: u32, end: u32) -> u32
     requires { k < end }
     ensures { result ≡ min (256 - k % 256) (end - k) }
 {
-    let left = 256 - k % 256;
-    if end - k < left {
-        return end - k;
-    }
-    left
+    (256 - k % 256).min(end - k)
 }
 
 // The m-th entry from k on that holds v, or the end: entry by entry.
@@ -159,21 +133,20 @@ fn pass_entries(w: &[u8], fat: u32, k: u32, n: u32, v: u32, m: u32) -> u32
     ensures { result ≡ nth_from (holds v (fat_at (card_of w.now) fat)) k n m }
 {
     let end = k + n;
-    let mut i = k;
     let mut left = m;
-    while i < end {
+    for i in k..end {
         if entry_at(w, fat, i) == v {
             if left == 1 {
                 return i;
             }
             left -= 1;
         }
-        i += 1;
     }
     end
 }
 
 // The same, sector by sector: one that holds too few is passed over by its count, and no sector is read after the one that has it.
+// The first step may be shorter, from the middle of a sector to its end, so this is no `for`.
 pub fn find_nth(w: &[u8], fat: u32, k: u32, n: u32, v: u32, m: u32) -> u32
     requires { (k + n < 4294967296) × (512 * fat + 2 * (k + n) ≤ length w.now) × (1 ≤ m) }
     ensures { result ≡ nth_from (holds v (fat_at (card_of w.now) fat)) k n m }
@@ -199,18 +172,17 @@ fn find_other(w: &[u8], l: Layout, k: u32, n: u32) -> u32
     ensures { (result ≡ first_from (lacks 0xFFF6 (fat1_of l (card_of w.now))) k n) × (k ≤ result) × (result ≤ k + n) }
 {
     let end = k + n;
-    let mut i = k;
-    while i < end {
+    for i in k..end {
         if !is_reserved(l, entry_at(w, l.fat1, i)) {
             return i;
         }
-        i += 1;
     }
     end
 }
 
 // The log, in one pass: the first cluster marked, the end of its run, and none marked after it.
-pub fn locate(w: &[u8], l: Layout) -> Located
+#[tactic(auto, using(crate::proofs::Runs::nothing, crate::proofs::Runs::too_long, crate::proofs::Runs::product))]
+pub fn locate(w: &[u8], l: Layout) -> Option<Area>
     requires { Held l w.now }
     ensures { (result ≡ located l (fat1_of l (card_of w.now))) × Locates l result }
 {
@@ -219,17 +191,19 @@ pub fn locate(w: &[u8], l: Layout) -> Located
     let stop = find_other(w, l, start, end - start);
     let size = stop - start;
     if size == 0 {
-        return Located::Nowhere;
+        return None;
     }
     let sectors = size * l.factor;
     if 128 < sectors {
-        return Located::Nowhere;
+        return None;
     }
     if find_entry(w, l.fat1, stop, end - stop, 0xFFF6) < end {
-        return Located::Nowhere;
+        return None;
     }
-    let sector = cluster_sector(l, start);
-    Located::At(Area { sector, sectors })
+    Some(Area {
+        sector: cluster_sector(l, start),
+        sectors,
+    })
 }
 
 // Whether the two FATs hold the same bytes.
@@ -237,15 +211,5 @@ pub fn agree(w: &[u8], l: Layout) -> bool
     requires { Held l w.now }
     ensures { result ≡ fats_agree l (card_of w.now) }
 {
-    let a = l.fat1;
-    let b = l.fat2;
-    let n = l.fatsize;
-    let mut s = 0;
-    while s < n {
-        if sector::differs(w, a + s, b + s) {
-            return false;
-        }
-        s += 1;
-    }
-    true
+    (0..l.fatsize).all(|s| !sector::differs(w, l.fat1 + s, l.fat2 + s))
 }

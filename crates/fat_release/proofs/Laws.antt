@@ -3,22 +3,26 @@ use Prim.Native.Nat.{ℕ, zero, suc, ◌+◌, ◌-◌, ◌*◌, ◌/◌, ◌%◌
 use native.Mathlib.Omega.{arith}
 use mathlib.Core.Path.{◌≡◌, refl, sym, ap, ◌∙◌}
 use mathlib.Core.Logic.{⊎_elim}
-use mathlib.Core.Bool.{Bool, true, false, ◌||◌, ◌&&◌}
+use mathlib.Core.Bool.{Bool, true, false, ◌||◌}
 use mathlib.Core.List.{List, [], ◌∷◌}
-use lib.ListN.{length, get_or, set}
+use lib.ListN.{length, get_or, set, replicate}
 use lib.Seq.{get_or-set_same, get_or-set_other}
-use lib.Dec.{eqb, ltb}
+use lib.Dec.{eqb}
 use native.Mathlib.Nat.{zero-div}
-use borrow.Author.Tests.{ne_eqb, eq-eqb, eqb-true, ltb-true}
+use borrow.Author.Tests.{ne_eqb, eq-eqb}
 use Rattle.model.specs.Bytes.{Bytes, pick}
-use Rattle.model.specs.Scan.{any, all_from, walk, among}
+use Rattle.model.specs.Scan.{any, among}
 use Rattle.model.specs.Sector.{Card}
 use Rattle.model.specs.Fat.{Fat, entry, fat1_of, set_entry, end_value, link, release}
 use Rattle.model.specs.Chain.{chain}
 use Rattle.model.specs.Promises.{Shape}
 use Rattle.model.specs.declared.Layout.{Layout}
-use Rattle.model.proofs.Tests.{same?, less?, and_left, and_right}
-use Rattle.model.proofs.Scan.{all_at}
+use Rattle.std.specs.Int.RustNames.{bit_or}
+use Rattle.std.specs.Int.{w8}
+use Rattle.std.proofs.lemmas.List.{get_or_past}
+use Rattle.std.proofs.lemmas.Nat.Bits.{bit_at_set_same, bit_at_set_other}
+use Rattle.model.proofs.Lists.{zero_at}
+use Rattle.model.proofs.Tests.{same?}
 use Rattle.model.proofs.All.{All}
 use Rattle.model.proofs.Chains.{chain_same}
 use Rattle.model.proofs.Entries.{release_byte, release_local}
@@ -38,63 +42,17 @@ pub marked_none : (l : Layout) (ks : List ℕ) (from : ℕ) (marks : List ℕ) �
     → ((i : ℕ) → mark_of marks i ≡ 0) → Marked ks from marks
 marked_none l ks from marks h le none i less = rw (among_none l ks (from + i) h (omega arith)) (none i)
 
--- Bits of a byte: set, and none in 0. All bytes are tried.
-with_bit : ℕ → ℕ → ℕ
-with_bit b i = pick (eqb (b / 2 ^ i % 2) 1) b (b + 1 * 2 ^ i % 256)
-
-bit_test : ℕ → Bool
-bit_test x =
-    let b = x % 256 in
-    let i = x / 256 % 8 in
-    let j = x / 2048 in
-    eqb (with_bit b i / 2 ^ j % 2) (pick (eqb j i) 1 (b / 2 ^ j % 2)) && ltb (with_bit b i) 256
-
-bits_tested : all_from bit_test 0 16384 ≡ true
-unfolding all_from walk bit_test with_bit
-bits_tested = refl
-
-module _ (b i : ℕ) (byte : b < 256) (lo : i < 8) where
-  tested : (j : ℕ) → j < 8 → eqb (with_bit b i / 2 ^ j % 2) (pick (eqb j i) 1 (b / 2 ^ j % 2)) && ltb (with_bit b i) 256 ≡ true
-  unfolding bit_test
-  tested j less =
-      let x = b + 256 * i + 2048 * j in
-      let p : x % 256 ≡ b = omega arith in
-      let h : x / 256 ≡ i + 8 * j = omega arith in
-      let low : (i + 8 * j) % 8 ≡ i = omega arith in
-      let q : x / 256 % 8 ≡ i = ap (λ (y : ℕ). y % 8) h ∙ low in
-      let r : x / 2048 ≡ j = omega arith in
-      rw (p, q, r) at (all_at bit_test 0 16384 bits_tested x (omega arith) (omega arith))
-
-  -- A bit that is set stays; one that is not is added.
-  pub bit_there : b / 2 ^ i % 2 ≡ 1 → (j : ℕ) → j < 8 → bit_of b j ≡ pick (eqb j i) 1 (bit_of b j)
-  unfolding bit_of with_bit
-  bit_there e j h = rw (eq-eqb (b / 2 ^ i % 2) 1 e) at (eqb-true (with_bit b i / 2 ^ j % 2) (pick (eqb j i) 1 (b / 2 ^ j % 2)) (and_left _ _ (tested j h)))
-
-  pub bit_added : (b / 2 ^ i % 2 ≡ 1 → ⊥) → (j : ℕ) → j < 8 → bit_of (b + 1 * 2 ^ i % 256) j ≡ pick (eqb j i) 1 (bit_of b j)
-  unfolding bit_of with_bit
-  bit_added e j h = rw (ne_eqb (b / 2 ^ i % 2) 1 e) at (eqb-true (with_bit b i / 2 ^ j % 2) (pick (eqb j i) 1 (b / 2 ^ j % 2)) (and_left _ _ (tested j h)))
-
-  pub bit_fits : (b / 2 ^ i % 2 ≡ 1 → ⊥) → b + 1 * 2 ^ i % 256 < 256
-  unfolding with_bit
-  bit_fits e = rw (ne_eqb (b / 2 ^ i % 2) 1 e) at (ltb-true (with_bit b i) 256
-      (and_right (eqb (with_bit b i / 2 ^ 0 % 2) (pick (eqb 0 i) 1 (b / 2 ^ 0 % 2))) (ltb (with_bit b i) 256) (tested 0 (omega arith))))
-
+-- A byte of marks that is 0 has none.
 pub bit_zero : (b i : ℕ) → b ≡ 0 → bit_of b i ≡ 0
 unfolding bit_of
 bit_zero b i e = rw (e, zero-div (2 ^ i))
 
--- What lies past the end of a list.
-past : (xs : List ℕ) (i : ℕ) → length xs ≤ i → get_or xs i 0 ≡ 0
-past [] i h = refl
-past (x ∷ xs) zero h = absurd (omega arith)
-past (x ∷ xs) (suc i) h = past xs i (omega arith)
-
 -- No mark where no byte is lent for them, and where all are 0.
 pub mark_past : (marks : List ℕ) → length marks ≡ 0 → (i : ℕ) → mark_of marks i ≡ 0
-mark_past marks e i = bit_zero (get_or marks (i / 8) 0) (i % 8) (past marks (i / 8) (omega arith))
+mark_past marks e i = bit_zero (get_or marks (i / 8) 0) (i % 8) (get_or_past marks (i / 8) 0 (omega arith))
 
-pub all_clear : (marks : List ℕ) (n : ℕ) → length marks ≤ n → ((m : ℕ) → m < n → get_or marks m 0 ≡ 0) → (i : ℕ) → mark_of marks i ≡ 0
-all_clear marks n le none i = bit_zero (get_or marks (i / 8) 0) (i % 8) (⊎_elim (λ l. none (i / 8) l) (λ g. past marks (i / 8) (omega arith)) (less? (i / 8) n))
+pub mark_clear : (marks : List ℕ) (n : ℕ) → marks ≡ replicate n 0 → (i : ℕ) → mark_of marks i ≡ 0
+mark_clear marks n e i = rw e (bit_zero (get_or (replicate n 0) (i / 8) 0) (i % 8) (zero_at n (i / 8)))
 
 -- Mark `at + m / 2`, of the entry that byte m of a sector is of, is a bit of the byte of marks for eight entries.
 pub mark_in : (marks : List ℕ) (at k m : ℕ) → at % 8 ≡ 0 → m / 16 ≡ k
@@ -104,30 +62,50 @@ mark_in marks at k m z e =
     let q : m / 2 % 8 ≡ (at + m / 2) % 8 = omega (arith, z) in
     ap (λ (y : ℕ). bit_of (get_or marks y 0) (m / 2 % 8)) p ∙ ap (λ (y : ℕ). bit_of (get_or marks ((at + m / 2) / 8) 0) y) q
 
--- Byte j of a sector once the eight entries from byte 16 * k on are cleared by the bits of m; the bytes before them stay.
-abbrev pub eight_then : List ℕ → ℕ → ℕ → ℕ → ℕ
-eight_then xs k m j = pick (ltb j (16 * k)) (get_or xs j 0) (pick (eqb (bit_of m (j / 2 % 8)) 0) (get_or xs j 0) 0)
+-- Mark x is set.
+module _ (marks : List ℕ) (x : ℕ) (h : x / 8 < length marks) where
+  abbrev byte : ℕ
+  byte = get_or marks (x / 8) 0
 
--- One more mark.
-pub mark_set : (marks : List ℕ) (from k i v x : ℕ) → from ≤ k → (k - from) / 8 < length marks → x ≡ k - from
-    → ((j : ℕ) → j < 8 → bit_of v j ≡ pick (eqb j (x % 8)) 1 (bit_of (get_or marks (x / 8) 0) j))
-    → mark_of (set marks (x / 8) v) i ≡ pick (eqb (from + i) k) 1 (mark_of marks i)
-mark_set marks from k i v x lo hi e put =
-    let less : x / 8 < length marks = rw e hi in
-    ⊎_elim
-    (λ q. ap (λ (y : ℕ). bit_of (get_or (set marks (x / 8) v) y 0) (i % 8)) q ∙ ap (λ (y : ℕ). bit_of y (i % 8)) (get_or-set_same marks (x / 8) v 0 less)
-    ∙ put (i % 8) (omega arith)
-    ∙ ap (λ (b : Bool). pick b 1 (bit_of (get_or marks (x / 8) 0) (i % 8))) (same_bit q)
-    ∙ ap (λ (y : ℕ). pick (eqb (from + i) k) 1 (bit_of (get_or marks y 0) (i % 8))) (sym q))
-    (λ ne. rw (ne_eqb (from + i) k (λ z. ne (let same : i ≡ x = omega (arith, z, e, lo) in ap (λ (y : ℕ). y / 8) same)))
-    (ap (λ (y : ℕ). bit_of y (i % 8)) (get_or-set_other marks (x / 8) (i / 8) v 0 (λ z. ne (omega (arith, z))))))
-    (same? (i / 8) (x / 8))
-  where
-    same_bit : i / 8 ≡ x / 8 → eqb (i % 8) (x % 8) ≡ eqb (from + i) k
-    same_bit q = ⊎_elim
-        (λ z. eq-eqb (i % 8) (x % 8) (omega (arith, z, e, lo)) ∙ sym (eq-eqb (from + i) k z))
-        (λ ne. ne_eqb (i % 8) (x % 8) (λ z. ne (omega (arith, z, q, e, lo))) ∙ sym (ne_eqb (from + i) k ne))
-        (same? (from + i) k)
+  abbrev byte_set : ℕ
+  byte_set = bit_or byte (1 * 2 ^ (x % 8) % 256)
+
+  pub mark_set : (i : ℕ) → mark_of (set marks (x / 8) byte_set) i ≡ pick (eqb i x) 1 (mark_of marks i)
+  unfolding bit_of
+  mark_set i = ⊎_elim
+      (λ e. rw (eq-eqb i x e, e, get_or-set_same marks (x / 8) byte_set 0 h) (bit_at_set_same w8 byte (x % 8) (omega arith)))
+      (λ ne. rw (ne_eqb i x ne) (⊎_elim
+      (λ e. ap (λ (y : ℕ). bit_of (get_or (set marks (x / 8) byte_set) y 0) (i % 8)) e
+      ∙ ap (λ (y : ℕ). bit_of y (i % 8)) (get_or-set_same marks (x / 8) byte_set 0 h)
+      ∙ bit_at_set_other w8 byte (x % 8) (omega arith) (i % 8) (λ q. ne (omega (arith, e, q)))
+      ∙ ap (λ (y : ℕ). bit_of (get_or marks y 0) (i % 8)) (sym e))
+      (λ f. ap (λ (y : ℕ). bit_of y (i % 8)) (get_or-set_other marks (x / 8) (i / 8) byte_set 0 f))
+      (same? (i / 8) (x / 8))))
+      (same? i x)
+
+-- Cluster k has mark k - from.
+pub mark_at : (from k i : ℕ) → from ≤ k → eqb i (k - from) ≡ eqb (from + i) k
+mark_at from k i le = ⊎_elim
+    (λ e. rw (eq-eqb i (k - from) e, eq-eqb (from + i) k (omega arith)))
+    (λ ne. rw (ne_eqb i (k - from) ne, ne_eqb (from + i) k (λ q. ne (omega arith))))
+    (same? i (k - from))
+
+-- The buffer xs once the first n bytes of the eight entries from byte 16 * k on are cleared by the bits of m.
+pub record Eight (xs : List ℕ) (k m n : ℕ) (out : List ℕ) : Type 0 where
+  pub done : (j : ℕ) → j / 16 ≡ k → j % 16 < n → get_or out j 0 ≡ pick (eqb (bit_of m (j / 2 % 8)) 0) (get_or xs j 0) 0
+  pub rest : (j : ℕ) → (j / 16 ≡ k → n ≤ j % 16) → get_or out j 0 ≡ get_or xs j 0
+
+pub eight_more : (xs buf out : List ℕ) (k m i : ℕ) → i < 16 → Eight xs k m i buf
+    → get_or out (16 * k + i) 0 ≡ pick (eqb (bit_of m (i / 2)) 0) (get_or buf (16 * k + i) 0) 0
+    → ((j : ℕ) → (j ≡ 16 * k + i → ⊥) → get_or out j 0 ≡ get_or buf j 0) → Eight xs k m (i + 1) out
+eight_more xs buf out k m i less so here else = record {
+  done = λ j q l. ⊎_elim
+      (λ e. let f : j / 2 % 8 ≡ i / 2 = omega arith in
+      rw (f, ← so.rest j (λ z. omega arith)) (rw (← e) at here))
+      (λ ne. else j ne ∙ so.done j q (omega arith))
+      (same? j (16 * k + i));
+  rest = λ j h. else j (λ e. absurd (let z : i + 1 ≤ j % 16 = h (omega arith) in omega arith)) ∙ so.rest j (λ q. let z : i + 1 ≤ j % 16 = h q in omega arith);
+}
 
 -- The marks of a walk so far, with the n clusters from k on yet to come, are those of all.
 abbrev pub Marking : (ℕ → ℕ) → ℕ → ℕ → ℕ → List ℕ → ℕ → ℕ → Type 0
@@ -181,7 +159,8 @@ cleared_is ks marks f s h j less =
 
 -- A buffer that holds sector s of f, cleared by the marks.
 pub cleared_of : (marks buf out : List ℕ) (f : Fat) (s at : ℕ) → at ≡ 256 * (s % 32) → ((j : ℕ) → j < 512 → get_or buf j 0 ≡ f s j)
-    → ((j : ℕ) → j < 512 → get_or out j 0 ≡ pick (eqb (mark_of marks (at + j / 2)) 0) (get_or buf j 0) 0) → (j : ℕ) → j < 512 → get_or out j 0 ≡ cleared marks f s j
+    → ((j : ℕ) → j < 512 → get_or out j 0 ≡ pick (eqb (mark_of marks (at + j / 2)) 0) (get_or buf j 0) 0)
+    → (j : ℕ) → j < 512 → get_or out j 0 ≡ cleared marks f s j
 unfolding cleared
 cleared_of marks buf out f s at e held put j less =
     put j less ∙ ap (λ (z : ℕ). pick (eqb (mark_of marks (z + j / 2)) 0) (get_or buf j 0) 0) e

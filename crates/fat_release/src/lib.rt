@@ -12,52 +12,19 @@ ghost use Rattle.fat_release.specs.Release.{bit_of, mark_of, Inside, Marked};
 
 use model::Layout;
 
-// The marks of 8,192 clusters, one bit each. Where no cluster is freed no byte need be lent for them.
-fn clear_marks(marks: &mut [u8])
-    ensures { (i : ℕ) → mark_of marks.new i ≡ 0 }
-{
-    let mut i = 0;
-    while i < marks.len() {
-        marks[i] = 0;
-        i += 1;
-    }
-}
-
-// Bit i of a byte.
-fn bit_at(b: u8, i: usize) -> u8
-    requires { i < 8 }
-    ensures { result ≡ bit_of b i }
-{
-    (b >> i) % 2
-}
-
-// A byte with bit i set.
-fn with_bit(b: u8, i: usize) -> u8
-    requires { i < 8 }
-    ensures { (j : ℕ) → j < 8 → bit_of result j ≡ pick (eqb j i) 1 (bit_of b j) }
-{
-    if (b >> i) % 2 == 1 {
-        return b;
-    }
-    b + (1 << i)
-}
-
-// Marks cluster k, if it is one of the 8,192 from `from` on.
+// Marks cluster k, if it is one of the 8,192 from `from` on. Each has one bit.
 fn mark(marks: &mut [u8], from: u32, k: u32)
     requires { length marks.old ≡ 1024 }
     ensures { (i : ℕ) → i < 8192 → mark_of marks.new i ≡ pick (eqb (from + i) k) 1 (mark_of marks.old i) }
 {
-    if k < from {
-        return;
+    if from <= k && k - from < 8192 {
+        let i = (k - from) as usize;
+        marks[i / 8] |= 1 << (i % 8);
     }
-    if 8192 <= k - from {
-        return;
-    }
-    let i = sector::index(k - from);
-    marks[i / 8] = with_bit(marks[i / 8], i % 8);
 }
 
-// The marks for sector s: made anew where 32 sectors begin, by a walk along the m clusters from `first` on.
+// The marks for sector s: made anew where 32 sectors begin, by a walk along the m clusters from `first` on. Where no cluster is freed no
+// byte need be lent for them.
 pub fn mark_block(w: &[u8], l: Layout, marks: &mut [u8], s: u32, first: u32, m: u32)
     requires { Held l w.now × (0 < m → length marks.old ≡ 1024) × (s < l.fatsize) × Inside l (chain (entry (own_fat l w.now)) m first)
         × ((s % 32 ≡ 0 → ⊥) → Marked (chain (entry (own_fat l w.now)) m first) (8192 * (s / 32)) marks.old) }
@@ -66,17 +33,15 @@ pub fn mark_block(w: &[u8], l: Layout, marks: &mut [u8], s: u32, first: u32, m: 
     if s % 32 != 0 {
         return;
     }
-    clear_marks(marks);
+    marks.fill(0);
     let from = 256 * s;
     if l.clusters + 2 <= from {
         return;
     }
     let mut k = first;
-    let mut n = m;
-    while 0 < n {
+    for _ in 0..m {
         mark(marks, from, k);
         k = fat_read::entry_at(w, l.fat1, k);
-        n -= 1;
     }
 }
 
@@ -86,26 +51,14 @@ pub fn has_mark(marks: &[u8], at: usize) -> bool
     requires { (at % 8 ≡ 0) × (at + 256 ≤ 8192) × (length marks.now % 1024 ≡ 0) }
     ensures { result ≡ false → (i : ℕ) → i < 256 → mark_of marks.now (at + i) ≡ 0 }
 {
-    if marks.len() == 0 {
+    if marks.is_empty() {
         return false;
     }
     let mut seen = false;
-    let mut i = 0;
-    while i < 32 {
-        seen = seen | (marks[at / 8 + i] != 0);
-        i += 1;
+    for i in 0..32 {
+        seen |= marks[at / 8 + i] != 0;
     }
     seen
-}
-
-// A byte of an entry, 0 where the entry's bit is set.
-fn unless_marked(b: u8, bit: u8) -> u8
-    ensures { result ≡ pick (eqb bit 0) b 0 }
-{
-    if bit == 0 {
-        return b;
-    }
-    0
 }
 
 // Clears those of eight entries, 16 bytes from 16 * k on, that the bits of m mark.
@@ -117,10 +70,10 @@ fn clear_eight(buf: &mut [u8], k: usize, m: u8)
     if m == 0 {
         return;
     }
-    let mut i = 0;
-    while i < 16 {
-        buf[16 * k + i] = unless_marked(buf[16 * k + i], bit_at(m, i / 2));
-        i += 1;
+    for i in 0..16 {
+        if (m >> (i / 2)) % 2 == 1 {
+            buf[16 * k + i] = 0;
+        }
     }
 }
 
@@ -129,12 +82,10 @@ pub fn clear_marked(buf: &mut [u8], marks: &[u8], at: usize)
     requires { (length buf.old ≡ 512) × (at % 8 ≡ 0) × (at + 256 ≤ 8192) × (length marks.now % 1024 ≡ 0) }
     ensures { (j : ℕ) → j < 512 → get_or buf.new j 0 ≡ pick (eqb (mark_of marks.now (at + j / 2)) 0) (get_or buf.old j 0) 0 }
 {
-    if marks.len() == 0 {
+    if marks.is_empty() {
         return;
     }
-    let mut k = 0;
-    while k < 32 {
+    for k in 0..32 {
         clear_eight(buf, k, marks[at / 8 + k]);
-        k += 1;
     }
 }

@@ -2,7 +2,7 @@
 use Prim.Native.Nat.{ℕ, zero, suc, ◌+◌, ◌*◌, ◌/◌, ◌%◌, ◌<◌, ◌≤◌}
 use native.Mathlib.Omega.{arith}
 use mathlib.Core.Path.{◌≡◌, refl, sym, ap, ◌∙◌}
-use mathlib.Core.Bool.{true, false}
+use mathlib.Core.Bool.{false}
 use mathlib.Core.List.{List, [], ◌∷◌, ◌++◌, append-nil}
 use lib.ListN.{length, take}
 use lib.Dec.{eqb}
@@ -12,7 +12,9 @@ use Rattle.model.specs.Scan.{first_from}
 use Rattle.model.specs.Sector.{Card, card_of}
 use Rattle.model.specs.Fat.{Fat, entry, end_value, fat1_of, fat2_of, free_clusters, link, release}
 use Rattle.model.specs.Chain.{chain}
-use Rattle.model.specs.Promises.{Ran, up_to, Shape}
+use Rattle.std.proofs.Common.{Result}
+use Rattle.model.specs.Promises.{Spent, up_to, Shape}
+use Rattle.model.specs.declared.Stopped.{Stopped}
 use Rattle.model.specs.declared.Layout.{Layout}
 use Rattle.model.proofs.Entries.{release_local}
 use Rattle.operations.specs.Plan.{exchange}
@@ -37,18 +39,18 @@ unchanged marks l t s last value at left ne up none j less = rw (none (j / 2) (o
 
 -- ---- a pass over the sectors
 
-module _ (l : Layout) (sh : Shape l) (last value first n m old limit : ℕ) (e x : List ℕ) (s made : ℕ)
-    (so : Ran limit (up_to (renewals l (passed l (own_fat l e) last value first n m old) (fat2_of l (card_of e))) s) e x made true) where
+module _ (l : Layout) (sh : Shape l) (last value first n m old : ℕ) (s : ℕ) {b limit : ℕ} {e x : List ℕ} {r : Result Unit Stopped}
+    (so : Spent b limit (up_to (renewals l (passed l (own_fat l e) last value first n m old) (fat2_of l (card_of e))) s) e x r) where
   -- FAT1 is as at the start.
   pub fat_same : own_fat l x ≡ own_fat l e
-  fat_same = fat_kept l sh (passed l (own_fat l e) last value first n m old) limit s e x made so
+  fat_same = fat_kept l sh (passed l (own_fat l e) last value first n m old) s so
 
   -- A sector's store, as the turn finds the card, is that of the whole.
   pub turn_same : (marks : List ℕ) → Marked (chain (entry (own_fat l x)) m old) (8192 * (s / 32)) marks
-      → (at left : ℕ) → Moved l (own_fat l e) s first n at left
+      → {at left : ℕ} → Moved l (own_fat l e) s first n at left
       → renewal (l.fat2 + s) (cleared marks (linked l (own_fat l x) last value at left) s) (card_of x (l.fat2 + s)) ≡ renewals l
       (passed l (own_fat l e) last value first n m old) (fat2_of l (card_of e)) s
-  turn_same marks h at left mv =
+  turn_same marks h {at} {left} mv =
       renewal_same (l.fat2 + s) (cleared marks (linked l (own_fat l x) last value at left) s) (passed l (own_fat l x) last value at left m old s)
       (card_of x (l.fat2 + s))
       (cleared_is (chain (entry (own_fat l x)) m old) marks (linked l (own_fat l x) last value at left) s h)
@@ -58,7 +60,7 @@ module _ (l : Layout) (sh : Shape l) (last value first n m old limit : ℕ) (e x
       (λ j b. release_local (chain (entry (own_fat l e)) m old) (linked l (own_fat l e) last value at left) (linked l (own_fat l e) last value first n) s j
       (ap (λ (b : Bytes). b j) (mv.later (lead last value (own_fat l e)) s (omega arith))))
       ∙ ap (λ (b : Bytes). renewal (l.fat2 + s) (passed l (own_fat l e) last value first n m old s) b)
-      (next_kept l sh (passed l (own_fat l e) last value first n m old) limit s e x made so s (omega arith))
+      (next_kept l sh (passed l (own_fat l e) last value first n m old) s so s (omega arith))
 
 -- ---- FAT1 as it is on the card
 

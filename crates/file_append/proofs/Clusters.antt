@@ -153,7 +153,8 @@ module _ (l : Layout) (t : Fat) (f : File) (n : ℕ) where
   -- Cluster number x, one after the file's own.
   new_at : (j : ℕ) → j < added l f n → get_or (extended l t f n) (needed l f.size + j) 0 ≡ get_or (free_clusters l t) j 0
   new_at j less =
-      ap (λ m. get_or (extended l t f n) (m + j) 0) (sym (old_length l t f n)) ∙ get_or-append-add (clusters_of l t f) (take (added l f n) (free_clusters l t)) j 0
+      ap (λ m. get_or (extended l t f n) (m + j) 0) (sym (old_length l t f n))
+      ∙ get_or-append-add (clusters_of l t f) (take (added l f n) (free_clusters l t)) j 0
       ∙ get_or-take (added l f n) (free_clusters l t) j 0 less
 
   -- A cursor moved to cluster number x is there.

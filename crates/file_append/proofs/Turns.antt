@@ -4,19 +4,20 @@ use native.Mathlib.Nat.{div-add-mod', mod-lt, div-lt_iff_lt-mul, div-div-eq-div-
 use native.Mathlib.Omega.{arith}
 use mathlib.Core.Path.{◌≡◌, refl, sym, ap, ◌∙◌, subst}
 use mathlib.Core.List.{List, [], ◌∷◌}
-use mathlib.Core.Bool.{Bool, true, false}
 use lib.ListN.{length, get_or}
 use Rattle.model.specs.Bytes.{Bytes, Span, view}
 use Rattle.model.specs.Sector.{Card, card_of, clip, Store, store}
 use Rattle.model.specs.Chain.{cluster_sector, file_sector, needed, cluster_bytes}
-use Rattle.model.specs.Promises.{Shape, Ran, up_to}
+use Rattle.std.proofs.Common.{Result, Ok, Err}
+use Rattle.model.specs.Promises.{Shape, Spent, up_to}
+use Rattle.model.specs.declared.Stopped.{Stopped}
 use Rattle.model.specs.Fat.{fat1_of}
 use Rattle.model.specs.declared.Layout.{Layout}
 use Rattle.model.specs.declared.File.{File}
 use Rattle.model.proofs.All.{All, all_map}
 use Rattle.model.proofs.Indices.{Distinct, all_get_or}
 use Rattle.model.proofs.Cards.{Away}
-use Rattle.model.proofs.Runs.{upto_away, ran_away, turns_none, turns_more, turns_cut}
+use Rattle.model.proofs.Runs.{upto_away, spent_away, spends_none, spends_more, spends_cut}
 use Rattle.model.proofs.Chains.{one_place, in_cluster}
 use Rattle.model.proofs.Needed.{div_mono}
 use Rattle.operations.specs.Plan.{clusters_of, last_cluster, appended, append_sector, data_stores}
@@ -29,10 +30,13 @@ use Rattle.file_append.proofs.Clusters.{extended_length, extended_in, extended_d
 abbrev pub turn : Layout → Card → List ℕ → ℕ → Span → ℕ → ℕ → List Store
 turn l c ks old d a i = append_sector c (file_sector l ks (a + i)) old d (a + i) ∷ []
 
--- A buffer with the right bytes is the store.
-pub append_is : (c : Card) (s old : ℕ) (d : Span) (q : ℕ) (b : Bytes) → clip b ≡ clip (appended (c s) old d q) → store s b ≡ append_sector c s old d q
+-- A buffer with the right bytes is stored.
+pub spent_append : (c : Card) (s old : ℕ) (d : Span) (q : ℕ) (b : Bytes) → clip b ≡ clip (appended (c s) old d q)
+    → {limit left : ℕ} {e x : List ℕ} {r : Result Unit Stopped} → Spent limit left (store s b ∷ []) e x r
+    → Spent limit left (append_sector c s old d q ∷ []) e x r
 unfolding append_sector
-append_is c s old d q b h = ap (λ (f : Bytes). record { sector = s; bytes = f }) h
+spent_append c s old d q b h {limit} {left} {e} {x} {r} so =
+    subst (λ (f : Bytes). Spent limit left (record { sector = s; bytes = f } ∷ []) e x r) h so
 
 pub turns_all : (l : Layout) (c : Card) (ks : List ℕ) (old : ℕ) (d : Span) (n : ℕ) → n ≡ (old + d.size + 511) / 512 - old / 512
     → up_to (turn l c ks old d (old / 512)) n ≡ data_stores l c ks old d
@@ -53,12 +57,12 @@ turns_apart l c ks old d a k one low dis q at less = upto_away (turn l c ks old 
 store_from : (b c : Bytes) (s old : ℕ) (d : Span) (q : ℕ) → b ≡ c → store s (appended b old d q) ≡ store s (appended c old d q)
 store_from b c s old d q e = ap (λ (z : Bytes). store s (appended z old d q)) e
 
-module _ (l : Layout) (ks : List ℕ) (old : ℕ) (d : Span) (a limit k m : ℕ) (e x : List ℕ)
-    (so : Ran limit (up_to (turn l (card_of e) ks old d a) k) e x m true) where
+module _ (l : Layout) (ks : List ℕ) (old : ℕ) (d : Span) (a limit left k : ℕ) (e x : List ℕ)
+    (so : Spent limit left (up_to (turn l (card_of e) ks old d a) k) e x (Ok tt)) where
   -- Sectors before the data are as they were.
   pub front_same : (s : ℕ) → s < l.start → card_of x s ≡ card_of e s
   unfolding append_sector file_sector cluster_sector
-  front_same s less = ran_away limit (up_to (turn l (card_of e) ks old d a) k) e x m true so s
+  front_same s less = spent_away so s
       (upto_away (turn l (card_of e) ks old d a) k s (λ i h. ((λ q. omega arith), tt)))
 
   -- So is the sector of turn k: no earlier turn stored it.
@@ -67,7 +71,7 @@ module _ (l : Layout) (ks : List ℕ) (old : ℕ) (d : Span) (a limit k m : ℕ)
   unfolding append_sector
   turn_same one low dis q s at less is =
       rw (at, is) (store_from (card_of x (file_sector l ks q)) (card_of e (file_sector l ks q)) (file_sector l ks q) old d q
-      (ran_away limit (up_to (turn l (card_of e) ks old d a) k) e x m true so (file_sector l ks q)
+      (spent_away so (file_sector l ks q)
       (turns_apart l (card_of e) ks old d a k one low dis q at less)))
 
 -- The next sector is in the same cluster or the next.
@@ -104,35 +108,35 @@ abbrev pub turns : Layout → File → List ℕ → List ℕ → ℕ → List St
 turns l f e d = turn l (card_of e) (clusters l f e d) f.size (view d) (f.size / 512)
 
 -- The window has become x by the turns before sector q, and the cursor p is at the cluster of q or just before it.
-pub record Reached (l : Layout) (f : File) (e d : List ℕ) (limit : ℕ) (x : List ℕ) (p : Cursor) (q made : ℕ) : Type 0 where
+pub record Reached (l : Layout) (f : File) (e d : List ℕ) (limit left : ℕ) (x : List ℕ) (p : Cursor) (q : ℕ) : Type 0 where
   pub low : f.size / 512 ≤ q
-  pub ran : Ran limit (up_to (turns l f e d) (q - f.size / 512)) e x made true
+  pub ran : Spent limit left (up_to (turns l f e d) (q - f.size / 512)) e x (Ok tt)
   pub stands : Stands l (fat1_of l (card_of e)) f (length d) p
   pub near : q / l.factor ≤ p.passed
   pub next : p.passed ≤ q / l.factor + 1
 
-pub ran_same : (limit : ℕ) (e x : List ℕ) (m : ℕ) (w : Bool) (ss ts : List Store) → ss ≡ ts → Ran limit ss e x m w → Ran limit ts e x m w
-ran_same limit e x m w ss ts h r = subst (λ (zs : List Store). Ran limit zs e x m w) h r
+spent_same : {limit left : ℕ} {e x : List ℕ} {r : Result Unit Stopped} {ss ts : List Store} → ss ≡ ts → Spent limit left ss e x r
+    → Spent limit left ts e x r
+spent_same {limit} {left} {e} {x} {r} h so = subst (λ (zs : List Store). Spent limit left zs e x r) h so
 
 module _ (l : Layout) (f : File) (e d : List ℕ) (limit : ℕ) (sh : Shape l) (room : Room l (card_of e) f (length d)) where
   pub reached_first : (last k : ℕ) → last ≡ last_cluster (clusters_of l (fat1_of l (card_of e)) f) → k ≡ needed l f.size
-      → Reached l f e d limit e (record { cluster = last; passed = k; from = 2 }) (f.size / 512) 0
+      → Reached l f e d limit limit e (record { cluster = last; passed = k; from = 2 }) (f.size / 512)
   reached_first last k is n =
       let z : f.size / 512 - f.size / 512 ≡ 0 = omega arith in
       let b = first_cluster l sh.factor_low f.size in
       record {
         low = omega arith;
-        ran = rw z (turns_none (turns l f e d) limit e);
+        ran = rw z (spends_none (turns l f e d) limit e);
         stands = stands_first l (fat1_of l (card_of e)) f (length d) last k is n;
         near = rw n b.0;
         next = rw n b.1;
       }
 
-  module _ (x : List ℕ) (p : Cursor) (q made : ℕ) (so : Reached l f e d limit x p q made) where
+  module _ (left : ℕ) (x : List ℕ) (p : Cursor) (q : ℕ) (so : Reached l f e d limit left x p q) where
     -- All turns are made.
-    pub reached_all : q ≡ (f.size + length d + 511) / 512 → Ran limit (append_data l (card_of e) f (view d)) e x made true
-    reached_all end = ran_same limit e x made true (up_to (turns l f e d) (q - f.size / 512)) (append_data l (card_of e) f (view d))
-        (turns_all l (card_of e) (clusters l f e d) f.size (view d) (q - f.size / 512) (omega arith)) so.ran
+    pub reached_all : q ≡ (f.size + length d + 511) / 512 → Spent limit left (append_data l (card_of e) f (view d)) e x (Ok tt)
+    reached_all end = spent_same (turns_all l (card_of e) (clusters l f e d) f.size (view d) (q - f.size / 512) (omega arith)) so.ran
 
     module _ (less : q < (f.size + length d + 511) / 512) where
       within : q / l.factor < needed l (f.size + length d)
@@ -146,7 +150,7 @@ module _ (l : Layout) (f : File) (e d : List ℕ) (limit : ℕ) (sh : Shape l) (
         pub there : There l (fat1_of l (card_of e)) f (length d) (q / l.factor) r
         there = subst (λ (z : Cursor). There l (fat1_of l (card_of e)) f (length d) (q / l.factor) z)
             (sym (is ∙ moved_same l (card_of x) (card_of e) sh
-            (front_same l (clusters l f e d) f.size (view d) (f.size / 512) limit (q - f.size / 512) made e x so.ran) p (q / l.factor)
+            (front_same l (clusters l f e d) f.size (view d) (f.size / 512) limit left (q - f.size / 512) e x so.ran) p (q / l.factor)
             so.stands.high))
             (arrives l (fat1_of l (card_of e)) f (length d) sh.factor_low room.enough p so.stands (q / l.factor) within so.near so.next)
 
@@ -157,7 +161,8 @@ module _ (l : Layout) (f : File) (e d : List ℕ) (limit : ℕ) (sh : Shape l) (
             (extended_in l (fat1_of l (card_of e)) f (length d) sh room.chain) (q / l.factor) among in
             (rw there.is a.0, rw there.is a.1)
 
-        module _ (s : ℕ) (at : s ≡ cluster_sector l r.cluster + q % l.factor) (y : List ℕ) (n : ℕ) where
+        module _ (s : ℕ) (at : s ≡ cluster_sector l r.cluster + q % l.factor) (y : List ℕ) (n : ℕ) (t : Result Unit Stopped)
+            (turn : Spent left n (append_sector (card_of x) s f.size (view d) q ∷ []) x y t) where
           found : append_sector (card_of x) s f.size (view d) q ∷ [] ≡ turns l f e d (q - f.size / 512)
           found =
               let low : f.size / 512 ≤ q = so.low in
@@ -165,33 +170,28 @@ module _ (l : Layout) (f : File) (e d : List ℕ) (limit : ℕ) (sh : Shape l) (
               all_map (λ k. (2 ≤ k) × (k < 2 + l.clusters)) (λ k. 2 ≤ k) (λ k h. h.0) (clusters l f e d)
               (extended_in l (fat1_of l (card_of e)) f (length d) sh room.chain) in
               ap (λ (z : Store). z ∷ [])
-              (turn_same l (clusters l f e d) f.size (view d) (f.size / 512) limit (q - f.size / 512) made e x so.ran sh.factor_low two
+              (turn_same l (clusters l f e d) f.size (view d) (f.size / 512) limit left (q - f.size / 512) e x so.ran sh.factor_low two
               (extended_distinct l (fat1_of l (card_of e)) f (length d) sh room.chain) q s (omega arith) among
               (placed l (clusters l f e d) q s r.cluster at there.is))
 
           -- A turn that ran whole,
-          pub reached_more : Ran (limit - made) (append_sector (card_of x) s f.size (view d) q ∷ []) x y n true
-              → Reached l f e d limit y r (q + 1) (made + n)
-          reached_more t =
+          pub reached_more : {u : Unit} → t ≡ Ok u → Reached l f e d limit n y r (q + 1)
+          reached_more g =
               let low : f.size / 512 ≤ q = so.low in
               let z : q + 1 - f.size / 512 ≡ q - f.size / 512 + 1 = omega arith in
               let count : r.passed ≡ q / l.factor + 1 = there.count in
               record {
                 low = omega arith;
-                ran = rw z (turns_more (turns l f e d) limit (q - f.size / 512) e x y made n so.ran
-                    (ran_same (limit - made) x y n true (append_sector (card_of x) s f.size (view d) q ∷ []) (turns l f e d (q - f.size / 512)) found t));
+                ran = rw z (spends_more (turns l f e d) so.ran (spent_same found turn) g);
                 stands = there.stands;
                 near = omega (arith, next_cluster q l.factor sh.factor_low);
                 next = omega (arith, div_mono l.factor q (q + 1) sh.factor_low (omega arith));
               }
 
           -- and one that the limit cut short.
-          pub reached_cut : Ran (limit - made) (append_sector (card_of x) s f.size (view d) q ∷ []) x y n false
-              → Ran limit (append_data l (card_of e) f (view d)) e y (made + n) false
-          reached_cut t =
+          pub reached_cut : {z : Stopped} → t ≡ Err z → Spent limit n (append_data l (card_of e) f (view d)) e y (Err z)
+          reached_cut g =
               let m : ℕ = (f.size + length d + 511) / 512 - f.size / 512 in
               let low : f.size / 512 ≤ q = so.low in
-              ran_same limit e y (made + n) false (up_to (turns l f e d) m) (append_data l (card_of e) f (view d))
-              (turns_all l (card_of e) (clusters l f e d) f.size (view d) m refl)
-              (turns_cut (turns l f e d) limit (q - f.size / 512) e x y made n so.ran m (omega arith)
-              (ran_same (limit - made) x y n false (append_sector (card_of x) s f.size (view d) q ∷ []) (turns l f e d (q - f.size / 512)) found t))
+              spent_same (turns_all l (card_of e) (clusters l f e d) f.size (view d) m refl)
+              (spends_cut (turns l f e d) so.ran (spent_same found turn) g m (omega arith))

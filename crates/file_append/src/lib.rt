@@ -1,15 +1,15 @@
 // An append's first step: the data sectors that get new bytes; how many clusters an append takes, and the first of them.
 #![tactic(auto)]
 
-ghost use Rattle.std.specs.Prelude.{◌≡◌, true, [], ◌∷◌, ℕ, ◌+◌, ◌-◌, ◌*◌, ◌/◌, ◌≤◌, ◌<◌, min, length, get_or};
-ghost use Rattle.model.specs.Bytes.{bytes_of, overlay, part, view, zeros};
+ghost use Rattle.std.specs.Prelude.{◌≡◌, true, [], ◌∷◌, ◌+◌, ◌-◌, ◌*◌, ◌/◌, ◌≤◌, ◌<◌, min, length};
+ghost use Rattle.model.specs.Bytes.{bytes_of, view};
 ghost use Rattle.model.specs.Sector.{card_of, clip};
 ghost use Rattle.model.specs.Fat.{fat1_of, free_clusters};
-ghost use Rattle.model.specs.Promises.{Fits, Held, Ran};
+ghost use Rattle.model.specs.Promises.{Fits, Held, Spent};
 ghost use Rattle.operations.specs.Plan.{clusters_of, last_cluster, appended, append_sector, added};
 ghost use Rattle.file_append.specs.Extents.{append_data, Room, first_new, moved};
 
-use model::{File, Layout, Progress};
+use model::{File, Layout, Stopped};
 
 // Where an append stands: the cluster reached, how many of the file's clusters are passed, that one among them, and where
 // the search for the next free one begins.
@@ -25,8 +25,8 @@ pub fn added_clusters(l: Layout, f: File, n: usize) -> u64
     requires { Fits l }
     ensures { result ≡ added l f n }
 {
-    let bytes = 512 * sector::index(l.factor);
-    let spare = sector::index(fat_chain::clusters_for(l, f.size)) * bytes - sector::index(f.size);
+    let bytes = 512 * l.factor as usize;
+    let spare = fat_chain::clusters_for(l, f.size) as usize * bytes - f.size as usize;
     if n <= spare {
         return 0;
     }
@@ -48,13 +48,7 @@ pub fn first_new(w: &[u8], l: Layout, n: u32) -> u32
 fn below(n: usize, at: usize) -> usize
     ensures { result ≡ min 512 (n - at) }
 {
-    if n <= at {
-        return 0;
-    }
-    if n - at < 512 {
-        return n - at;
-    }
-    512
+    n.saturating_sub(at).min(512)
 }
 
 // How many sectors n bytes take.
@@ -62,30 +56,21 @@ fn sectors_for(n: usize) -> u32
     requires { n < 4294967296 }
     ensures { result ≡ (n + 511) / 512 }
 {
-    ((n + 511) / 512) as u32
+    n.div_ceil(512) as u32
 }
 
-// The first a bytes of sector s, then n of the new bytes, then zeros.
-fn lay(w: &[u8], s: u32, a: usize, new: &[u8], from: usize, n: usize) -> [u8; 512]
-    requires { (512 * s + 512 ≤ length w.now) × (a + n ≤ 512) × (from + n ≤ length new.now) }
-    ensures { (i : ℕ) → i < 512 → get_or result i 0 ≡ overlay n (part (bytes_of new.now) from) a (overlay a (card_of w.now s) 0 zeros) i }
-{
-    let mut buf = [0u8; 512];
-    sector::copy(&mut buf, 0, w, 512 * sector::index(s), a);
-    sector::copy(&mut buf, a, new, from, n);
-    buf
-}
-
-// Sector q of a file of `size` bytes, which is sector s of the card, once the new bytes are appended.
-fn build(w: &[u8], s: u32, size: u32, new: &[u8], q: u32) -> [u8; 512]
+// Sector q of a file of `size` bytes, which is sector s of the card, once the new bytes are appended: old bytes, new ones, zeros.
+fn build(buf: &mut [u8; 512], w: &[u8], s: u32, size: u32, new: &[u8], q: u32)
     requires { (512 * s + 512 ≤ length w.now) × (size < 512 * q + 512) × (512 * q < size + length new.now) × (size + length new.now < 4294967296) }
-    ensures { clip (bytes_of result) ≡ clip (appended (card_of w.now s) size (view new.now) q) }
+    ensures { clip (bytes_of buf.new) ≡ clip (appended (card_of w.now s) size (view new.now) q) }
 {
-    let at = 512 * sector::index(q);
-    let old = sector::index(size);
+    let at = 512 * q as usize;
+    let old = size as usize;
     let a = below(old, at);
     let b = below(old + new.len(), at);
-    lay(w, s, a, new, at + a - old, b - a)
+    buf[..a].copy_from_slice(&sector::bytes(w, s)[..a]);
+    buf[a..b].copy_from_slice(&new[at + a - old..at + b - old]);
+    buf[b..].fill(0);
 }
 
 // Whether sector q of a file of `size` bytes is filled by n bytes appended, all 512 of its bytes being new.
@@ -93,24 +78,29 @@ fn is_filled(size: u32, n: usize, q: u32) -> bool
     requires { size + n < 4294967296 }
     ensures { result ≡ true → (size ≤ 512 * q) × (512 * q + 512 ≤ size + n) }
 {
-    let at = 512 * sector::index(q);
-    let old = sector::index(size);
-    if at < old {
-        return false;
-    }
-    at + 512 <= old + n
+    let at = 512 * q as usize;
+    let old = size as usize;
+    old <= at && at + 512 <= old + n
 }
 
 // Stores that sector, if the limit allows a store: one that is filled straight from the new bytes.
-fn append_sector(w: &mut [u8], s: u32, size: u32, new: &[u8], q: u32, limit: u32) -> Progress
+fn append_sector(
+    w: &mut [u8],
+    s: u32,
+    size: u32,
+    new: &[u8],
+    q: u32,
+    limit: &mut u32,
+) -> Result<(), Stopped>
     requires { (512 * s + 512 ≤ length w.old) × (size < 512 * q + 512) × (512 * q < size + length new.now) × (size + length new.now < 4294967296) }
-    ensures { Ran limit (append_sector (card_of w.old) s size (view new.now) q ∷ []) w.old w.new result.made result.whole }
+    ensures { Spent limit.old limit.new (append_sector (card_of w.old) s size (view new.now) q ∷ []) w.old w.new result }
 {
     if is_filled(size, new.len(), q) {
-        let from = 512 * sector::index(q) - sector::index(size);
-        return sector::store_from(w, s, &new[from..from + 512], limit);
+        let from = 512 * q as usize - size as usize;
+        return sector::store_sector(w, s, &new[from..from + 512], limit);
     }
-    let buf = build(w, s, size, new, q);
+    let mut buf = [0u8; 512];
+    build(&mut buf, w, s, size, new, q);
     sector::store_sector(w, s, &buf, limit)
 }
 
@@ -122,37 +112,36 @@ fn advance(w: &[u8], l: Layout, p: Cursor, x: u32) -> Cursor
     if x < p.passed {
         return p;
     }
-    let k = fat_read::find_entry(w, l.fat1, p.from, l.clusters + 2 - p.from, 0);
+    let cluster = fat_chain::next_free(w, l, p.from);
     Cursor {
-        cluster: k,
+        cluster,
         passed: p.passed + 1,
-        from: k + 1,
+        from: cluster + 1,
     }
 }
 
 // The data sectors that get new bytes, by rising file offset. The file's last cluster is given; the new ones are sought
 // once each, on the way.
-pub fn append_data(w: &mut [u8], l: Layout, f: File, last: u32, new: &[u8], limit: u32) -> Progress
+pub fn append_data(
+    w: &mut [u8],
+    l: Layout,
+    f: File,
+    last: u32,
+    new: &[u8],
+    limit: &mut u32,
+) -> Result<(), Stopped>
     requires { Held l w.old × Room l (card_of w.old) f (length new.now) × (last ≡ last_cluster (clusters_of l (fat1_of l (card_of w.old)) f)) }
-    ensures { Ran limit (append_data l (card_of w.old) f (view new.now)) w.old w.new result.made result.whole }
+    ensures { Spent limit.old limit.new (append_data l (card_of w.old) f (view new.now)) w.old w.new result }
 {
-    let end = sectors_for(sector::index(f.size) + new.len());
     let mut p = Cursor {
         cluster: last,
         passed: fat_chain::clusters_for(l, f.size),
         from: 2,
     };
-    let mut q = f.size / 512;
-    let mut made = 0;
-    while q < end {
+    for q in f.size / 512..sectors_for(f.size as usize + new.len()) {
         p = advance(w, l, p, q / l.factor);
         let s = file_read::sector_in(l, p.cluster, q);
-        let t = append_sector(w, s, f.size, new, q, limit - made);
-        made += t.made;
-        if !t.whole {
-            return Progress { made, whole: false };
-        }
-        q += 1;
+        append_sector(w, s, f.size, new, q, limit)?;
     }
-    Progress { made, whole: true }
+    Ok(())
 }

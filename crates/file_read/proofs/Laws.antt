@@ -19,7 +19,7 @@ use Rattle.model.proofs.Laying.{overlay_same, overlay_next}
 use Rattle.model.proofs.Sectors.{byte_in}
 use Rattle.model.proofs.Chains.{Used, chain_used, in_cluster}
 use Rattle.model.proofs.Walks.{chain_length}
-use Rattle.model.proofs.Needed.{needed_none, needed_some}
+use Rattle.model.proofs.Needed.{needed_none, needed_some, div_mono}
 use Rattle.operations.specs.Plan.{clusters_of, last_cluster}
 use Rattle.operations.specs.Reading.{file_byte, reading}
 use Rattle.fat_chain.specs.Links.{links, Adjacent}
@@ -81,16 +81,16 @@ sector_bytes xs s from m =
     let z : 512 * s + from + m ≡ 512 * (s + (from + m) / 512) + (from + m) % 512 = omega arith in
     ap (λ (i : ℕ). get_or xs i 0) z ∙ sym (byte_in xs (s + (from + m) / 512) ((from + m) % 512) (omega arith))
 
-pub read_sectors_is : (w : List ℕ) (s size from done count : ℕ) (e x : List ℕ) (n to start m r : ℕ) → n ≡ min (size - from) (count - done)
-    → to ≡ done → start ≡ 512 * s + from → m ≡ n → r ≡ done + n → ((i : ℕ) → get_or x i 0 ≡ overlay m (part (bytes_of w) start) to (bytes_of e) i)
-    → Read (bytes_from (card_of w) s) size from done count e x r
-read_sectors_is w s size from done count e x n to start m r is t f k end h =
-    let z : m ≡ r - done = omega arith in
+pub read_sectors_is : (w : List ℕ) (s size from done count : ℕ) (e x : List ℕ) (n : ℕ) → n ≡ min (size - from) (count - done)
+    → ((i : ℕ) → get_or x i 0 ≡ overlay n (part (bytes_of w) (512 * s + from)) done (bytes_of e) i)
+    → Read (bytes_from (card_of w) s) size from done count e x (done + n)
+read_sectors_is w s size from done count e x n is h =
+    let z : n ≡ done + n - done = omega arith in
     let b : Bytes = part (bytes_from (card_of w) s) from in
     record {
-      reached = end ∙ ap (λ n. done + n) is;
-      bytes = λ i. h i ∙ overlay_same m (part (bytes_of w) start) b to (bytes_of e) (λ j less. rw f (sector_bytes w s from j)) i
-          ∙ ap (λ n. overlay n b to (bytes_of e) i) z ∙ ap (λ a. overlay (r - done) b a (bytes_of e) i) t;
+      reached = ap (λ n. done + n) is;
+      bytes = λ i. h i ∙ overlay_same n (part (bytes_of w) (512 * s + from)) b done (bytes_of e) (λ j less. sector_bytes w s from j) i
+          ∙ ap (λ n. overlay n b done (bytes_of e) i) z;
     }
 
 -- ---- the bytes of a file
@@ -224,3 +224,8 @@ module _ (l : Layout) (c : Card) (f : File) (offset room : ℕ) (e : List ℕ) w
         bytes = λ j. sym (overlay_none (part (file_byte l c f) offset) 0 (bytes_of e) j)
             ∙ ap (λ n. overlay n (part (file_byte l c f) offset) 0 (bytes_of e) j) z;
       }
+
+-- What attributes of the code name.
+pub ruleset last_laws = (last_none, last_is, link_inside, links_none, needed_some)
+
+pub ruleset within_laws = (links_on, link_inside, links_none, in_needed, div_mono)

@@ -5,8 +5,7 @@ use Rattle.model.specs.Scan.{range}
 use Rattle.model.specs.Sector.{Card, Window, Store, store}
 use Rattle.model.specs.Boot.{arrange}
 use Rattle.model.specs.declared.Ground.TheVariants as Ground
-use Rattle.model.specs.declared.Outcome.{Outcome}
-use Rattle.model.specs.declared.Outcome.TheVariants.{Refused, Done, Stopped}
+use Rattle.model.specs.Outcome.{Outcome, Refused, Done, Stopped}
 use Rattle.operations.specs.Program.{stores}
 use Rattle.operations.specs.Outcome.{outcome, largest, outcome_number}
 use Rattle.formatting.specs.Fresh.{fewest, fresh_fields, fresh_boot}

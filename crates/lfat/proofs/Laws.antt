@@ -6,7 +6,7 @@ use lib.ListN.{get_or}
 use Rattle.model.specs.Bytes.{bytes_of}
 use Rattle.model.specs.Sector.{card_of, after}
 use Rattle.model.specs.Ground.{Answer}
-use Rattle.model.specs.declared.Outcome.{Outcome}
+use Rattle.model.specs.Outcome.{Outcome}
 use Rattle.operations.specs.Program.{Program}
 use Rattle.operations.specs.Outcome.{outcome, made, outcome_number}
 use Rattle.operations.specs.Reading.{Filled, buffer_after, filled_outcome}

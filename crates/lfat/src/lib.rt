@@ -4,7 +4,7 @@
 ghost use Rattle.std.specs.Prelude.{◌≡◌, length};
 ghost use Rattle.model.specs.Bytes.{view};
 ghost use Rattle.model.specs.Sector.{window_of};
-ghost use Rattle.model.specs.Ground.{ground_number};
+ghost use Rattle.model.specs.Outcome.{outcome_of};
 ghost use Rattle.operations.specs.Outcome.{outcome_number};
 ghost use Rattle.operations.specs.Reading.{read, list, long_name};
 ghost use Rattle.operations.specs.Fitting.{fits, fit_outcome};
@@ -12,43 +12,17 @@ ghost use Rattle.operations.specs.Calls.{create, create_long, append, replace, t
 ghost use Rattle.operations.specs.Promises.{Called, Answered};
 ghost use Rattle.formatting.specs.Format.{format};
 
-use model::{Ground, Outcome};
+use model::{Ended, Ground};
 
-fn ground_number(g: Ground) -> u32
-    ensures { result ≡ ground_number g }
-{
-    match g {
-        Ground::Short => 1,
-        Ground::Boot => 2,
-        Ground::Window => 3,
-        Ground::Logarea => 4,
-        Ground::Root => 5,
-        Ground::Record => 6,
-        Ground::Unclean => 7,
-        Ground::Name => 8,
-        Ground::Absent => 9,
-        Ground::Directory => 10,
-        Ground::Exists => 11,
-        Ground::Rootfull => 12,
-        Ground::Chain => 13,
-        Ground::Length => 14,
-        Ground::Nospace => 15,
-        Ground::Locked => 16,
-        Ground::Longname => 17,
-        Ground::Clock => 18,
-        Ground::Size => 19,
-    }
-}
-
-// An outcome as code * 2^32 + count.
-fn number_of(r: Outcome) -> u64
-    ensures { result ≡ outcome_number r }
+// How a call has ended as code * 2^32 + count.
+fn number_of(r: Result<Ended, Ground>) -> u64
+    ensures { result ≡ outcome_number (outcome_of r) }
 {
     match r {
-        Outcome::Refused(g) => sector::wider(ground_number(g)) * 4294967296,
-        Outcome::Done(n) => sector::wider(n),
-        Outcome::No => 1090921693184,
-        Outcome::Stopped(n) => 1095216660480 + sector::wider(n),
+        Err(ground) => u64::from(ground as u32) << 32,
+        Ok(Ended::Done(n)) => u64::from(n),
+        Ok(Ended::No) => 254 << 32,
+        Ok(Ended::Stopped(n)) => (255 << 32) + u64::from(n),
     }
 }
 

@@ -4,8 +4,10 @@
 ghost use Rattle.std.specs.Prelude.{◌≡◌, ◌+◌, ◌*◌, ◌/◌, ◌≤◌, ◌<◌, length};
 ghost use Rattle.model.specs.Bytes.{view, bytes_of};
 ghost use Rattle.model.specs.Listing.{is_table};
-ghost use Rattle.listing_text.specs.Wrote.{Wrote};
+ghost use Rattle.listing_text.specs.Wrote.{Put};
 ghost use Rattle.listing.specs.Pieces.{heading, record_text, pieces, piece, Filled};
+
+use listing_text::Text;
 
 // How many bytes of text were written, and the piece that is next.
 #[derive(Clone, Copy)]
@@ -14,60 +16,60 @@ pub struct Part {
     pub next: u32,
 }
 
+#[tactic(auto, unfolding(model::specs::Listing::is_table, model::specs::Scan::every))]
 fn is_table(table: &[u8]) -> bool
     ensures { result ≡ is_table (view table.now) }
 {
-    if table.len() < 1 {
-        return false;
-    }
-    if 65536 < table.len() {
-        return false;
-    }
-    table.len() % 512 == 0
+    1 <= table.len() && table.len() <= 65536 && table.len() % 512 == 0
 }
 
 // How many pieces the text has.
+#[tactic(auto, using(crate::proofs::Whole::table_short), unfolding(crate::specs::Pieces::pieces))]
 pub fn pieces(table: &[u8]) -> u32
     ensures { result ≡ pieces (view table.now) }
 {
     if is_table(table) {
-        return (table.len() / 32) as u32 + 1;
+        (table.len() / 32) as u32 + 1
+    } else {
+        1
     }
-    1
 }
 
-fn put_heading(out: &mut [u8], at: usize, table: &[u8]) -> usize
-    requires { at + 119 ≤ length out.old }
-    ensures { Wrote (heading (view table.now)) out.old out.new at result × (result ≤ at + 119) }
+#[tactic(auto, using(crate::proofs::Whole::table_short), unfolding(crate::specs::Pieces::heading, model::specs::Text::line, model::specs::Text::ascii))]
+fn put_heading(text: &mut Text<'_>, table: &[u8])
+    requires { text.old.end + 119 ≤ length text.old.out.now }
+    ensures { Put (heading (view table.now)) text.old text.new × (text.new.end ≤ text.old.end + 119) }
 {
     if is_table(table) {
-        let sectors = (table.len() / 512) as u32;
-        let end = listing_text::put_field(out, at, b"log ", sectors);
-        return listing_text::put_text(out, end, b" sectors\n");
+        text.field(b"log ", (table.len() / 512) as u32);
+        text.text(b" sectors\n");
+    } else {
+        text.text(b"not a log\n");
     }
-    listing_text::put_text(out, at, b"not a log\n")
 }
 
 // The line of record k, if it has one.
-fn put_line(out: &mut [u8], at: usize, table: &[u8], k: u32) -> usize
-    requires { (512 * (k / 16) + 512 ≤ length table.now) × (at + 119 ≤ length out.old) }
-    ensures { Wrote (record_text (bytes_of table.now) k) out.old out.new at result × (result ≤ at + 119) }
+#[tactic(auto, using(crate::proofs::Whole::line_told, listing_text::proofs::Buffer::put_none), unfolding(crate::specs::Pieces::record_text))]
+fn put_line(text: &mut Text<'_>, table: &[u8], k: u32)
+    requires { (512 * (k / 16) + 512 ≤ length table.now) × (text.old.end + 119 ≤ length text.old.out.now) }
+    ensures { Put (record_text (bytes_of table.now) k) text.old text.new × (text.new.end ≤ text.old.end + 119) }
 {
-    if !log_record::tells(table, k / 16, k % 16) {
-        return at;
+    if log_record::tells(table, k / 16, k % 16) {
+        listing_line::put_record(text, table, k);
     }
-    listing_line::put_record(out, at, table, k)
 }
 
 // Piece i of the text. None has more than 119 bytes.
-fn put_piece(out: &mut [u8], at: usize, table: &[u8], i: u32) -> usize
-    requires { (i < pieces (view table.now)) × (at + 119 ≤ length out.old) }
-    ensures { Wrote (piece (view table.now) i) out.old out.new at result × (result ≤ at + 119) }
+#[tactic(auto, using(crate::proofs::Whole::piece_record, crate::proofs::Whole::record_within), unfolding(crate::specs::Pieces::piece))]
+fn put_piece(text: &mut Text<'_>, table: &[u8], i: u32)
+    requires { (i < pieces (view table.now)) × (text.old.end + 119 ≤ length text.old.out.now) }
+    ensures { Put (piece (view table.now) i) text.old text.new × (text.new.end ≤ text.old.end + 119) }
 {
     if i == 0 {
-        return put_heading(out, at, table);
+        put_heading(text, table);
+    } else {
+        put_line(text, table, i - 1);
     }
-    put_line(out, at, table, i - 1)
 }
 
 // The pieces from `from` on, as long as the buffer has room for the longest.
@@ -76,14 +78,18 @@ pub fn fill(out: &mut [u8], table: &[u8], from: u32) -> Part
     ensures { Filled (view table.now) from out.old out.new result.count result.next }
 {
     let n = pieces(table);
-    let mut at = 0;
-    let mut i = from;
-    while i < n {
-        if out.len() - at < 119 {
-            return Part { count: at, next: i };
+    let mut text = Text { out, end: 0 };
+    for i in from..n {
+        if text.out.len() - text.end < 119 {
+            return Part {
+                count: text.end,
+                next: i,
+            };
         }
-        at = put_piece(out, at, table, i);
-        i += 1;
+        put_piece(&mut text, table, i);
     }
-    Part { count: at, next: i }
+    Part {
+        count: text.end,
+        next: n,
+    }
 }

@@ -4,8 +4,10 @@
 ghost use Rattle.std.specs.Prelude.{◌≡◌, ◌+◌, ◌*◌, ◌/◌, ◌%◌, ◌≤◌, length};
 ghost use Rattle.model.specs.Bytes.{bytes_of, part};
 ghost use Rattle.model.specs.Listing.{record_line};
-ghost use Rattle.listing_text.specs.Wrote.{Wrote};
+ghost use Rattle.listing_text.specs.Wrote.{Put};
 ghost use Rattle.listing_line.specs.Words.{place_text, operation_text, state_text, head_text, numbers, slot_text, size_text};
+
+use listing_text::Text;
 
 // The numbers of a record that its line ends with.
 #[derive(Clone, Copy)]
@@ -17,98 +19,95 @@ pub struct Numbers {
 }
 
 // The record's sector, and its number there.
-fn put_place(out: &mut [u8], at: usize, s: u32, r: u32) -> usize
-    requires { at + 21 ≤ length out.old }
-    ensures { Wrote (place_text s r) out.old out.new at result × (result ≤ at + 21) }
+#[tactic(auto, using(listing_text::proofs::Buffer::put_then), unfolding(crate::specs::Words::place_text))]
+fn put_place(line: &mut Text<'_>, s: u32, r: u32)
+    requires { line.old.end + 21 ≤ length line.old.out.now }
+    ensures { Put (place_text s r) line.old line.new × (line.new.end ≤ line.old.end + 21) }
 {
-    let space = listing_text::put_field(out, at, b"", s);
-    listing_text::put_field(out, space, b" ", r)
+    line.field(b"", s);
+    line.field(b" ", r);
 }
 
-fn put_operation(out: &mut [u8], at: usize, number: u32) -> usize
-    requires { at + 9 ≤ length out.old }
-    ensures { Wrote (operation_text number) out.old out.new at result × (result ≤ at + 9) }
+// The word of an operation.
+fn operation_word(number: u32) -> &'static [u8]
+    ensures { (result.now ≡ operation_text number) × (length result.now ≤ 9) }
 {
     match number {
-        0 => listing_text::put_text(out, at, b" part"),
-        1 => listing_text::put_text(out, at, b" create"),
-        2 => listing_text::put_text(out, at, b" update"),
-        3 => listing_text::put_text(out, at, b" delete"),
-        4 => listing_text::put_text(out, at, b" truncate"),
-        5 => listing_text::put_text(out, at, b" rename"),
-        6 => listing_text::put_text(out, at, b" replace"),
-        _ => listing_text::put_text(out, at, b" unknown"),
+        0 => b" part",
+        1 => b" create",
+        2 => b" update",
+        3 => b" delete",
+        4 => b" truncate",
+        5 => b" rename",
+        6 => b" replace",
+        _ => b" unknown",
     }
 }
 
 // What the record's first byte says of its state.
-fn put_state(out: &mut [u8], at: usize, b: u32) -> usize
-    requires { at + 11 ≤ length out.old }
-    ensures { Wrote (state_text b) out.old out.new at result × (result ≤ at + 11) }
+fn state_word(b: u32) -> &'static [u8]
+    ensures { (result.now ≡ state_text b) × (length result.now ≤ 11) }
 {
     if b == 0xE5 {
-        return listing_text::put_text(out, at, b" committed ");
+        b" committed "
+    } else {
+        b" pending "
     }
-    listing_text::put_text(out, at, b" pending ")
 }
 
 // What stands before the name of record k of a table.
-fn put_head(out: &mut [u8], at: usize, table: &[u8], k: u32) -> usize
-    requires { (32 * k + 32 ≤ length table.now) × (at + 41 ≤ length out.old) }
-    ensures { Wrote (head_text (k / 16) (k % 16) (part (bytes_of table.now) (32 * k))) out.old out.new at result
-        × (result ≤ at + 41) }
+#[tactic(auto, using(listing_text::proofs::Buffer::put_then, crate::proofs::Laws::record_byte), unfolding(crate::specs::Words::head_text))]
+fn put_head(line: &mut Text<'_>, table: &[u8], k: u32)
+    requires { (32 * k + 32 ≤ length table.now) × (line.old.end + 41 ≤ length line.old.out.now) }
+    ensures { Put (head_text (k / 16) (k % 16) (part (bytes_of table.now) (32 * k))) line.old line.new × (line.new.end ≤ line.old.end + 41) }
 {
     let number = sector::byte(table, k / 16, 32 * (k % 16) + 13);
     let state = sector::byte(table, k / 16, 32 * (k % 16));
-    let a = put_place(out, at, k / 16, k % 16);
-    let b = put_operation(out, a, number);
-    put_state(out, b, state)
+    put_place(line, k / 16, k % 16);
+    line.text(operation_word(number));
+    line.text(state_word(state));
 }
 
+#[tactic(auto, using(crate::proofs::Laws::record_number), unfolding(crate::specs::Words::numbers))]
 fn numbers_of(table: &[u8], k: u32) -> Numbers
     requires { 32 * k + 32 ≤ length table.now }
     ensures { result ≡ numbers (part (bytes_of table.now) (32 * k)) }
 {
     let s = k / 16;
     let j = 32 * (k % 16);
-    let slot = sector::le16(table, s, j + 18);
-    let high = sector::le16(table, s, j + 20);
-    let from = sector::le32(table, s, j + 22);
-    let low = sector::le16(table, s, j + 26);
-    let size = sector::le32(table, s, j + 28);
     Numbers {
-        slot,
-        first: 65536 * high + low,
-        from,
-        size,
+        slot: sector::le::<2>(table, s, j + 18),
+        first: 65536 * sector::le::<2>(table, s, j + 20) + sector::le::<2>(table, s, j + 26),
+        from: sector::le::<4>(table, s, j + 22),
+        size: sector::le::<4>(table, s, j + 28),
     }
 }
 
-fn put_slot(out: &mut [u8], at: usize, n: Numbers) -> usize
-    requires { at + 33 ≤ length out.old }
-    ensures { Wrote (slot_text n) out.old out.new at result × (result ≤ at + 33) }
+fn put_slot(line: &mut Text<'_>, n: Numbers)
+    requires { line.old.end + 33 ≤ length line.old.out.now }
+    ensures { Put (slot_text n) line.old line.new × (line.new.end ≤ line.old.end + 33) }
 {
-    let first = listing_text::put_field(out, at, b" slot ", n.slot);
-    listing_text::put_field(out, first, b" first ", n.first)
+    line.field(b" slot ", n.slot);
+    line.field(b" first ", n.first);
 }
 
-fn put_size(out: &mut [u8], at: usize, n: Numbers) -> usize
-    requires { at + 33 ≤ length out.old }
-    ensures { Wrote (size_text n) out.old out.new at result × (result ≤ at + 33) }
+fn put_size(line: &mut Text<'_>, n: Numbers)
+    requires { line.old.end + 33 ≤ length line.old.out.now }
+    ensures { Put (size_text n) line.old line.new × (line.new.end ≤ line.old.end + 33) }
 {
-    let size = listing_text::put_field(out, at, b" from ", n.from);
-    let end = listing_text::put_field(out, size, b" size ", n.size);
-    listing_text::put_byte(out, end, b'\n')
+    line.field(b" from ", n.from);
+    line.field(b" size ", n.size);
+    line.byte(b'\n');
 }
 
 // The line of record k of a table.
-pub fn put_record(out: &mut [u8], at: usize, table: &[u8], k: u32) -> usize
-    requires { (32 * k + 32 ≤ length table.now) × (at + 119 ≤ length out.old) }
-    ensures { Wrote (record_line (k / 16) (k % 16) (part (bytes_of table.now) (32 * k))) out.old out.new at result × (result ≤ at + 119) }
+pub fn put_record(line: &mut Text<'_>, table: &[u8], k: u32)
+    requires { (32 * k + 32 ≤ length table.now) × (line.old.end + 119 ≤ length line.old.out.now) }
+    ensures { Put (record_line (k / 16) (k % 16) (part (bytes_of table.now) (32 * k))) line.old line.new × (line.new.end ≤ line.old.end + 119) }
 {
     let n = numbers_of(table, k);
-    let a = put_head(out, at, table, k);
-    let b = listing_text::put_name(out, a, table, 32 * sector::index(k));
-    let c = put_slot(out, b, n);
-    put_size(out, c, n)
+    put_head(line, table, k);
+    line.name(table, 32 * k as usize);
+    put_slot(line, n);
+    put_size(line, n);
 }

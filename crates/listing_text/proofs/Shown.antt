@@ -5,16 +5,15 @@ use native.Mathlib.Nat.{zero-add}
 use mathlib.Core.Path.{◌≡◌, refl, sym, ap, ◌∙◌, fun_ext}
 use mathlib.Core.Logic.{⊎_elim}
 use mathlib.Core.Bool.{true, false}
-use mathlib.Core.List.{List, [], ◌∷◌, ◌++◌, map, append-nil, append_assoc}
-use lib.ListN.{length, get_or}
+use mathlib.Core.List.{List, [], ◌∷◌, ◌++◌, map, append-nil, append_assoc, map-append}
+use lib.ListN.{length}
 use lib.Dec.{eqb}
-use Rattle.model.specs.Bytes.{Bytes, bytes_of, part, overlay}
+use Rattle.model.specs.Bytes.{Bytes, part}
 use Rattle.model.specs.Scan.{walk, indices_from, all_from, range}
 use Rattle.model.specs.Listing.{shown_byte, trimmed, dotted, shown_name}
-use Rattle.model.proofs.Tests.{less?, same?}
-use Rattle.model.proofs.Scan.{first_is, first_none, all_of, all_not}
-use Rattle.model.proofs.Overlays.{overlay_in, overlay_below, overlay_above}
-use Rattle.listing_text.specs.Wrote.{Wrote, trimmed_length, shown}
+use Rattle.model.proofs.Tests.{less?}
+use Rattle.model.proofs.Scan.{first_is, first_none, all_of, all_not, indices_step}
+use Rattle.listing_text.specs.Wrote.{trimmed_length, shown}
 
 range_suc : (i n : ℕ) → range i (suc n) ≡ i ∷ range (i + 1) n
 unfolding indices_from walk
@@ -29,47 +28,19 @@ module _ (f : ℕ → ℕ) where
   image_length i zero = rw (range_zero i)
   image_length i (suc n) = rw (range_suc i n) (ap suc (image_length (i + 1) n))
 
-  image_at : (i n k : ℕ) → k < n → get_or (map f (range i n)) k 0 ≡ f (i + k)
-  image_at i zero k h = absurd (omega arith)
-  image_at i (suc n) zero h = rw (range_suc i n) (ap f (omega arith))
-  image_at i (suc n) (suc k) h =
-      let e : i + 1 + k ≡ i + suc k = omega arith in
-      rw (range_suc i n) (image_at (i + 1) n k (omega arith) ∙ ap f e)
-
 pub shown_length : (k : ℕ) (b : Bytes) → length (shown k b) ≡ k
 unfolding shown
 shown_length k b = image_length (λ i. shown_byte (b i)) 0 k
 
-shown_at : (k : ℕ) (b : Bytes) (i : ℕ) → i < k → get_or (shown k b) i 0 ≡ shown_byte (b i)
+-- One byte more.
+pub shown_more : (n : ℕ) (b : Bytes) → shown (n + 1) b ≡ shown n b ++ (shown_byte (b n) ∷ [])
 unfolding shown
-shown_at k b i h = image_at (λ j. shown_byte (b j)) 0 k i h ∙ ap (λ (j : ℕ). shown_byte (b j)) (zero-add i)
+shown_more n b = ap (map (λ i. shown_byte (b i))) (indices_step (λ k. true) 0 n) ∙ map-append (λ i. shown_byte (b i)) (range 0 n) ((0 + n) ∷ [])
+    ∙ ap (λ (i : ℕ). shown n b ++ (shown_byte (b i) ∷ [])) (zero-add n)
 
--- Bytes that were copied one by one are the text.
-pub wrote_shown : (k : ℕ) (b : Bytes) (e x : List ℕ) (at : ℕ) → ((i : ℕ) → get_or x i 0 ≡ overlay k (λ j. shown_byte (b j)) at (bytes_of e) i)
-    → Wrote (shown k b) e x at (at + k)
-wrote_shown k b e x at h = record { ends = ap (λ (z : ℕ). at + z) (sym n); bytes = λ i. h i ∙ rw n (same i) }
-  where
-    n : length (shown k b) ≡ k
-    n = shown_length k b
-
-    p : Bytes
-    p j = shown_byte (b j)
-
-    same : (i : ℕ) → overlay k p at (bytes_of e) i ≡ overlay k (bytes_of (shown k b)) at (bytes_of e) i
-    same i =
-        ⊎_elim
-        (λ a. overlay_below p at (bytes_of e) k i a ∙ sym (overlay_below (bytes_of (shown k b)) at (bytes_of e) k i a))
-        (λ a. ⊎_elim
-        (λ c. overlay_in p at (bytes_of e) k i a c ∙ sym (shown_at k b (i - at) (omega arith))
-        ∙ sym (overlay_in (bytes_of (shown k b)) at (bytes_of e) k i a c))
-        (λ c. overlay_above p at (bytes_of e) k i c ∙ sym (overlay_above (bytes_of (shown k b)) at (bytes_of e) k i c))
-        (less? i (at + k)))
-        (less? i at)
-
--- Only spaces from k on, and one just before.
-pub spaces_more : (n : ℕ) (b : Bytes) (k : ℕ) → ((j : ℕ) → k ≤ j → j < n → eqb (b j) 32 ≡ true) → eqb (b (k - 1)) 32 ≡ true
-    → (j : ℕ) → k - 1 ≤ j → j < n → eqb (b j) 32 ≡ true
-spaces_more n b k spaces here j lo hi = ⊎_elim (λ e. rw e here) (λ ne. spaces j (omega arith) hi) (same? j (k - 1))
+pub shown_none : (b : Bytes) → shown 0 b ≡ []
+unfolding shown
+shown_none b = ap (map (λ i. shown_byte (b i))) (range_zero 0)
 
 -- Only spaces from k on, and none just before.
 module _ (n : ℕ) (b : Bytes) (k : ℕ) (fits : k ≤ n) (spaces : (j : ℕ) → k ≤ j → j < n → eqb (b j) 32 ≡ true) where
@@ -114,22 +85,22 @@ trimmed_is : (n : ℕ) (b : Bytes) → trimmed n b ≡ shown (trimmed_length n b
 unfolding trimmed shown trimmed_length
 trimmed_is n b = refl
 
--- A part of a part.
-pub part_part : (b : Bytes) (i j : ℕ) → part (part b i) j ≡ part b (i + j)
-part_part b i j = fun_ext (λ k. ap b (omega arith))
+-- A name, by how many bytes of its stem and of its extension are shown.
+module _ (b : Bytes) (f : ℕ) {n e : ℕ} (stem : n ≡ trimmed_length 8 (part b f)) (extension : e ≡ trimmed_length 3 (part b (f + 8))) where
+  second : part (part b f) 8 ≡ part b (f + 8)
+  second = fun_ext (λ k. ap b (omega arith))
 
-module _ (b : Bytes) where
-  pub name_short : trimmed_length 3 (part b 8) ≡ 0 → shown_name b ≡ shown (trimmed_length 8 b) b
+  pub name_short : e ≡ 0 → shown_name (part b f) ≡ shown n (part b f)
   unfolding shown_name
-  name_short e =
-      let d : dotted (trimmed 3 (part b 8)) ≡ [] =
-      dotted_none (trimmed 3 (part b 8)) (ap length (trimmed_is 3 (part b 8)) ∙ shown_length (trimmed_length 3 (part b 8)) (part b 8) ∙ e) in
-      rw (trimmed_is 8 b, d) (append-nil (shown (trimmed_length 8 b) b))
+  name_short z =
+      let x : List ℕ = shown (trimmed_length 3 (part b (f + 8))) (part b (f + 8)) in
+      let d : dotted x ≡ [] = dotted_none x (shown_length (trimmed_length 3 (part b (f + 8))) (part b (f + 8)) ∙ sym extension ∙ z) in
+      rw (second, trimmed_is 8 (part b f), trimmed_is 3 (part b (f + 8)), d, ← stem) (append-nil (shown n (part b f)))
 
-  pub name_long : (trimmed_length 3 (part b 8) ≡ 0 → ⊥)
-      → shown_name b ≡ (shown (trimmed_length 8 b) b ++ (46 ∷ [])) ++ shown (trimmed_length 3 (part b 8)) (part b 8)
+  pub name_long : (e ≡ 0 → ⊥) → shown_name (part b f) ≡ (shown n (part b f) ++ (46 ∷ [])) ++ shown e (part b (f + 8))
   unfolding shown_name
-  name_long ne =
-      let x : List ℕ = shown (trimmed_length 3 (part b 8)) (part b 8) in
-      let d : dotted x ≡ 46 ∷ x = dotted_some x (λ e. ne (sym (shown_length (trimmed_length 3 (part b 8)) (part b 8)) ∙ e)) in
-      rw (trimmed_is 8 b, trimmed_is 3 (part b 8), d) (sym (append_assoc (shown (trimmed_length 8 b) b) (46 ∷ []) x))
+  name_long some =
+      let x : List ℕ = shown e (part b (f + 8)) in
+      let d : dotted x ≡ 46 ∷ x = dotted_some x (λ z. some (sym (shown_length e (part b (f + 8))) ∙ z)) in
+      rw (second, trimmed_is 8 (part b f), trimmed_is 3 (part b (f + 8)), ← stem, ← extension, d)
+      (sym (append_assoc (shown n (part b f)) (46 ∷ []) x))

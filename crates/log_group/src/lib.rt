@@ -1,11 +1,12 @@
 // The group in a log sector: whether RECORD takes its records, and the operation that they tell of.
 #![tactic(auto)]
 
-ghost use Rattle.std.specs.Prelude.{◌≡◌, ◌+◌, ◌*◌, ◌/◌, ◌≤◌, ◌<◌, length, ◌&&◌};
+ghost use Rattle.std.specs.Prelude.{◌≡◌, ◌+◌, ◌*◌, ◌/◌, ◌≤◌, ◌<◌, length, true, ◌&&◌};
 ghost use Rattle.model.specs.Sector.{card_of};
 ghost use Rattle.model.specs.Scan.{all};
 ghost use Rattle.model.specs.Bytes.{bytes_of};
-ghost use Rattle.model.specs.Record.{record_at, operation_records, operation_of, text_length, text_in, change_of, group_size, planned, group_in, starts};
+ghost use Rattle.model.specs.Record.{record_at, operation_records, operation_of, group_size, starts, leads};
+ghost use Rattle.model.specs.Record.{text_room, text_length, text_in, change_of, planned, group_in};
 ghost use Rattle.model.specs.Pending.{fills, characters_ok, empty_from, group_ok};
 
 use model::{Entry, Operation, Plan};
@@ -16,50 +17,17 @@ const STAMPED: u32 = 2;
 const PAIR: u32 = 2;
 
 // How many records tell an operation.
+#[tactic(auto, unfolding(model::specs::Record::operation_records))]
 pub fn records_of(o: Operation) -> u32
     ensures { (result ≡ length (operation_records o)) × (1 ≤ result) × (result ≤ 16) }
 {
     match o {
-        Operation::Create {
-            entry: _,
-            count: _,
-            stamp: _,
-        } => STAMPED,
-        Operation::Update {
-            entry: _,
-            last: _,
-            from: _,
-            size: _,
-            stamp: _,
-        } => STAMPED,
-        Operation::Delete {
-            entry: _,
-            count: _,
-            first: _,
-            size: _,
-        } => 1,
-        Operation::Truncate {
-            entry: _,
-            first: _,
-            from: _,
-            size: _,
-            stamp: _,
-        } => STAMPED,
-        Operation::Rename {
-            entry: _,
-            count: _,
-            first: _,
-            size: _,
-            to: _,
-            renamed: _,
-        } => PAIR,
-        Operation::Replace {
-            entry: _,
-            first: _,
-            from: _,
-            size: _,
-            stamp: _,
-        } => STAMPED,
+        Operation::Create { .. }
+        | Operation::Update { .. }
+        | Operation::Truncate { .. }
+        | Operation::Replace { .. } => STAMPED,
+        Operation::Delete { .. } => 1,
+        Operation::Rename { .. } => PAIR,
     }
 }
 
@@ -71,22 +39,22 @@ pub fn group_records(o: Operation, n: u32) -> u32
     records_of(o) + (n + 15) / 16
 }
 
-// The operation that the records tell of.
+// The operation that the records tell of. Inlined: the grounds of a card are then asked in one frame, which calls nothing.
+#[inline(always)]
+#[tactic(auto, unfolding(model::specs::Record::operation_of))]
 pub fn operation_at(log: &[u8], s: u32) -> Operation
     requires { 512 * s + 512 ≤ length log.now }
     ensures { result ≡ operation_of (record_at (card_of log.now s)) }
 {
     let r = log_record::load(log, s, 0);
-    let name = r.name;
-    let entry = Entry {
-        slot: r.slot,
-        name,
-        attributes: r.attributes,
-    };
     let d = log_record::load(log, s, 1);
     let stamp = d.directory;
-    let number = r.number;
-    match number {
+    let entry = Entry {
+        slot: r.slot,
+        name: r.name,
+        attributes: r.attributes,
+    };
+    match r.number {
         1 => Operation::Create {
             entry,
             count: r.count,
@@ -112,17 +80,14 @@ pub fn operation_at(log: &[u8], s: u32) -> Operation
             size: r.size,
             stamp,
         },
-        5 => {
-            let renamed = d.name;
-            Operation::Rename {
-                entry,
-                count: r.count,
-                first: r.cluster,
-                size: r.size,
-                to: d.slot,
-                renamed,
-            }
-        }
+        5 => Operation::Rename {
+            entry,
+            count: r.count,
+            first: r.cluster,
+            size: r.size,
+            to: d.slot,
+            renamed: d.name,
+        },
         _ => Operation::Replace {
             entry,
             first: r.cluster,
@@ -134,6 +99,7 @@ pub fn operation_at(log: &[u8], s: u32) -> Operation
 }
 
 // How many records of the group tell its operation.
+#[tactic(auto, unfolding(model::specs::Record::group_size))]
 pub fn group_size(log: &[u8], s: u32) -> u32
     requires { 512 * s + 512 ≤ length log.now }
     ensures { (result ≡ group_size (record_at (card_of log.now s))) × (1 ≤ result) × (result ≤ 16) }
@@ -141,54 +107,58 @@ pub fn group_size(log: &[u8], s: u32) -> u32
     records_of(operation_at(log, s))
 }
 
-// How many long slots the operation fills.
-fn fills(log: &[u8], s: u32) -> u32
-    requires { 512 * s + 512 ≤ length log.now }
-    ensures { result ≡ fills (operation_of (record_at (card_of log.now s))) }
+// How many long slots an operation fills.
+fn fills(o: Operation) -> u32
+    ensures { result ≡ fills o }
 {
-    let r = log_record::load(log, s, 0);
-    if r.number == 1 {
-        return r.count;
+    match o {
+        Operation::Create { count, .. } => count,
+        _ => 0,
     }
-    0
+}
+
+// What follows the records of an operation that writes a long name, in sector s: its characters, if record 0 leads the sector.
+#[tactic(auto, using(crate::proofs::Laws::follow))]
+fn characters(log: &[u8], s: u32) -> &[u8]
+    requires { 512 * s + 512 ≤ length log.now }
+    ensures long { length result.now ≡ text_room }
+    ensures led { leads (card_of log.now s) ≡ true → bytes_of result.now ≡ text_in (card_of log.now s) }
+{
+    &sector::bytes(log, s)[log_record::TEXT_START..]
 }
 
 // How many characters stand in the records after record 0: none where that leads nothing.
+#[tactic(auto, using(crate::proofs::Laws::none_there))]
 fn text_length(log: &[u8], s: u32) -> u32
     requires { 512 * s + 512 ≤ length log.now }
     ensures { result ≡ text_length (text_in (card_of log.now s)) }
 {
-    if !log_record::leads(log, s) {
-        return 0;
+    if log_record::leads(log, s) {
+        root_names::text_length(characters(log, s))
+    } else {
+        0
     }
-    let from = 512 * sector::index(s) + log_record::TEXT_START;
-    root_names::text_length(&log[from..from + log_record::TEXT_ROOM])
 }
 
-// Whether the characters are allowed ones, as many as the long slots of the operation need.
+// Whether the n characters are allowed ones, as many as the long slots of the operation need.
 fn characters_ok(log: &[u8], s: u32, n: u32) -> bool
     requires { (512 * s + 512 ≤ length log.now) × (n ≡ text_length (text_in (card_of log.now s))) }
     ensures { result ≡ characters_ok (change_of (card_of log.now s)) }
 {
-    if root_names::long_slots(n) != fills(log, s) {
-        return false;
-    }
-    let from = 512 * sector::index(s) + log_record::TEXT_START;
-    root_names::all_allowed(&log[from..from + log_record::TEXT_ROOM], sector::index(n))
+    root_names::long_slots(n) == fills(operation_at(log, s))
+        && root_names::all_allowed(characters(log, s), n as usize)
 }
 
-// The characters, with zeros after them.
-pub fn text_at(w: &[u8], s: u32) -> [u8; log_record::TEXT_ROOM]
+// The characters into a buffer, with zeros after them.
+pub fn text_at(w: &[u8], s: u32, text: &mut [u8; log_record::TEXT_ROOM])
     requires { 512 * s + 512 ≤ length w.now }
-    ensures { bytes_of result ≡ text_in (card_of w.now s) }
+    ensures { bytes_of text.new ≡ text_in (card_of w.now s) }
 {
-    let mut t = [0u8; log_record::TEXT_ROOM];
-    if !log_record::leads(w, s) {
-        return t;
+    if log_record::leads(w, s) {
+        text.copy_from_slice(characters(w, s));
+    } else {
+        text.fill(0);
     }
-    let from = 512 * sector::index(s) + log_record::TEXT_START;
-    sector::copy(&mut t, 0, w, from, log_record::TEXT_ROOM);
-    t
 }
 
 // Whether the first m records of the sector begin as pending ones.
@@ -196,12 +166,10 @@ fn all_start(log: &[u8], s: u32, m: u32) -> bool
     requires { (512 * s + 512 ≤ length log.now) × (m ≤ 16) }
     ensures { result ≡ all (λ k. starts (card_of log.now s (32 * k))) m }
 {
-    let mut k = 0;
-    while k < m {
+    for k in 0..m {
         if !log_record::starts(log, s, k) {
             return false;
         }
-        k += 1;
     }
     true
 }
@@ -211,42 +179,33 @@ fn is_empty(log: &[u8], s: u32, from: u32) -> bool
     requires { (512 * s + 512 ≤ length log.now) × (from ≤ 512) }
     ensures { result ≡ empty_from from (card_of log.now s) }
 {
-    let mut j = from;
-    while j < 512 {
+    for j in from..512 {
         if sector::byte(log, s, j) != 0 {
             return false;
         }
-        j += 1;
     }
     true
 }
 
 // The characters after the m records that tell the operation, and only zeros after them.
+#[tactic(auto, using(crate::proofs::Laws::text_fits))]
 fn text_ok(log: &[u8], s: u32, m: u32) -> bool
     requires { (512 * s + 512 ≤ length log.now) × (m ≡ group_size (record_at (card_of log.now s))) }
     ensures { result ≡ (characters_ok (change_of (card_of log.now s))
         && empty_from (32 * m + 2 * text_length (text_in (card_of log.now s))) (card_of log.now s)) }
 {
     let n = text_length(log, s);
-    if !characters_ok(log, s, n) {
-        return false;
-    }
-    is_empty(log, s, 32 * m + 2 * n)
+    characters_ok(log, s, n) && is_empty(log, s, 32 * m + 2 * n)
 }
 
 // Whether the records of sector s are a group; z is the lowest root slot beginning 0.
+#[tactic(auto, unfolding(model::specs::Pending::group_ok, model::specs::Scan::every, model::specs::Record::change_of))]
 pub fn group_ok(log: &[u8], s: u32, entries: u32, z: u32) -> bool
     requires { 512 * s + 512 ≤ length log.now }
     ensures { result ≡ group_ok entries z (card_of log.now s) }
 {
     let m = group_size(log, s);
-    if !log_record::records_ok(log, s, m, entries, z) {
-        return false;
-    }
-    if !all_start(log, s, m) {
-        return false;
-    }
-    text_ok(log, s, m)
+    log_record::records_ok(log, s, m, entries, z) && all_start(log, s, m) && text_ok(log, s, m)
 }
 
 // The plan of what the group in sector s of a card makes to be done.

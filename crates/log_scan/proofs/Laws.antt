@@ -5,10 +5,12 @@ use mathlib.Core.Path.{◌≡◌, refl, sym, ap, ◌∙◌, subst}
 use mathlib.Core.Logic.{⊎_elim, ◌⊎◌, inl, inr}
 use mathlib.Core.Bool.{Bool, true, false, ◌&&◌, ◌||◌, not}
 use mathlib.Core.List.{List}
-use lib.ListN.{length, take, drop, length-take, length-drop}
+use Rattle.std.proofs.Common.{Option, Some, None}
+use Rattle.std.proofs.lemmas.Option.{none-some, same_Some}
+use lib.ListN.{length}
 use lib.Dec.{leb, ltb, eqb}
 use borrow.Author.Tests.{ltb-true, ltb-false, lt-ltb, le-ltb, le-leb, lt-leb}
-use Rattle.model.specs.Bytes.{pick, Bytes}
+use Rattle.model.specs.Bytes.{pick}
 use Rattle.model.specs.Scan.{every, all, all_from, first_from}
 use Rattle.model.specs.Sector.{card_of, Card}
 use Rattle.model.specs.Log.{Log, log_of}
@@ -18,11 +20,9 @@ use Rattle.model.specs.declared.Area.{Area}
 use Rattle.model.specs.declared.Pending.{Pending}
 use Rattle.model.proofs.Tests.{less?, told}
 use Rattle.model.proofs.Scan.{Sofar, none_below, first_is, first_has, first_ge, first_before, all_of, all_not, all_at0}
-use Rattle.model.proofs.Sectors.{part_sector}
 use Rattle.model.proofs.Logs.{first_pending_same, pending_same}
-use Rattle.log_scan.specs.Place.{place_of, judged, Seen}
+use Rattle.log_scan.specs.Place.{place_of, judged, Seen, Table}
 use Rattle.log_scan.specs.declared.Place.{Place}
-use Rattle.log_scan.specs.declared.Place.TheVariants.{At, Nowhere}
 use Rattle.model.specs.declared.Layout.{Layout}
 
 -- Record r of sector s.
@@ -52,11 +52,11 @@ pub record FirstAt (n : ℕ) (g : Log) (s r : ℕ) : Type 0 where
   pub none : Sofar (pending_at g) false 0 (16 * s + r)
   pub here : pends (g s) r ≡ true
 
-pub place_none : (n : ℕ) (g : Log) → Sofar (pending_at g) false 0 (16 * n) → place_of (first_pending n g) n ≡ Nowhere
+pub place_none : (n : ℕ) (g : Log) → Sofar (pending_at g) false 0 (16 * n) → place_of (first_pending n g) n ≡ None
 unfolding place_of first_pending
 place_none n g h = rw (none_below (pending_at g) (16 * n) (16 * n) h (omega arith), le-ltb (16 * n) (16 * n) (omega arith))
 
-pub place_found : (n : ℕ) (g : Log) (s r : ℕ) → FirstAt n g s r → place_of (first_pending n g) n ≡ At s r
+pub place_found : (n : ℕ) (g : Log) (s r : ℕ) → FirstAt n g s r → place_of (first_pending n g) n ≡ Some (record { sector = s; number = r })
 unfolding place_of first_pending
 place_found n g s r f =
     let a : (16 * s + r) / 16 ≡ s = omega (arith, f.few) in
@@ -71,29 +71,25 @@ pub record Placed (i n s r : ℕ) : Type 0 where
   pub few : r < 16
   pub within : s < n
 
-pub placed : (i n s r : ℕ) → place_of i n ≡ At s r → Placed i n s r
+pub placed : (i n : ℕ) (p : Place) → place_of i n ≡ Some p → Placed i n p.sector p.number
 unfolding place_of
-placed i n s r h = go (ltb i (16 * n)) refl
+placed i n p h = go (ltb i (16 * n)) refl
   where
-    go : (t : Bool) → ltb i (16 * n) ≡ t → Placed i n s r
+    go : (t : Bool) → ltb i (16 * n) ≡ t → Placed i n p.sector p.number
     go true e =
-        let z : At (i / 16) (i % 16) ≡ At s r = rw e at h in
-        let a : i / 16 ≡ s = cc in
-        let b : i % 16 ≡ r = cc in
+        let same = same_Some _ _ (rw e at h) in
+        let a : i / 16 ≡ p.sector = ap (λ (p : Place). p.sector) same in
+        let b : i % 16 ≡ p.number = ap (λ (p : Place). p.number) same in
         let l : i < 16 * n = ltb-true i (16 * n) e in
         record { at = omega arith; few = omega arith; within = omega arith }
-    go false e =
-        let z : Nowhere ≡ At s r = rw e at h in
-        absurd (let y : ◌≡◌ {A = ℕ} 0 1 = cc in omega arith)
+    go false e = absurd (none-some _ (rw e at h))
 
-pub nowhere : (i n : ℕ) → place_of i n ≡ Nowhere → 16 * n ≤ i
+pub nowhere : (i n : ℕ) → place_of i n ≡ None → 16 * n ≤ i
 unfolding place_of
 nowhere i n h = go (ltb i (16 * n)) refl
   where
     go : (t : Bool) → ltb i (16 * n) ≡ t → 16 * n ≤ i
-    go true e =
-        let z : At (i / 16) (i % 16) ≡ Nowhere = rw e at h in
-        absurd (let y : ◌≡◌ {A = ℕ} 0 1 = cc in omega arith)
+    go true e = absurd (none-some _ (sym (rw e at h)))
     go false e = ltb-false i (16 * n) e
 
 -- The first pending record is the group's: the others are sought after it.
@@ -142,31 +138,20 @@ judged_at entries z a g s r h =
     rw (e, f)
 
 -- The log as a part of a window: its first pending record, and what is pending.
-pub first_part : (a : Area) (xs : List ℕ) (k : ℕ) → k ≡ 512 * a.sectors
-    → first_pending a.sectors (card_of (take k (drop (512 * a.sector) xs))) ≡ first_pending a.sectors (log_of a (card_of xs))
-first_part a xs k e =
-    first_pending_same a.sectors (card_of (take k (drop (512 * a.sector) xs))) (log_of a (card_of xs)) (λ s h. part_sector xs a.sector k s (omega arith))
+module _ (a : Area) (w xs : List ℕ) (t : Table a w xs) where
+  pub first_part : first_pending a.sectors (card_of xs) ≡ first_pending a.sectors (log_of a (card_of w))
+  first_part = first_pending_same a.sectors (card_of xs) (log_of a (card_of w)) t.same
 
-pub pending_part : (entries : ℕ) (z : Bytes → ℕ) (a : Area) (xs : List ℕ) (k : ℕ) → k ≡ 512 * a.sectors
-    → pending_in entries z a (card_of (take k (drop (512 * a.sector) xs))) ≡ pending_in entries z a (log_of a (card_of xs))
-pending_part entries z a xs k e =
-    pending_same entries z a (card_of (take k (drop (512 * a.sector) xs))) (log_of a (card_of xs)) (λ s h. part_sector xs a.sector k s (omega arith))
+  pub pending_part : (entries z : ℕ) → pending_in entries (λ _. z) a (card_of xs) ≡ pending_in entries (λ _. z) a (log_of a (card_of w))
+  pending_part entries z = pending_same entries (λ _. z) a (card_of xs) (log_of a (card_of w)) t.same
 
-pub part_length : (xs : List ℕ) (from k : ℕ) → from + k ≤ length xs → length (take k (drop from xs)) ≡ k
-part_length xs from k h = simp (length-take, length-drop) (omega arith)
-
-pub place_part : (a : Area) (xs : List ℕ) (k : ℕ) (p : Place) → k ≡ 512 * a.sectors → 512 * (a.sector + a.sectors) ≤ length xs
-    → p ≡ place_of (first_pending (length (take k (drop (512 * a.sector) xs)) / 512) (card_of (take k (drop (512 * a.sector) xs))))
-    (length (take k (drop (512 * a.sector) xs)) / 512)
-    → p ≡ place_of (first_pending a.sectors (log_of a (card_of xs))) a.sectors
-place_part a xs k p e fits is =
-    let n : length (take k (drop (512 * a.sector) xs)) / 512 ≡ a.sectors = omega (arith, part_length xs (512 * a.sector) k (omega arith)) in
-    is ∙ (λ i. place_of (first_pending (n i) (card_of (take k (drop (512 * a.sector) xs)))) (n i))
-    ∙ ap (λ (j : ℕ). place_of j a.sectors) (first_part a xs k e)
+  pub place_part : place_of (first_pending (length xs / 512) (card_of xs)) (length xs / 512)
+      ≡ place_of (first_pending a.sectors (log_of a (card_of w))) a.sectors
+  place_part = let n : length xs / 512 ≡ a.sectors = omega (arith, t.whole) in rw (n, first_part)
 
 -- What is pending is judged with the slot that RECORD reads for the group that is found.
-pub seen_pending : (l : Layout) (a : Area) (c : Card) (z : ℕ) (p : Place) → p ≡ place_of (first_pending a.sectors (log_of a c)) a.sectors → Seen l a c p z
-    → pending_in l.entries (λ _. z) a (log_of a c) ≡ pending l a c
+pub seen_pending : (l : Layout) (a : Area) (c : Card) (z : ℕ) (p : Option Place) → p ≡ place_of (first_pending a.sectors (log_of a c)) a.sectors
+    → Seen l a c p z → pending_in l.entries (λ _. z) a (log_of a c) ≡ pending l a c
 unfolding pending pending_in place_of
 seen_pending l a c z p is seen = go (told (ltb i (16 * a.sectors)))
   where
@@ -179,6 +164,6 @@ seen_pending l a c z p is seen = go (told (ltb i (16 * a.sectors)))
     go : (ltb i (16 * a.sectors) ≡ true) ⊎ (ltb i (16 * a.sectors) ≡ false)
         → pick (ltb i (16 * a.sectors)) (held z) Pending.Nothing ≡ pick (ltb i (16 * a.sectors)) (held (seen_end l c (log_of a c (i / 16)))) Pending.Nothing
     go (inl e) =
-        let at : p ≡ At (i / 16) (i % 16) = is ∙ rw e in
-        rw (e, subst (λ (p : Place). Seen l a c p z) at seen)
+        let at : p ≡ Some (record { sector = i / 16; number = i % 16 }) = is ∙ rw e in
+        rw (e, subst (λ (p : Option Place). Seen l a c p z) at seen)
     go (inr e) = rw e

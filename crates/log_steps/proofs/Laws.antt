@@ -1,5 +1,5 @@
 -- The stores of an operation are those of its parts: data, FAT2, and steps 3 to 6 on the card that these leave.
-use Prim.Native.Nat.{ℕ, ◌+◌, ◌-◌, ◌<◌, ◌≤◌}
+use Prim.Native.Nat.{ℕ, ◌+◌, ◌<◌, ◌≤◌}
 use native.Mathlib.Omega.{arith}
 use mathlib.Core.Path.{◌≡◌, refl, ap, ◌∙◌, subst}
 use mathlib.Core.Bool.{Bool, true, false}
@@ -10,18 +10,19 @@ use Rattle.model.specs.Bytes.{pick}
 use Rattle.model.specs.Sector.{Card, card_of, Store, put, after}
 use Rattle.model.specs.Fat.{Fat, fat1_of, fat2_of, write_fat}
 use Rattle.model.specs.Log.{Log, log_of, unused}
-use Rattle.model.specs.Promises.{Ran}
+use Rattle.std.proofs.Common.{Result, Ok, Err}
+use Rattle.model.specs.Promises.{Spent}
+use Rattle.model.specs.declared.Stopped.{Stopped}
 use Rattle.model.specs.declared.Area.{Area}
 use Rattle.model.specs.declared.Layout.{Layout}
-use Rattle.model.specs.Record.{Group}
-use Rattle.model.specs.Record.{Change}
+use Rattle.model.specs.Record.{Change, Group}
 use Rattle.model.specs.declared.Volume.{Volume}
 use Rattle.operations.specs.Program.{stores}
 use Rattle.operations.specs.Finish.{redo}
 use Rattle.operations.specs.Plan.{clearing, group_sector, new_group, group_store, prepare, journal, operate}
 use Rattle.model.proofs.Logs.{unused_same}
 use Rattle.model.proofs.Cards.{after_append}
-use Rattle.model.proofs.Runs.{ran_then, ran_stop, ran_card}
+use Rattle.model.proofs.Runs.{spent_then, spent_stop, spent_card}
 use Rattle.log_steps.specs.Steps.{group_steps, log_steps}
 
 -- Two cards with the same log.
@@ -55,34 +56,32 @@ module _ (v : Volume) (c : Card) (ds : List Store) (f : Fat) (o : Change) where
 
 -- ---- parts under one limit
 
-module _ (limit : ℕ) (l : Layout) (g : Group) (e x : List ℕ) (m : ℕ) where
-  pub group_steps_cut : Ran limit (group_store g ∷ []) e x m false → Ran limit (group_steps l g (card_of e)) e x m false
+module _ (l : Layout) (g : Group) {b m : ℕ} {e x : List ℕ} {r : Result Unit Stopped} where
+  pub group_steps_cut : {d : Stopped} → r ≡ Err d → Spent b m (group_store g ∷ []) e x r → Spent b m (group_steps l g (card_of e)) e x (Err d)
   unfolding group_steps
-  group_steps_cut so = ran_stop limit (group_store g ∷ []) e x m so (stores (redo l g (put (card_of e) (group_store g))))
+  group_steps_cut f so = spent_stop f so (stores (redo l g (put (card_of e) (group_store g))))
 
-  pub group_steps_ran : Ran limit (group_store g ∷ []) e x m true → (y : List ℕ) (n : ℕ) (w : Bool)
-      → Ran (limit - m) (stores (redo l g (card_of x))) x y n w → Ran limit (group_steps l g (card_of e)) e y (m + n) w
+  pub group_steps_ran : {u : Unit} → r ≡ Ok u → Spent b m (group_store g ∷ []) e x r → {n : ℕ} {y : List ℕ} {q : Result Unit Stopped}
+      → Spent m n (stores (redo l g (card_of x))) x y q → Spent b n (group_steps l g (card_of e)) e y q
   unfolding group_steps after
-  group_steps_ran so y n w next =
-      let u : card_of x ≡ put (card_of e) (group_store g) = ran_card limit (group_store g ∷ []) e x m so in
-      ran_then limit (group_store g ∷ []) e x m so (stores (redo l g (put (card_of e) (group_store g)))) y n w
-      (subst (λ (c : Card). Ran (limit - m) (stores (redo l g c)) x y n w) u next)
+  group_steps_ran f so {n} {y} {q} next =
+      let same : card_of x ≡ put (card_of e) (group_store g) = spent_card f so in
+      spent_then f so (subst (λ (c : Card). Spent m n (stores (redo l g c)) x y q) same next)
 
-module _ (limit : ℕ) (v : Volume) (o : Change) (e x : List ℕ) (m : ℕ) where
-  abbrev cleared : List Store
-  cleared = clearing v.log (log_of v.log (card_of e))
+module _ (v : Volume) (o : Change) where
+  abbrev cleared : Card → List Store
+  cleared c = clearing v.log (log_of v.log c)
 
-  pub log_steps_cut : Ran limit cleared e x m false → Ran limit (log_steps v o (card_of e)) e x m false
-  unfolding log_steps
-  log_steps_cut so = ran_stop limit cleared e x m so (group_steps v.layout (new_group v.log (card_of e) o) (after cleared (card_of e)))
+  module _ {b m : ℕ} {e x : List ℕ} {r : Result Unit Stopped} where
+    pub log_steps_cut : {d : Stopped} → r ≡ Err d → Spent b m (cleared (card_of e)) e x r → Spent b m (log_steps v o (card_of e)) e x (Err d)
+    unfolding log_steps
+    log_steps_cut f so = spent_stop f so (group_steps v.layout (new_group v.log (card_of e) o) (after (cleared (card_of e)) (card_of e)))
 
-  pub log_steps_ran : Ran limit cleared e x m true → (y : List ℕ) (n : ℕ) (w : Bool)
-      → Ran (limit - m) (group_steps v.layout (new_group v.log (card_of e) o) (card_of x)) x y n w → Ran limit (log_steps v o (card_of e)) e y (m + n) w
-  unfolding log_steps
-  log_steps_ran so y n w next =
-      let u : card_of x ≡ after cleared (card_of e) = ran_card limit cleared e x m so in
-      ran_then limit cleared e x m so (group_steps v.layout (new_group v.log (card_of e) o) (after cleared (card_of e))) y n w
-      (subst (λ (c : Card). Ran (limit - m) (group_steps v.layout (new_group v.log (card_of e) o) c) x y n w) u next)
+    pub log_steps_ran : {u : Unit} → r ≡ Ok u → Spent b m (cleared (card_of e)) e x r → {n : ℕ} {y : List ℕ} {q : Result Unit Stopped}
+        → Spent m n (group_steps v.layout (new_group v.log (card_of e) o) (card_of x)) x y q → Spent b n (log_steps v o (card_of e)) e y q
+    unfolding log_steps
+    log_steps_ran f so {n} {y} {q} next =
+        spent_then f so (subst (λ (c : Card). Spent m n (group_steps v.layout (new_group v.log (card_of e) o) c) x y q) (spent_card f so) next)
 
 -- An operation without data whose FAT is as it is: FAT2 needs no store where the FATs agree.
 pub plain_is : (v : Volume) (c : Card) (o : Change) → write_fat v.layout v.layout.fat2 (fat1_of v.layout c) (fat2_of v.layout c) ≡ []

@@ -1,17 +1,18 @@
 -- An operation by its parts, under one limit: data and FAT2, then steps 3 to 6 on the card that these leave.
-use Prim.Native.Nat.{ℕ, ◌+◌, ◌-◌, ◌<◌, ◌≤◌}
+use Prim.Native.Nat.{ℕ, ◌+◌, ◌<◌, ◌≤◌}
 use native.Mathlib.Omega.{arith}
 use mathlib.Core.Path.{◌≡◌, sym, ap, ◌∙◌}
-use mathlib.Core.Bool.{Bool, true, false}
 use mathlib.Core.List.{List, ◌++◌, append_assoc}
 use Rattle.model.specs.Sector.{Card, card_of, Store, after}
 use Rattle.model.specs.Fat.{Fat, fat2_of, write_fat}
-use Rattle.model.specs.Promises.{Shape, Ran}
+use Rattle.std.proofs.Common.{Result, Ok, Err}
+use Rattle.model.specs.declared.Stopped.{Stopped}
+use Rattle.model.specs.Promises.{Shape, Spent}
 use Rattle.model.specs.Record.{Change}
 use Rattle.model.specs.declared.Volume.{Volume}
 use Rattle.model.proofs.Cards.{Away, after_away, after_append}
 use Rattle.model.proofs.Fats.{write_all}
-use Rattle.model.proofs.Runs.{ran_then, ran_stop, ran_card}
+use Rattle.model.proofs.Runs.{spent_then, spent_stop, spent_card}
 use Rattle.operations.specs.Program.{stores}
 use Rattle.operations.specs.Plan.{operate}
 use Rattle.log_steps.specs.Steps.{log_steps}
@@ -39,13 +40,10 @@ module _ (v : Volume) (ds : List Store) (f : Fat) (o : Change) (sh : Shape v.lay
       operate_is v c ds f o (after (front c) c) (sym (after_append ds (fs c) c)) (log_kept c)
       ∙ sym (append_assoc ds (fs c) (log_steps v o (after (front c) c)))
 
-  module _ (limit : ℕ) (e x : List ℕ) (m : ℕ) where
-    pub operate_cut : Ran limit (front (card_of e)) e x m false → Ran limit (stores (operate v (card_of e) ds f o)) e x m false
-    operate_cut so = rw (operate_parts (card_of e))
-        (ran_stop limit (front (card_of e)) e x m so (log_steps v o (after (front (card_of e)) (card_of e))))
+  module _ {b m : ℕ} {e x : List ℕ} {r : Result Unit Stopped} where
+    pub operate_cut : {d : Stopped} → r ≡ Err d → Spent b m (front (card_of e)) e x r → Spent b m (stores (operate v (card_of e) ds f o)) e x (Err d)
+    operate_cut g so = rw (operate_parts (card_of e)) (spent_stop g so (log_steps v o (after (front (card_of e)) (card_of e))))
 
-    pub operate_ran : Ran limit (front (card_of e)) e x m true → (y : List ℕ) (n : ℕ) (w : Bool) → Ran (limit - m) (log_steps v o (card_of x)) x y n w
-        → Ran limit (stores (operate v (card_of e) ds f o)) e y (m + n) w
-    operate_ran so y n w next =
-        rw (operate_parts (card_of e), ← ran_card limit (front (card_of e)) e x m so)
-        (ran_then limit (front (card_of e)) e x m so (log_steps v o (card_of x)) y n w next)
+    pub operate_ran : {u : Unit} → r ≡ Ok u → Spent b m (front (card_of e)) e x r → {n : ℕ} {y : List ℕ} {q : Result Unit Stopped}
+        → Spent m n (log_steps v o (card_of x)) x y q → Spent b n (stores (operate v (card_of e) ds f o)) e y q
+    operate_ran g so next = rw (operate_parts (card_of e), ← spent_card g so) (spent_then g so next)

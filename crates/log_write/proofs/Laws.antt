@@ -2,7 +2,7 @@
 use Prim.Native.Nat.{ℕ, ◌+◌, ◌-◌, ◌*◌, ◌<◌, ◌≤◌}
 use native.Mathlib.Omega.{arith}
 use native.Mathlib.Numerals.{add-one}
-use mathlib.Core.Path.{◌≡◌, sym, ap, ◌∙◌, subst, fun_ext}
+use mathlib.Core.Path.{◌≡◌, sym, ap, ◌∙◌, fun_ext}
 use mathlib.Core.Bool.{Bool}
 use mathlib.Core.List.{List, [], ◌∷◌, ◌++◌, map, map-append}
 use lib.ListN.{replicate, length, get_or, take, length-map, get_or-eq_default}
@@ -13,7 +13,10 @@ use Rattle.model.specs.Sector.{card_of, Store, store}
 use Rattle.model.specs.Log.{log_of}
 use Rattle.model.specs.Record.{lay, record_bytes, record_in, encode, with_text, records, operation_records}
 use Rattle.model.specs.declared.Record.{Record}
-use Rattle.model.specs.Promises.{Ran, up_to}
+use Rattle.std.proofs.Common.{Result, Ok, Err}
+use Rattle.model.specs.declared.Stopped.{Stopped}
+use Rattle.model.specs.Promises.{Spent, up_to}
+use Rattle.model.proofs.Runs.{spends_none, spends_more, spends_cut}
 use Rattle.model.specs.declared.Area.{Area}
 use Rattle.model.proofs.Pieces.{lay_none, lay_more}
 use Rattle.model.proofs.Turns.{map_falling}
@@ -27,13 +30,37 @@ use Rattle.model.proofs.Sectors.{part_zero}
 use Rattle.model.proofs.Records.{zero_after}
 use Rattle.model.proofs.Tests.{less?}
 
--- Turn k clears the k-th sector from the log's end.
-abbrev pub clear_turn : Area → ℕ → List Store
+-- The log's sectors from the k-th on, cleared from the last down.
+abbrev clear_turn : Area → ℕ → List Store
 clear_turn a k = store (a.sector + (a.sectors - 1 - k)) zeros ∷ []
 
-pub clear_turns : (a : Area) → clear_all a ≡ up_to (clear_turn a) a.sectors
+abbrev pub cleared_from : Area → ℕ → List Store
+cleared_from a k = up_to (clear_turn a) (a.sectors - k)
+
+clear_turns : (a : Area) → clear_all a ≡ up_to (clear_turn a) a.sectors
 unfolding clear_all
 clear_turns a = map_falling (λ s. store s zeros) a.sector a.sectors
+
+module _ (a : Area) where
+  pub clear_begun : (b : ℕ) (e : List ℕ) → Spent b b (cleared_from a a.sectors) e e (Ok (tt {0}))
+  clear_begun b e = let none : a.sectors - a.sectors ≡ 0 = omega arith in rw none (spends_none (clear_turn a) b e)
+
+  pub clear_ended : {b l : ℕ} {e x : List ℕ} → Spent b l (cleared_from a 0) e x (Ok (tt {0})) → Spent b l (clear_all a) e x (Ok (tt {0}))
+  clear_ended so = let all : a.sectors - 0 ≡ a.sectors = omega arith in rw clear_turns (rw all at so)
+
+  -- The next sector below the k-th.
+  module _ {b l k n : ℕ} {e x y : List ℕ} {r : Result Unit Stopped} (some : 0 < k) (less : k ≤ a.sectors)
+      (so : Spent b l (cleared_from a k) e x (Ok (tt {0}))) (turn : Spent l n (store (a.sector + (k - 1)) zeros ∷ []) x y r) where
+    own : store (a.sector + (k - 1)) zeros ∷ [] ≡ clear_turn a (a.sectors - k)
+    own = let e : a.sectors - 1 - (a.sectors - k) ≡ k - 1 = omega arith in rw e
+
+    pub clear_more : {u : Unit} → r ≡ Ok u → Spent b n (cleared_from a (k - 1)) e y (Ok (tt {0}))
+    clear_more f =
+        let e : a.sectors - (k - 1) ≡ a.sectors - k + 1 = omega arith in
+        rw e (spends_more (clear_turn a) so (rw own at turn) f)
+
+    pub clear_cut : {d : Stopped} → r ≡ Err d → Spent b n (clear_all a) e y (Err d)
+    clear_cut f = rw clear_turns (spends_cut (clear_turn a) so (rw own at turn) f a.sectors (omega arith))
 
 -- The records laid so far, and one more.
 pub lay_zeros : bytes_of (replicate 512 0) ≡ lay []
@@ -42,7 +69,8 @@ lay_zeros = all_zero 512 ∙ sym lay_none
 pub lay_next : (rs : List Record) (k : ℕ) (b old new : Bytes) → k < length rs → b ≡ record_bytes (get_or rs k (record_in zeros))
     → old ≡ lay (map record_bytes (take k rs)) → new ≡ overlay 32 b (32 * k) old → new ≡ lay (map record_bytes (take (k + 1) rs))
 lay_next rs k b old new less own so is =
-    let more : take (k + 1) rs ≡ take k rs ++ get_or rs k (record_in zeros) ∷ [] = ap (λ (i : ℕ). take i rs) (add-one k) ∙ take-suc rs k (record_in zeros) less in
+    let more : take (k + 1) rs ≡ take k rs ++ get_or rs k (record_in zeros) ∷ [] =
+    ap (λ (i : ℕ). take i rs) (add-one k) ∙ take-suc rs k (record_in zeros) less in
     let size : length (map record_bytes (take k rs)) ≡ k = length-map (take k rs) record_bytes ∙ length-take-le k rs (omega arith) in
     is ∙ (λ i. overlay 32 (own i) (32 * k) (so i))
     ∙ ap (λ (m : ℕ). overlay 32 (record_bytes (get_or rs k (record_in zeros))) (32 * m) (lay (map record_bytes (take k rs)))) (sym size)
@@ -64,11 +92,6 @@ text_laid o xs buf r laid is = fun_ext (λ j. is j ∙ ⊎_elim
   where
     m : ℕ
     m = 32 * length (operation_records o)
-
--- After the last turn.
-pub clear_end : (a : Area) (k limit : ℕ) (e x : List ℕ) (m : ℕ) (w : Bool) → k ≡ a.sectors → Ran limit (up_to (clear_turn a) k) e x m w
-    → Ran limit (clear_all a) e x m w
-clear_end a k limit e x m w end r = subst (λ (ss : List Store). Ran limit ss e x m w) (ap (up_to (clear_turn a)) end ∙ sym (clear_turns a)) r
 
 -- Sector s of a log begins with 0.
 abbrev pub begins_zero : Area → List ℕ → ℕ → Bool

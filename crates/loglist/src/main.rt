@@ -9,6 +9,7 @@ use std::io::{self, Read};
 fn read_full<R: Read>(input: &mut R, table: &mut [u8]) -> io::Result<usize>
     ensures { IfOk result (λ n. n ≤ length table.new) }
 {
+    // A read may give fewer bytes than there is room for, so this is no `for`; `read_to_end` would need a heap.
     let mut n = 0;
     while n < table.len() {
         let k = input.read(&mut table[n..])?;
@@ -24,10 +25,10 @@ fn print(rt: &HostRuntime, table: &[u8]) -> io::Result<()> {
     let mut out = [0u8; 4096];
     let n = listing::pieces(table);
     let mut i = 0;
+    // Each turn goes on at the piece that did not fit in the turn before, so this is no `for`.
     while i < n {
         let part = listing::fill(&mut out, table, i);
-        let count = part.count;
-        rt.write_all(&out[..count])?;
+        rt.write_all(&out[..part.count])?;
         i = part.next;
     }
     Ok(())

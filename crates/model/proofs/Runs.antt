@@ -3,7 +3,7 @@ use Prim.Native.Nat.{ℕ, zero, suc, ◌+◌, ◌-◌, ◌<◌, ◌≤◌}
 use native.Mathlib.Omega.{arith}
 use native.Mathlib.Nat.{eq-or-lt_of_le}
 use native.Mathlib.Numerals.{add-one}
-use mathlib.Core.Path.{◌≡◌, refl, sym, ap, ◌∙◌}
+use mathlib.Core.Path.{◌≡◌, refl, sym, ap, ◌∙◌, subst}
 use mathlib.Core.Logic.{⊎_elim}
 use mathlib.Core.Bool.{Bool, true, false}
 use mathlib.Core.List.{List, [], ◌∷◌, ◌++◌, append-nil, append_assoc}
@@ -11,7 +11,9 @@ use lib.ListN.{length, take, length-append}
 use lib.Seq.{take_all, take-nil, take-append-le, take-append-add}
 use borrow.Author.Tests.{le-leb, lt-leb, leb-true, leb-false}
 use Rattle.model.specs.Sector.{Card, card_of, Store, put, after}
-use Rattle.model.specs.Promises.{Ran, up_to}
+use Rattle.std.proofs.Common.{Result, Ok, Err, is_ok}
+use Rattle.model.specs.declared.Stopped.{Stopped}
+use Rattle.model.specs.Promises.{Ran, Spent, up_to}
 use Rattle.model.proofs.Tests.{leb_same}
 use Rattle.model.proofs.All.{all_append, all_take}
 use Rattle.model.proofs.Cards.{after_append, Away, after_away}
@@ -111,3 +113,64 @@ module _ (st : ℕ → List Store) where
     turns_cut n l t =
         let r = upto_split (k + 1) n (omega arith) in
         rw (r.1, upto_step k) (ran_stop limit (up_to st k ++ st k) e y (m + p) (ran_then limit (up_to st k) e x m so (st k) y p false t) r.0)
+
+-- ---- the limit lent: what runs next takes what is left
+
+abbrev whole : Result Unit Stopped
+whole = Ok (tt {0})
+
+-- a limit that was given and what a list made of it
+spent : (b l : ℕ) (ss : List Store) (e x : List ℕ) (r : Result Unit Stopped) (m : ℕ) → l + m ≡ b → Ran b ss e x m (is_ok r) → Spent b l ss e x r
+spent b l ss e x r m g so = record { within = omega arith; ran = subst (λ (k : ℕ). Ran b ss e x k (is_ok r)) (omega arith) so }
+
+pub spent_none : (b : ℕ) (e : List ℕ) → Spent b b [] e e whole
+spent_none b e = spent b b [] e e whole 0 (omega arith) (ran_none b e)
+
+pub spent_one : (s : Store) (e x : List ℕ) (b : ℕ) → 0 < b → card_of x ≡ put (card_of e) s → Spent b (b - 1) (s ∷ []) e x whole
+spent_one s e x b h g = spent b (b - 1) (s ∷ []) e x whole 1 (omega arith) (ran_one s e x b h g)
+
+pub spent_zero : (s : Store) (ss : List Store) (e : List ℕ) (d : Stopped) → Spent 0 0 (s ∷ ss) e e (Err d)
+spent_zero s ss e d = spent 0 0 (s ∷ ss) e e (Err d) 0 (omega arith) (ran_zero s ss e)
+
+module _ {b l : ℕ} {ss : List Store} {e x : List ℕ} {r : Result Unit Stopped} where
+  -- a part that was cut short is the last to run
+  pub spent_stop : {d : Stopped} → r ≡ Err d → Spent b l ss e x r → (ts : List Store) → Spent b l (ss ++ ts) e x (Err d)
+  spent_stop {d} f so ts =
+      record { within = so.within; ran = ran_stop b ss e x (b - l) (subst (λ (k : Result Unit Stopped). Ran b ss e x (b - l) (is_ok k)) f so.ran) ts }
+
+  -- a part that ended has made all its stores
+  pub spent_all : {u : Unit} → r ≡ Ok u → Spent b l ss e x r → Ran b ss e x (b - l) true
+  spent_all f so = subst (λ (k : Result Unit Stopped). Ran b ss e x (b - l) (is_ok k)) f so.ran
+
+  pub spent_card : {u : Unit} → r ≡ Ok u → Spent b l ss e x r → card_of x ≡ after ss (card_of e)
+  spent_card f so = ran_card b ss e x (b - l) (spent_all f so)
+
+  -- a part that ended, and the next
+  pub spent_then : {u : Unit} → r ≡ Ok u → Spent b l ss e x r → {n : ℕ} {ts : List Store} {y : List ℕ} {q : Result Unit Stopped}
+      → Spent l n ts x y q → Spent b n (ss ++ ts) e y q
+  spent_then f so {n} {ts} {y} {q} next =
+      let p : l ≤ b = so.within in
+      let t : n ≤ l = next.within in
+      let g : b - (b - l) ≡ l = omega arith in
+      spent b n (ss ++ ts) e y q ((b - l) + (l - n)) (omega arith)
+      (ran_then b ss e x (b - l) (spent_all f so) ts y (l - n) (is_ok q) (subst (λ (k : ℕ). Ran k ts x y (l - n) (is_ok q)) (sym g) next.ran))
+
+-- what a part that ran leaves alone
+pub spent_away : {b l : ℕ} {ss : List Store} {e x : List ℕ} {r : Result Unit Stopped} → Spent b l ss e x r → (s : ℕ) → Away ss s → card_of x s ≡ card_of e s
+spent_away {b} {l} {ss} {e} {x} {r} so s a = ran_away b ss e x (b - l) (is_ok r) so.ran s a
+
+-- loops whose turns each run a list of stores
+module _ (st : ℕ → List Store) where
+  pub spends_none : (b : ℕ) (e : List ℕ) → Spent b b (up_to st 0) e e whole
+  spends_none b e = rw (upto_none st) (spent_none b e)
+
+  module _ {b l k : ℕ} {e x y : List ℕ} {n : ℕ} {r : Result Unit Stopped} (so : Spent b l (up_to st k) e x whole) (turn : Spent l n (st k) x y r) where
+    -- a turn that ran whole
+    pub spends_more : {u : Unit} → r ≡ Ok u → Spent b n (up_to st (k + 1)) e y whole
+    spends_more f = rw (upto_step st k) (spent_then refl so (subst (λ (q : Result Unit Stopped). Spent l n (st k) x y q) f turn))
+
+    -- a turn that the limit cut short is the last
+    pub spends_cut : {d : Stopped} → r ≡ Err d → (m : ℕ) → k < m → Spent b n (up_to st m) e y (Err d)
+    spends_cut f m h =
+        let p = upto_split st (k + 1) m (omega arith) in
+        rw (p.1, upto_step st k) (spent_stop f (spent_then refl so turn) p.0)

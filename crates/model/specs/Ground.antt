@@ -1,5 +1,5 @@
 -- The grounds on which a call refuses, and answers that a ground may take the place of.
-use Rattle.std.specs.Prelude.{ℕ, Bool, true, false}
+use Rattle.std.specs.Prelude.{ℕ, Bool, true, false, Result, Ok, Err}
 use Rattle.model.specs.declared.Ground.{Ground}
 
 -- "Grounds, in checking order"; those of later requests have the next numbers, and are asked where the request says.
@@ -28,6 +28,11 @@ ground_number Ground.Size = 19
 pub data Answer (A : Type 0) : Type 0 where
   refused : Ground → Answer A
   granted : A → Answer A
+
+-- The answer that a result of the code tells.
+abbrev pub answer_of : {A : Type 0} → Result A Ground → Answer A
+answer_of (Ok a) = granted a
+answer_of (Err g) = refused g
 
 infix 15 ◌when◌
 infixl 10 ◌>>=◌

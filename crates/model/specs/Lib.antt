@@ -13,6 +13,7 @@ pub mod Record
 pub mod Pending
 pub mod Ground
 pub mod Volume
+pub mod Outcome
 pub mod Text
 pub mod Listing
 pub mod Promises

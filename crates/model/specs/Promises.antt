@@ -1,10 +1,11 @@
 -- Words that contracts use: what a function that reads a number gives, what the layout of a lent window is like, and what a
 -- function that stores does.
-use Rattle.std.specs.Prelude.{ℕ, zero, suc, ◌+◌, ◌*◌, ◌/◌, ◌%◌, ◌^◌, ◌<◌, ◌≤◌, min, ◌≡◌, Bool, List, [], ◌∷◌, ◌++◌, length, take, leb}
+use Rattle.std.specs.Prelude.{ℕ, zero, suc, ◌+◌, ◌-◌, ◌*◌, ◌/◌, ◌%◌, ◌^◌, ◌<◌, ◌≤◌, min, ◌≡◌, Bool, List, [], ◌∷◌, ◌++◌, length, take, leb, Result, is_ok}
 use Rattle.model.specs.Bytes.{Bytes, le}
 use Rattle.model.specs.Sector.{card_of, Store, after}
 use Rattle.model.specs.Record.{operation_records, text_room}
 use Rattle.model.specs.declared.Layout.{Layout}
+use Rattle.model.specs.declared.Stopped.{Stopped}
 use Rattle.model.specs.declared.Operation.{Operation}
 
 -- What holds of all of a list.
@@ -49,6 +50,11 @@ pub record Ran (limit : ℕ) (ss : List Store) (entry exit : List ℕ) (made : �
   pub stores : made ≡ min limit (length ss)
   pub all : whole ≡ leb (length ss) limit
   pub card : card_of exit ≡ after (take limit ss) (card_of entry)
+
+-- The same, where the limit is lent: it has gone down from `before` to `left` by the stores made, and the result tells whether those are all.
+pub record Spent (before left : ℕ) (ss : List Store) (entry exit : List ℕ) (r : Result Unit Stopped) : Type 0 where
+  pub within : left ≤ before
+  pub ran : Ran before ss entry exit (before - left) (is_ok r)
 
 -- A text in whole characters, no more than a sector has room for after its main record; the group of an operation has room for it.
 pub record Texted (xs : List ℕ) : Type 0 where

@@ -26,7 +26,7 @@ pub struct Layout {
 }
 
 // What a FAT value means.
-#[derive(Clone, Copy)]
+#[derive(Clone, Copy, PartialEq, Eq)]
 pub enum Class {
     Free,
     Next,
@@ -51,7 +51,7 @@ pub struct Area {
 }
 
 // A name, as the little-endian numbers in its 8 and its 3 bytes.
-#[derive(Clone, Copy)]
+#[derive(Clone, Copy, PartialEq, Eq)]
 pub struct Name {
     pub stem: u64,
     pub extension: u32,
@@ -143,7 +143,7 @@ pub enum Operation {
 
 // A log record. `count` is the long-name count, `number` the operation's, `high` the high word of first/last cluster, `cluster` its
 // low word, `from` DIR_Cluster.
-#[derive(Clone, Copy)]
+#[derive(Clone, Copy, PartialEq, Eq)]
 pub struct Record {
     pub name: Name,
     pub attributes: u32,
@@ -167,7 +167,7 @@ pub struct Plan {
 }
 
 // What is pending in the log: nothing, records that are no group, or the group in a sector.
-#[derive(Clone, Copy)]
+#[derive(Clone, Copy, PartialEq, Eq)]
 pub enum Pending {
     Nothing,
     Broken,
@@ -182,43 +182,39 @@ pub struct Volume {
     pub pending: Pending,
 }
 
-// The grounds on which a call refuses.
+// The grounds on which a call refuses, by their numbers.
 #[derive(Clone, Copy)]
 pub enum Ground {
-    Short,
-    Boot,
-    Window,
-    Logarea,
-    Root,
-    Record,
-    Unclean,
-    Name,
-    Absent,
-    Directory,
-    Exists,
-    Rootfull,
-    Chain,
-    Length,
-    Nospace,
-    Locked,
-    Longname,
-    Clock,
-    Size,
+    Short = 1,
+    Boot = 2,
+    Window = 3,
+    Logarea = 4,
+    Root = 5,
+    Record = 6,
+    Unclean = 7,
+    Name = 8,
+    Absent = 9,
+    Directory = 10,
+    Exists = 11,
+    Rootfull = 12,
+    Chain = 13,
+    Length = 14,
+    Nospace = 15,
+    Locked = 16,
+    Longname = 17,
+    Clock = 18,
+    Size = 19,
 }
 
-// How a call ends: refused; done, with its count (of stores, of bytes read, of entries) or the cluster that it gives; a no;
+// How a call ends that no ground refuses: done, with its count (of stores, of bytes read, of entries) or the cluster that it gives; a no;
 // or stopped by the limit, with the stores made.
 #[derive(Clone, Copy)]
-pub enum Outcome {
-    Refused(Ground),
+pub enum Ended {
     Done(u32),
     No,
     Stopped(u32),
 }
 
-// How many stores of a list were made, and whether those were all.
+// The limit allows no further store.
 #[derive(Clone, Copy)]
-pub struct Progress {
-    pub made: u32,
-    pub whole: bool,
-}
+pub struct Stopped;

@@ -7,8 +7,7 @@ use lib.Dec.{ltb, leb, eqb}
 use Rattle.model.specs.Bytes.{Bytes, pick}
 use Rattle.model.specs.Sector.{Card, store, put}
 use Rattle.model.specs.Ground.{granted}
-use Rattle.model.specs.declared.Outcome.{Outcome}
-use Rattle.model.specs.declared.Outcome.TheVariants.{Done, No}
+use Rattle.model.specs.Outcome.{Outcome, Done, No}
 use Rattle.operations.specs.Fitting.{fits_on, fit_outcome}
 use Rattle.operations.proofs.Small.{v, blank, appended}
 use Rattle.operations.proofs.Compute.{compute}

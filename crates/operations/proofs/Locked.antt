@@ -7,8 +7,7 @@ use lib.ListN.{replicate}
 use Rattle.model.specs.Bytes.{Bytes, Span, pick, patch}
 use Rattle.model.specs.Sector.{Card, store, put, after}
 use Rattle.model.specs.Ground.{Answer}
-use Rattle.model.specs.declared.Outcome.{Outcome}
-use Rattle.model.specs.declared.Outcome.TheVariants.{Refused, Done}
+use Rattle.model.specs.Outcome.{Outcome, Refused, Done}
 use Rattle.model.specs.declared.Ground.TheVariants as Ground
 use Rattle.operations.specs.Program.{Program, stores}
 use Rattle.operations.specs.Plan.{no_text, create_stores}

@@ -18,7 +18,7 @@ use Rattle.model.specs.declared.Layout.{Layout}
 use Rattle.model.specs.declared.Area.{Area}
 use Rattle.model.specs.declared.Volume.{Volume}
 use Rattle.model.specs.declared.Name.{Name}
-use Rattle.model.specs.declared.Outcome.TheVariants.{Done, Stopped}
+use Rattle.model.specs.Outcome.{Done, Stopped}
 use Rattle.model.specs.declared.Pending.TheVariants as Pending
 use Rattle.model.specs.declared.Ground.TheVariants as Ground
 use Rattle.operations.specs.Program.{Program, stores}

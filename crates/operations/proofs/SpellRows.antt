@@ -11,8 +11,7 @@ use Rattle.model.specs.Scan.{range}
 use Rattle.model.specs.Sector.{Card, Store, store, put, after}
 use Rattle.model.specs.Root.{slot_at}
 use Rattle.model.specs.Ground.{Answer}
-use Rattle.model.specs.declared.Outcome.{Outcome}
-use Rattle.model.specs.declared.Outcome.TheVariants.{Refused, Done}
+use Rattle.model.specs.Outcome.{Outcome, Refused, Done}
 use Rattle.model.specs.declared.Ground.TheVariants as Ground
 use Rattle.operations.specs.Program.{Program, stores}
 use Rattle.operations.specs.Plan.{no_text}

@@ -7,8 +7,7 @@ use Rattle.model.specs.Chain.{needed}
 use Rattle.model.specs.Ground.{Answer, refused, granted, ◌>>=◌}
 use Rattle.model.specs.Volume.{clean}
 use Rattle.model.specs.declared.Volume.{Volume}
-use Rattle.model.specs.declared.Outcome.{Outcome}
-use Rattle.model.specs.declared.Outcome.TheVariants.{Refused, Done, No}
+use Rattle.model.specs.Outcome.{Outcome, Refused, Done, No}
 use Rattle.operations.specs.Plan.{old_fat, last_cluster}
 
 -- A yes gives a cluster.

@@ -3,8 +3,7 @@ use Rattle.std.specs.Prelude.{ℕ, ◌+◌, ◌*◌, List, [], leb, take, length
 use Rattle.model.specs.Bytes.{pick}
 use Rattle.model.specs.Sector.{Window, Store, after}
 use Rattle.model.specs.Ground.{Answer, refused, granted, ground_number}
-use Rattle.model.specs.declared.Outcome.{Outcome}
-use Rattle.model.specs.declared.Outcome.TheVariants.{Refused, Done, No, Stopped}
+use Rattle.model.specs.Outcome.{Outcome, Refused, Done, No, Stopped}
 use Rattle.operations.specs.Program.{Program, stores}
 use Rattle.operations.specs.Calls.{Call, plan}
 

@@ -14,8 +14,7 @@ use Rattle.model.specs.declared.File.{File}
 use Rattle.model.specs.declared.Volume.{Volume}
 use Rattle.model.specs.declared.Access.TheVariants as Access
 use Rattle.model.specs.declared.Ground.TheVariants as Ground
-use Rattle.model.specs.declared.Outcome.{Outcome}
-use Rattle.model.specs.declared.Outcome.TheVariants.{Refused, Done}
+use Rattle.model.specs.Outcome.{Outcome, Refused, Done}
 use Rattle.operations.specs.Plan.{clusters_of}
 use Rattle.operations.specs.Calls.{slot_of, file_of}
 

@@ -25,13 +25,9 @@ fn is_long(w: &[u8], l: Layout, k: u32, sum: u32, order: u32) -> bool
     requires { Held l w.now × (k < l.entries) }
     ensures { result ≡ is_long sum order (slot_at l (card_of w.now) k) }
 {
-    if root_read::slot_byte(w, l, k, 0) != order {
-        return false;
-    }
-    if root_read::slot_byte(w, l, k, 11) != 0x0F {
-        return false;
-    }
-    root_read::slot_byte(w, l, k, 13) == sum
+    root_read::slot_byte(w, l, k, 0) == order
+        && root_read::slot_byte(w, l, k, 11) == 0x0F
+        && root_read::slot_byte(w, l, k, 13) == sum
 }
 
 // How many long entries belong to slot s: it goes back to the one that bears 0x40, over 20 at most.
@@ -39,9 +35,8 @@ pub fn long_count(w: &[u8], l: Layout, s: u32) -> u32
     requires { Held l w.now × (s < l.entries) }
     ensures { result ≡ long_count (slot_at l (card_of w.now)) s }
 {
-    let sum = sector::wide(checksum(w, l, s));
-    let mut i = 1;
-    while i <= root_names::MOST_LONG {
+    let sum = u32::from(checksum(w, l, s));
+    for i in 1..=root_names::MOST_LONG {
         if s < i {
             return 0;
         }
@@ -51,7 +46,6 @@ pub fn long_count(w: &[u8], l: Layout, s: u32) -> u32
         if !is_long(w, l, s - i, sum, i) {
             return 0;
         }
-        i += 1;
     }
     0
 }
@@ -79,27 +73,23 @@ pub fn long_length(w: &[u8], l: Layout, s: u32) -> u32
     ensures { (result ≡ long_length (slot_at l (card_of w.now)) s) × (result ≤ 260) × (result ≤ 13 * s) }
 {
     let n = 13 * long_count(w, l, s);
-    let mut q = 0;
-    while q < n {
+    for q in 0..n {
         if character_at(w, l, s, q) == 0 {
             return q;
         }
-        q += 1;
     }
     n
 }
 
-// Whether the first n of them are those of a text.
-fn has_characters(w: &[u8], l: Layout, s: u32, t: &[u8], n: u32) -> bool
-    requires { Held l w.now × (s < l.entries) × (n ≤ 13 * s) × (2 * n ≤ length t.now) }
-    ensures { result ≡ all (λ q. eqb (long_character (slot_at l (card_of w.now)) s q) (character (bytes_of t.now) q)) n }
+// Whether the first of them, as many as a text has, are the text's.
+fn has_characters(w: &[u8], l: Layout, s: u32, t: &[u8]) -> bool
+    requires { Held l w.now × (s < l.entries) × (length t.now / 2 ≤ 13 * s) }
+    ensures { result ≡ all (λ q. eqb (long_character (slot_at l (card_of w.now)) s q) (character (bytes_of t.now) q)) (length t.now / 2) }
 {
-    let mut q = 0;
-    while q < n {
-        if character_at(w, l, s, q) != root_names::character(t, sector::index(q)) {
+    for q in 0..t.len() / 2 {
+        if character_at(w, l, s, q as u32) != root_names::character(t, q) {
             return false;
         }
-        q += 1;
     }
     true
 }
@@ -109,14 +99,9 @@ fn has_text(w: &[u8], l: Layout, s: u32, t: &[u8]) -> bool
     requires { Held l w.now × (s < l.entries) }
     ensures { result ≡ has_text (view t.now) (slot_at l (card_of w.now)) s }
 {
-    if !root_read::is_listed(w, l, s) {
-        return false;
-    }
-    let n = long_length(w, l, s);
-    if sector::index(n) != t.len() / 2 {
-        return false;
-    }
-    has_characters(w, l, s, t, n)
+    root_read::is_listed(w, l, s)
+        && long_length(w, l, s) as usize == t.len() / 2
+        && has_characters(w, l, s, t)
 }
 
 // The lowest slot with a text as its long name; the number of slots where there is none.
@@ -124,17 +109,5 @@ pub fn find_text(w: &[u8], l: Layout, t: &[u8]) -> u32
     requires { Held l w.now }
     ensures { (result ≡ find_text l (card_of w.now) (view t.now)) × (result ≤ l.entries) }
 {
-    let n = l.entries;
-    let mut k = 0;
-    while k < n {
-        if root_read::is_blank(w, l, k) {
-            k += 16;
-            continue;
-        }
-        if has_text(w, l, k, t) {
-            return k;
-        }
-        k += 1;
-    }
-    n
+    root_read::seek(w, l, 0, |k| has_text(w, l, k, t))
 }

@@ -1,4 +1,4 @@
--- Files that were found by name, and what they are like; the slot for a new name.
+-- What files are like that were found by name; the slot for a new name.
 use Rattle.std.specs.Prelude.{ℕ, ◌+◌, ◌-◌, ◌<◌, ◌≡◌, true, ltb}
 use Rattle.model.specs.Bytes.{pick}
 use Rattle.model.specs.Sector.{Card}
@@ -10,14 +10,6 @@ use Rattle.model.specs.declared.File.{File}
 use Rattle.model.specs.declared.Layout.{Layout}
 use Rattle.model.specs.declared.Volume.{Volume}
 use Rattle.model.specs.declared.Ground.TheVariants as Ground
-use Rattle.root_lookup.specs.declared.Found.{Found}
-use Rattle.root_lookup.specs.declared.Found.TheVariants.{Missing, At}
-use Rattle.root_lookup.specs.declared.Vacancy.{Vacancy}
-use Rattle.root_lookup.specs.declared.Vacancy.TheVariants.{Denied, Slot}
-
-abbrev pub found_of : Found → Answer File
-found_of (Missing g) = refused g
-found_of (At f) = granted f
 
 -- The file is the one in its slot.
 pub record Seated (v : Volume) (c : Card) (f : File) : Type 0 where
@@ -28,24 +20,6 @@ pub record Seated (v : Volume) (c : Card) (f : File) : Type 0 where
 pub record Chained (v : Volume) (c : Card) (f : File) : Type 0 where
   pub seated : Seated v c f
   pub chain : keeps_chain v.layout (entry (fat1_of v.layout c)) f.first f.size ≡ true
-
--- So is each that is given; and each that is given with the chain rule asked keeps it.
-abbrev pub Sits : Volume → Card → Found → Type 0
-Sits v c (Missing g) = Unit {0}
-Sits v c (At f) = Seated v c f
-
-abbrev pub Opens : Volume → Card → Found → Type 0
-Opens v c (Missing g) = Unit {0}
-Opens v c (At f) = Chained v c f
-
-abbrev pub vacancy_of : Vacancy → Answer ℕ
-vacancy_of (Denied g) = refused g
-vacancy_of (Slot s) = granted s
-
--- A slot that is given is one of n.
-abbrev pub Below : ℕ → Vacancy → Type 0
-Below n (Denied g) = Unit {0}
-Below n (Slot s) = s < n
 
 -- The last slot of the lowest run of n + 1 free ones, or ROOTFULL.
 unfoldable pub run_answer : Layout → Card → ℕ → Answer ℕ

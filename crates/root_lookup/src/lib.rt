@@ -1,31 +1,19 @@
 // Files by name: grounds 8 to 13, and 16.
 #![tactic(auto)]
 
-ghost use Rattle.std.specs.Prelude.{◌≡◌, true, ◌*◌, ◌≤◌, length};
+ghost use Rattle.std.specs.Prelude.{◌≡◌, true, ◌*◌, ◌≤◌, ◌<◌, length};
+ghost use Rattle.std.specs.Result.{IfOk};
 ghost use Rattle.model.specs.Bytes.{view};
 ghost use Rattle.model.specs.Sector.{card_of};
 ghost use Rattle.model.specs.Root.{name_ok, slot_holds, lookup};
 ghost use Rattle.model.specs.LongName.{most_characters};
 ghost use Rattle.model.specs.declared.Lookup.TheVariants as Lookup;
 ghost use Rattle.model.specs.Promises.{Held};
+ghost use Rattle.model.specs.Ground.{answer_of};
 ghost use Rattle.operations.specs.Calls.{name_of, slot_of, admit, file_named, whole, file_of, taken, text_taken, new_slot};
-ghost use Rattle.root_lookup.specs.Found.{found_of, Seated, Sits, Opens, vacancy_of, Below, run_answer};
+ghost use Rattle.root_lookup.specs.Found.{Seated, Chained, run_answer};
 
 use model::{Access, File, Ground, Layout, Lookup, Volume};
-
-// A file, or the ground on which there is none.
-#[derive(Clone, Copy)]
-pub enum Found {
-    Missing(Ground),
-    At(File),
-}
-
-// A free slot, or the ground on which there is none.
-#[derive(Clone, Copy)]
-pub enum Vacancy {
-    Denied(Ground),
-    Slot(u32),
-}
 
 // The slot that a name means; as many as there are slots where none has it.
 pub fn slot_of(w: &[u8], v: Volume, name: &[u8]) -> u32
@@ -62,64 +50,60 @@ fn look_up(w: &[u8], v: Volume, name: &[u8]) -> Lookup
 }
 
 // LOCKED, if the file is to be changed.
-fn ask_mark(a: Access, f: File, locked: bool) -> Found
-    ensures { found_of result ≡ admit a (Lookup.File f locked) }
+fn ask_mark(a: Access, f: File, locked: bool) -> Result<File, Ground>
+    ensures { answer_of result ≡ admit a (Lookup.File f locked) }
 {
     match a {
-        Access::Read => Found::At(f),
-        Access::Write => {
-            if locked {
-                return Found::Missing(Ground::Locked);
-            }
-            Found::At(f)
-        }
+        Access::Write if locked => Err(Ground::Locked),
+        Access::Write => Ok(f),
+        Access::Read => Ok(f),
     }
 }
 
 // ABSENT, DIRECTORY and LOCKED.
-fn admit(a: Access, o: Lookup) -> Found
-    ensures { found_of result ≡ admit a o }
+fn admit(a: Access, o: Lookup) -> Result<File, Ground>
+    ensures { answer_of result ≡ admit a o }
 {
     match o {
-        Lookup::Absent => Found::Missing(Ground::Absent),
-        Lookup::Directory => Found::Missing(Ground::Directory),
+        Lookup::Absent => Err(Ground::Absent),
+        Lookup::Directory => Err(Ground::Directory),
         Lookup::File { file, locked } => ask_mark(a, file, locked),
     }
 }
 
 // The file that a name means, for reading or for writing.
-pub fn file_named(w: &[u8], v: Volume, a: Access, name: &[u8]) -> Found
+pub fn file_named(w: &[u8], v: Volume, a: Access, name: &[u8]) -> Result<File, Ground>
     requires { Held v.layout w.now × (name_ok (view name.now) ≡ true) }
-    ensures { (found_of result ≡ file_named a v (card_of w.now) (view name.now)) × Sits v (card_of w.now) result }
+    ensures answer { answer_of result ≡ file_named a v (card_of w.now) (view name.now) }
+    ensures seated { IfOk result (Seated v (card_of w.now)) }
 {
     admit(a, look_up(w, v, name))
 }
 
 // CHAIN.
-fn keep_whole(w: &[u8], v: Volume, f: File) -> Found
+fn keep_whole(w: &[u8], v: Volume, f: File) -> Result<File, Ground>
     requires { Held v.layout w.now × Seated v (card_of w.now) f }
-    ensures { (found_of result ≡ whole v (card_of w.now) f) × Opens v (card_of w.now) result }
+    ensures answer { answer_of result ≡ whole v (card_of w.now) f }
+    ensures chained { IfOk result (Chained v (card_of w.now)) }
 {
     let l = v.layout;
     if !fat_chain::keeps(w, l, f.first, f.size) {
-        return Found::Missing(Ground::Chain);
+        return Err(Ground::Chain);
     }
-    Found::At(f)
+    Ok(f)
 }
 
 // The file that a name means, with NAME asked before and CHAIN after.
-pub fn file_of(w: &[u8], v: Volume, a: Access, name: &[u8]) -> Found
+pub fn file_of(w: &[u8], v: Volume, a: Access, name: &[u8]) -> Result<File, Ground>
     requires { Held v.layout w.now }
-    ensures { (found_of result ≡ file_of a v (card_of w.now) (view name.now)) × Opens v (card_of w.now) result }
+    ensures answer { answer_of result ≡ file_of a v (card_of w.now) (view name.now) }
+    ensures chained { IfOk result (Chained v (card_of w.now)) }
 {
     if !root_names::is_name(name) {
-        return Found::Missing(Ground::Name);
+        return Err(Ground::Name);
     }
-    let o = file_named(w, v, a, name);
-    match o {
-        Found::Missing(g) => Found::Missing(g),
-        Found::At(f) => keep_whole(w, v, f),
-    }
+    let f = file_named(w, v, a, name)?;
+    keep_whole(w, v, f)
 }
 
 // EXISTS.
@@ -135,35 +119,31 @@ fn is_text_taken(w: &[u8], v: Volume, text: &[u8]) -> bool
     requires { Held v.layout w.now }
     ensures { result ≡ text_taken v (card_of w.now) (view text.now) }
 {
-    if text.len() == 0 {
-        return false;
-    }
     let l = v.layout;
-    root_long::find_text(w, l, text) < l.entries
+    !text.is_empty() && root_long::find_text(w, l, text) < l.entries
 }
 
 // ROOTFULL: the last slot of the lowest run of n + 1 free ones.
-fn free_end(w: &[u8], l: Layout, n: u32) -> Vacancy
+fn free_end(w: &[u8], l: Layout, n: u32) -> Result<u32, Ground>
     requires { Held l w.now × (n ≤ 16) }
-    ensures { (vacancy_of result ≡ run_answer l (card_of w.now) n) × Below l.entries result }
+    ensures answer { answer_of result ≡ run_answer l (card_of w.now) n }
+    ensures inside { IfOk result (λ s. s < l.entries) }
 {
     let s = root_read::free_run(w, l, n + 1);
     if s + n < l.entries {
-        return Vacancy::Slot(s + n);
+        return Ok(s + n);
     }
-    Vacancy::Denied(Ground::Rootfull)
+    Err(Ground::Rootfull)
 }
 
 // EXISTS and ROOTFULL: the slot for a new name with a text.
-pub fn new_slot(w: &[u8], v: Volume, name: &[u8], text: &[u8]) -> Vacancy
+pub fn new_slot(w: &[u8], v: Volume, name: &[u8], text: &[u8]) -> Result<u32, Ground>
     requires { Held v.layout w.now × (name_ok (view name.now) ≡ true) × (length text.now ≤ 2 * most_characters) }
-    ensures { (vacancy_of result ≡ new_slot v (card_of w.now) (view name.now) (view text.now)) × Below v.layout.entries result }
+    ensures answer { answer_of result ≡ new_slot v (card_of w.now) (view name.now) (view text.now) }
+    ensures inside { IfOk result (λ s. s < v.layout.entries) }
 {
-    if is_taken(w, v, name) {
-        return Vacancy::Denied(Ground::Exists);
-    }
-    if is_text_taken(w, v, text) {
-        return Vacancy::Denied(Ground::Exists);
+    if is_taken(w, v, name) || is_text_taken(w, v, text) {
+        return Err(Ground::Exists);
     }
     let l = v.layout;
     free_end(w, l, root_names::long_slots((text.len() / 2) as u32))

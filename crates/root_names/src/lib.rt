@@ -5,7 +5,7 @@ ghost use Rattle.std.specs.Prelude.{◌≡◌, ℕ, ◌+◌, ◌*◌, ◌%◌, �
 ghost use Rattle.model.specs.Bytes.{bytes_of, part, view};
 ghost use Rattle.model.specs.Scan.{any, among};
 ghost use Rattle.model.specs.Sector.{card_of};
-ghost use Rattle.model.specs.Long.{name_slots, turned, checksum};
+ghost use Rattle.model.specs.Long.{name_slots, checksum};
 ghost use Rattle.model.specs.Record.{text_room, text_length};
 ghost use Rattle.model.specs.Pending.{named_slots};
 ghost use Rattle.model.specs.LongName.{place, character, forbidden, all_allowed, long_slots, text_ok};
@@ -26,11 +26,10 @@ pub const PLACES: [u32; 13] = [1, 3, 5, 7, 9, 14, 16, 18, 20, 22, 24, 28, 30];
 fn name_byte(b: u8) -> bool
     ensures { result ≡ name_byte b }
 {
-    match b {
-        b'A'..=b'Z' | b'0'..=b'9' => true,
-        b'!' | b'#'..=b')' | b'-' | b'@' | b'^'..=b'`' | b'{' | b'}' | b'~' => true,
-        _ => false,
-    }
+    matches!(
+        b,
+        b'A'..=b'Z' | b'0'..=b'9' | b'!' | b'#'..=b')' | b'-' | b'@' | b'^'..=b'`' | b'{' | b'}' | b'~'
+    )
 }
 
 // How many name bytes the n bytes from `at` on begin with.
@@ -38,12 +37,10 @@ fn stem_length(s: &[u8], at: usize, n: usize) -> usize
     requires { at + n ≤ length s.now }
     ensures { (result ≡ stem_length n (part (bytes_of s.now) at)) × (result ≤ n) }
 {
-    let mut i = 0;
-    while i < n {
+    for i in 0..n {
         if !name_byte(s[at + i]) {
             return i;
         }
-        i += 1;
     }
     n
 }
@@ -53,12 +50,10 @@ fn is_padded(s: &[u8], at: usize, n: usize) -> bool
     requires { at + n ≤ length s.now }
     ensures { result ≡ padded n (part (bytes_of s.now) at) }
 {
-    let mut i = stem_length(s, at, n);
-    while i < n {
+    for i in stem_length(s, at, n)..n {
         if s[at + i] != b' ' {
             return false;
         }
-        i += 1;
     }
     true
 }
@@ -67,16 +62,7 @@ fn is_padded(s: &[u8], at: usize, n: usize) -> bool
 pub fn is_name(s: &[u8]) -> bool
     ensures { result ≡ name_ok (view s.now) }
 {
-    if s.len() != 11 {
-        return false;
-    }
-    if !is_padded(s, 0, 8) {
-        return false;
-    }
-    if !is_padded(s, 8, 3) {
-        return false;
-    }
-    s[0] != b' '
+    s.len() == 11 && is_padded(s, 0, 8) && is_padded(s, 8, 3) && s[0] != b' '
 }
 
 // The name in the 11 bytes of sector s from j on.
@@ -84,9 +70,10 @@ pub fn name_at(w: &[u8], s: u32, j: u32) -> Name
     requires { (512 * s + (j + 11) ≤ length w.now) × (j + 11 ≤ 512) }
     ensures { result ≡ name_in (part (card_of w.now s) j) }
 {
-    let stem = sector::le64(w, s, j);
-    let extension = sector::le24(w, s, j + 8);
-    Name { stem, extension }
+    Name {
+        stem: sector::le64(w, s, j),
+        extension: sector::le::<3>(w, s, j + 8),
+    }
 }
 
 // The name in the first 11 bytes of a slice.
@@ -101,10 +88,7 @@ pub fn name_of(s: &[u8]) -> Name
 pub fn has_slot(s: u32, n: u32, k: u32) -> bool
     ensures { result ≡ among (name_slots s n) k }
 {
-    if s < k {
-        return false;
-    }
-    s - k <= n
+    k <= s && s - k <= n
 }
 
 // The slots that an operation names: slot `slot` of a name, the `count` before it, and slot `to`, which is the same one where there is no other.
@@ -131,50 +115,22 @@ pub fn slots_of(o: Operation) -> NamedSlots
     ensures { (q : ℕ → Bool) → any (map q (named_slots o)) ≡ (any (map q (name_slots result.slot result.count)) || q result.to) }
 {
     match o {
-        Operation::Create {
-            entry,
-            count,
-            stamp: _,
-        } => one_name(entry.slot, count),
-        Operation::Update {
-            entry,
-            last: _,
-            from: _,
-            size: _,
-            stamp: _,
-        } => one_name(entry.slot, 0),
-        Operation::Delete {
-            entry,
-            count,
-            first: _,
-            size: _,
-        } => one_name(entry.slot, count),
-        Operation::Truncate {
-            entry,
-            first: _,
-            from: _,
-            size: _,
-            stamp: _,
-        } => one_name(entry.slot, 0),
+        Operation::Create { entry, count, .. } | Operation::Delete { entry, count, .. } => {
+            one_name(entry.slot, count)
+        }
+        Operation::Update { entry, .. }
+        | Operation::Truncate { entry, .. }
+        | Operation::Replace { entry, .. } => one_name(entry.slot, 0),
         Operation::Rename {
             entry,
             count,
-            first: _,
-            size: _,
             to,
-            renamed: _,
+            ..
         } => NamedSlots {
             slot: entry.slot,
             count,
             to,
         },
-        Operation::Replace {
-            entry,
-            first: _,
-            from: _,
-            size: _,
-            stamp: _,
-        } => one_name(entry.slot, 0),
     }
 }
 
@@ -182,11 +138,8 @@ pub fn slots_of(o: Operation) -> NamedSlots
 pub fn names(o: Operation, k: u32) -> bool
     ensures { result ≡ among (named_slots o) k }
 {
-    let a = slots_of(o);
-    if has_slot(a.slot, a.count, k) {
-        return true;
-    }
-    k == a.to
+    let named = slots_of(o);
+    has_slot(named.slot, named.count, k) || k == named.to
 }
 
 // Where a long entry has character k of its thirteen.
@@ -194,7 +147,7 @@ pub fn place(k: u32) -> u32
     requires { k < 13 }
     ensures { (result ≡ place k) × (1 ≤ result) × (result ≤ 30) }
 {
-    PLACES[sector::index(k)]
+    PLACES[k as usize]
 }
 
 // Character q of a text.
@@ -202,17 +155,14 @@ pub fn character(t: &[u8], q: usize) -> u32
     requires { 2 * q + 2 ≤ length t.now }
     ensures { (result ≡ character (bytes_of t.now) q) × (result < 65536) }
 {
-    sector::wide(t[2 * q]) + 256 * sector::wide(t[2 * q + 1])
+    u32::from(t[2 * q]) + 256 * u32::from(t[2 * q + 1])
 }
 
 // Those below 32 and " * / : < > ? \ |
 fn is_forbidden(c: u32) -> bool
     ensures { result ≡ forbidden c }
 {
-    match c {
-        0..=31 | 34 | 42 | 47 | 58 | 60 | 62..=63 | 92 | 124 => true,
-        _ => false,
-    }
+    matches!(c, 0..=31 | 34 | 42 | 47 | 58 | 60 | 62..=63 | 92 | 124)
 }
 
 // Whether none of the first n characters is.
@@ -220,21 +170,12 @@ pub fn all_allowed(t: &[u8], n: usize) -> bool
     requires { 2 * n ≤ length t.now }
     ensures { result ≡ all_allowed (bytes_of t.now) n }
 {
-    let mut q = 0;
-    while q < n {
+    for q in 0..n {
         if is_forbidden(character(t, q)) {
             return false;
         }
-        q += 1;
     }
     true
-}
-
-// A sum turned right by one bit.
-fn turn(sum: u8) -> u8
-    ensures { result ≡ turned sum }
-{
-    sum / 2 + 128 * (sum % 2)
 }
 
 // The checksum of the name in the 11 bytes from `at` on.
@@ -242,12 +183,9 @@ pub fn checksum(s: &[u8], at: usize) -> u8
     requires { at + 11 ≤ length s.now }
     ensures { result ≡ checksum (part (bytes_of s.now) at) }
 {
-    let mut sum = 0;
-    let mut i = 0;
-    while i < 11 {
-        let b = s[at + i];
-        sum = std::num::wrapping_add_u8(turn(sum), b);
-        i += 1;
+    let mut sum = 0u8;
+    for i in 0..11 {
+        sum = sum.rotate_right(1).wrapping_add(s[at + i]);
     }
     sum
 }
@@ -266,12 +204,10 @@ pub fn text_length(t: &[u8]) -> u32
     ensures { (result ≡ text_length (bytes_of t.now)) × (2 * result ≤ length t.now) }
 {
     let n = (t.len() / 2) as u32;
-    let mut q = 0;
-    while q < n {
-        if character(t, sector::index(q)) == 0 {
+    for q in 0..n {
+        if character(t, q as usize) == 0 {
             return q;
         }
-        q += 1;
     }
     n
 }
@@ -280,15 +216,6 @@ pub fn text_length(t: &[u8]) -> u32
 pub fn is_text(t: &[u8]) -> bool
     ensures { result ≡ text_ok (view t.now) }
 {
-    if t.len() % 2 != 0 {
-        return false;
-    }
     let n = t.len() / 2;
-    if n < 1 {
-        return false;
-    }
-    if MOST_CHARACTERS < n {
-        return false;
-    }
-    all_allowed(t, n)
+    t.len() % 2 == 0 && 1 <= n && n <= MOST_CHARACTERS && all_allowed(t, n)
 }

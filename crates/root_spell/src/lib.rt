@@ -16,28 +16,28 @@ fn spelled(t: &[u8], n: u32, q: u32) -> u32
     ensures { result ≡ spelled (bytes_of t.now) n q }
 {
     if q < n {
-        return root_names::character(t, sector::index(q));
+        root_names::character(t, q as usize)
+    } else if q == n {
+        0
+    } else {
+        0xFFFF
     }
-    if q == n {
-        return 0;
-    }
-    0xFFFF
 }
 
 // The thirteen places of an entry, filled from character q on.
-fn fill(b: [u8; 32], t: &[u8], n: u32, q: u32) -> [u8; 32]
+fn fill(mut b: [u8; 32], t: &[u8], n: u32, q: u32) -> [u8; 32]
     requires { (2 * n ≤ length t.now) × (q < 1000000) }
     ensures { bytes_of result ≡ fill (λ k. spelled (bytes_of t.now) n (q + k)) (bytes_of b) 13 }
 {
-    let mut out = b;
-    let mut k = 0;
-    while k < 13 {
-        let c = spelled(t, n, q + k);
-        let more = sector_build::set(out, sector::index(root_names::place(k)), 2, c);
-        out = more;
-        k += 1;
+    for k in 0..13 {
+        sector_build::put(
+            &mut b,
+            root_names::place(k) as usize,
+            2,
+            u64::from(spelled(t, n, q + k)),
+        );
     }
-    out
+    b
 }
 
 // The first byte of entry i of n: the last bears 0x40.
@@ -45,10 +45,7 @@ fn order_byte(n: u32, i: u32) -> u32
     requires { i < 65536 }
     ensures { result ≡ order_byte n i }
 {
-    if i == n {
-        return 0x40 + i;
-    }
-    i
+    if i == n { 0x40 + i } else { i }
 }
 
 // Entry i of the long name that is a text of n characters, for a name with this checksum.
@@ -56,10 +53,10 @@ fn name_entry(sum: u32, t: &[u8], n: u32, i: u32) -> [u8; 32]
     requires { (2 * n ≤ length t.now) × (n < 65536) × (1 ≤ i) × (i < 65536) }
     ensures { bytes_of result ≡ name_entry sum (bytes_of t.now) n i }
 {
-    let a = sector_build::set([0u8; 32], 13, 1, sum);
-    let b = sector_build::set(a, 11, 1, 0x0F);
-    let c = sector_build::set(b, 0, 1, order_byte(root_names::long_slots(n), i));
-    fill(c, t, n, 13 * (i - 1))
+    let b = sector_build::set([0u8; 32], 13, 1, sum);
+    let b = sector_build::set(b, 11, 1, 0x0F);
+    let b = sector_build::set(b, 0, 1, order_byte(root_names::long_slots(n), i));
+    fill(b, t, n, 13 * (i - 1))
 }
 
 // Slot k of a new name: its own, or one of those before it.
@@ -67,11 +64,10 @@ pub fn name_slot(e: Entry, stamp: u32, t: &[u8], k: u32) -> [u8; 32]
     requires { (length t.now % 2 ≡ 0) × (length t.now ≤ text_room) × (k ≤ e.slot) × (e.slot < 65536) }
     ensures { bytes_of result ≡ name_slot e stamp (bytes_of t.now) k }
 {
-    let b = sector_build::new_entry(e.name, stamp);
+    let own = sector_build::new_entry(e.name, stamp);
     if k == e.slot {
-        return b;
+        return own;
     }
-    let sum = sector::wide(root_names::checksum(&b, 0));
-    let n = root_names::text_length(t);
-    name_entry(sum, t, n, e.slot - k)
+    let sum = u32::from(root_names::checksum(&own, 0));
+    name_entry(sum, t, root_names::text_length(t), e.slot - k)
 }

@@ -13,10 +13,12 @@ use Rattle.model.specs.Sector.{Card, Store, card_of, clip}
 use Rattle.model.specs.Root.{Directory, root_place, slot_at}
 use Rattle.model.specs.Record.{Change, with_text}
 use Rattle.model.specs.Pending.{named_slots}
-use Rattle.model.specs.Promises.{Ran, up_to}
+use Rattle.std.proofs.Common.{Ok}
+use Rattle.model.specs.Promises.{Spent, up_to}
 use Rattle.model.specs.declared.Layout.{Layout}
 use Rattle.model.specs.declared.Name.{Name}
 use Rattle.model.specs.declared.Entry.{Entry}
+use Rattle.model.specs.declared.Operation.{Operation}
 use Rattle.model.specs.declared.Operation.TheVariants.{Create, Update, Delete, Truncate, Rename, Replace}
 use borrow.Author.Tests.{eq-eqb, ne_eqb}
 use Rattle.model.proofs.Tests.{less?, same?, clash}
@@ -25,7 +27,7 @@ use Rattle.model.proofs.All.{All, all_later}
 use Rattle.model.proofs.Cards.{store_same, put_case, clip_clip}
 use Rattle.model.proofs.Changes.{Keeps, after_keeps}
 use Rattle.model.proofs.Overlays.{overlay_in, overlay_below}
-use Rattle.model.proofs.Runs.{ran_card}
+use Rattle.model.proofs.Runs.{spent_card}
 use Rattle.model.proofs.Turns.{map_indices, upto_all}
 use Rattle.operations.specs.Finish.{Edit, edit, edit_from, set_slots, each, marks, name_slot, operation_edits, edits, Slots, effect, set_name, mark_deleted}
 use Rattle.operations.specs.Finish.{set_stamp, root_sector, concerns, root_stores}
@@ -65,65 +67,67 @@ unfolding name_slots any
 own_slot s k h = ⊎_elim (λ e. e) (λ ne. clash h (rw (ne_eqb k s ne))) (same? k s)
 
 -- One that it names, of which the change makes r; b was loaded.
-module _ (t : Bytes) (d : Directory) (k : ℕ) (b r : Bytes) (same : (j : ℕ) → j < 32 → b j ≡ d k j) where
-  pub in_create : (e : Entry) (count stamp : ℕ) → among (named_slots (Create e count stamp)) k ≡ true → r ≡ name_slot e stamp t k
-      → (j : ℕ) → j < 32 → r j ≡ effect (with_text (Create e count stamp) t) d k j
+module _ (o : Operation) (t : Bytes) (d : Directory) (k : ℕ) (b r : Bytes) (same : (j : ℕ) → j < 32 → b j ≡ d k j)
+    (named : among (named_slots o) k ≡ true) where
+  abbrev Made : Type 0
+  Made = (j : ℕ) → j < 32 → r j ≡ effect (with_text o t) d k j
+
+  pub in_create : {e : Entry} {count stamp : ℕ} → o ≡ Create e count stamp → r ≡ name_slot e stamp t k → Made
   unfolding effect edits operation_edits named_slots
-  in_create e count stamp h is j s = (λ i. is i j) ∙ sym (λ i. only_in (λ k b. name_slot e stamp t k) (name_slots e.slot count) d k h i j)
+  in_create {e} {count} {stamp} at is j s =
+      (λ i. is i j) ∙ sym (rw at (λ i. only_in (λ k b. name_slot e stamp t k) (name_slots e.slot count) d k (rw at at named) i j))
 
   -- An edit of its own bytes alone.
-  made : (x : Change) (s : ℕ) (f : Bytes → Bytes) → edits x ≡ edit s f ∷ [] → ((j : ℕ) → Edits.Laid f j) → k ≡ s → r ≡ f b
-      → (j : ℕ) → j < 32 → r j ≡ effect x d k j
+  made : (s : ℕ) (f : Bytes → Bytes) → edits (with_text o t) ≡ edit s f ∷ [] → ((j : ℕ) → Edits.Laid f j) → k ≡ s → r ≡ f b → Made
   unfolding effect
-  made x s f e laid at is j small = (λ i. is i j) ∙ own_made s f [] d k j b at (laid j) (same j small) ∙ ap (λ es. set_slots es d k j) (sym e)
+  made s f e laid at is j small = (λ i. is i j) ∙ own_made s f [] d k j b at (laid j) (same j small) ∙ ap (λ es. set_slots es d k j) (sym e)
 
-  pub in_update : (e : Entry) (last from size stamp : ℕ) → among (named_slots (Update e last from size stamp)) k ≡ true
-      → r ≡ set_stamp stamp (resized b (eqb last 0) from size)
-      → (j : ℕ) → j < 32 → r j ≡ effect (with_text (Update e last from size stamp) t) d k j
+  pub in_update : {e : Entry} {last from size stamp : ℕ} → o ≡ Update e last from size stamp → r ≡ set_stamp stamp (resized b (eqb last 0) from size) → Made
   unfolding edits operation_edits named_slots
-  in_update e last from size stamp h is =
-      made _ e.slot (λ x. set_stamp stamp (resized x (eqb last 0) from size)) refl (laid_resized (eqb last 0) from size stamp) (own_slot e.slot k h) is
+  in_update {e} {last} {from} {size} {stamp} at is =
+      made e.slot (λ x. set_stamp stamp (resized x (eqb last 0) from size)) (rw at) (laid_resized (eqb last 0) from size stamp)
+      (own_slot e.slot k (rw at at named)) is
 
-  pub in_truncate : (e : Entry) (first from size stamp : ℕ) → among (named_slots (Truncate e first from size stamp)) k ≡ true
-      → r ≡ set_stamp stamp (resized b (eqb size 0) 0 size)
-      → (j : ℕ) → j < 32 → r j ≡ effect (with_text (Truncate e first from size stamp) t) d k j
+  pub in_truncate : {e : Entry} {first from size stamp : ℕ} → o ≡ Truncate e first from size stamp
+      → r ≡ set_stamp stamp (resized b (eqb size 0) 0 size) → Made
   unfolding edits operation_edits named_slots
-  in_truncate e first from size stamp h is =
-      made _ e.slot (λ x. set_stamp stamp (resized x (eqb size 0) 0 size)) refl (laid_resized (eqb size 0) 0 size stamp) (own_slot e.slot k h) is
+  in_truncate {e} {first} {from} {size} {stamp} at is =
+      made e.slot (λ x. set_stamp stamp (resized x (eqb size 0) 0 size)) (rw at) (laid_resized (eqb size 0) 0 size stamp)
+      (own_slot e.slot k (rw at at named)) is
 
-  pub in_replace : (e : Entry) (first from size stamp : ℕ) → among (named_slots (Replace e first from size stamp)) k ≡ true
-      → r ≡ set_stamp stamp (resized b true from size)
-      → (j : ℕ) → j < 32 → r j ≡ effect (with_text (Replace e first from size stamp) t) d k j
+  pub in_replace : {e : Entry} {first from size stamp : ℕ} → o ≡ Replace e first from size stamp
+      → r ≡ set_stamp stamp (resized b true from size) → Made
   unfolding edits operation_edits named_slots
-  in_replace e first from size stamp h is =
-      made _ e.slot (λ x. set_stamp stamp (resized x true from size)) refl (laid_resized true from size stamp) (own_slot e.slot k h) is
+  in_replace {e} {first} {from} {size} {stamp} at is =
+      made e.slot (λ x. set_stamp stamp (resized x true from size)) (rw at) (laid_resized true from size stamp) (own_slot e.slot k (rw at at named)) is
 
   -- A slot that is marked as deleted.
   deleted : r ≡ mark_deleted b → (j : ℕ) → j < 32 → r j ≡ mark_deleted (d k) j
   deleted is j s = (λ i. is i j) ∙ laid_local (λ x. mark_deleted x) j (laid_mark j) (d k) b (same j s)
 
-  pub in_delete : (e : Entry) (count first size : ℕ) → among (named_slots (Delete e count first size)) k ≡ true → r ≡ mark_deleted b
-      → (j : ℕ) → j < 32 → r j ≡ effect (with_text (Delete e count first size) t) d k j
+  pub in_delete : {e : Entry} {count first size : ℕ} → o ≡ Delete e count first size → r ≡ mark_deleted b → Made
   unfolding effect edits operation_edits named_slots
-  in_delete e count first size h is j s = deleted is j s ∙ sym (λ i. only_in (λ k x. mark_deleted x) (name_slots e.slot count) d k h i j)
+  in_delete {e} {count} at is j s =
+      deleted is j s ∙ sym (rw at (λ i. only_in (λ k x. mark_deleted x) (name_slots e.slot count) d k (rw at at named) i j))
 
-  pub in_rename : (e : Entry) (count first size to : ℕ) (renamed : Name) → among (name_slots e.slot count) k ≡ true → r ≡ mark_deleted b
-      → (j : ℕ) → j < 32 → r j ≡ effect (with_text (Rename e count first size to renamed) t) d k j
+  pub in_rename : {e : Entry} {count first size to : ℕ} {renamed : Name} → o ≡ Rename e count first size to renamed
+      → among (name_slots e.slot count) k ≡ true → r ≡ mark_deleted b → Made
   unfolding effect edits operation_edits
-  in_rename e count first size to renamed h is j s =
-      deleted is j s ∙ sym (λ i. each_in (λ k x. mark_deleted x) (edit_from e.slot to (λ x. set_name renamed x) ∷ []) (name_slots e.slot count) d k h i j)
+  in_rename {e} {count} {to = to} {renamed} at h is j s =
+      deleted is j s
+      ∙ sym (rw at (λ i. each_in (λ k x. mark_deleted x) (edit_from e.slot to (λ x. set_name renamed x) ∷ []) (name_slots e.slot count) d k h i j))
 
 -- A rename's new slot, made of the old one's bytes.
-pub in_renamed : (t : Bytes) (d : Directory) (k : ℕ) (e : Entry) (count first size to : ℕ) (renamed : Name) (b r : Bytes)
-    → ((j : ℕ) → j < 32 → b j ≡ d e.slot j) → among (named_slots (Rename e count first size to renamed)) k ≡ true
+pub in_renamed : (t : Bytes) (d : Directory) (k : ℕ) (b r : Bytes) {o : Operation} {e : Entry} {count first size to : ℕ} {renamed : Name}
+    → ((j : ℕ) → j < 32 → b j ≡ d e.slot j) → among (named_slots o) k ≡ true → o ≡ Rename e count first size to renamed
     → among (name_slots e.slot count) k ≡ false → r ≡ set_name renamed b
-    → (j : ℕ) → j < 32 → r j ≡ effect (with_text (Rename e count first size to renamed) t) d k j
+    → (j : ℕ) → j < 32 → r j ≡ effect (with_text o t) d k j
 unfolding effect edits operation_edits named_slots
-in_renamed t d k e count first size to renamed b r same on off is j s =
+in_renamed t d k b r {o} {e} {count} {to = to} {renamed} same on is off made j s =
     let named : Edit = edit_from e.slot to (λ x. set_name renamed x) in
-    let at : k ≡ to = ⊎_elim (λ h. clash h off) (λ q. q) (either_among (name_slots e.slot count) to k on) in
-    ap (λ (x : Bytes). x j) is ∙ edit_made named [] d k j b at (laid_name renamed j) (same j s)
-    ∙ sym (λ i. each_out (λ k x. mark_deleted x) (named ∷ []) (name_slots e.slot count) d k off i j)
+    let at : k ≡ to = ⊎_elim (λ h. clash h off) (λ q. q) (either_among (name_slots e.slot count) to k (rw is at on)) in
+    ap (λ (x : Bytes). x j) made ∙ edit_made named [] d k j b at (laid_name renamed j) (same j s)
+    ∙ sym (rw is (λ i. each_out (λ k x. mark_deleted x) (named ∷ []) (name_slots e.slot count) d k off i j))
 
 -- The slot that a rename's new one is made of is the root's, and so is a create's own.
 pub rename_source : (t : Bytes) (n : ℕ) (e : Entry) (count first size to : ℕ) (renamed : Name)
@@ -146,11 +150,11 @@ create_slot t n e count stamp h = last e.slot count h
 abbrev pub Laid : Directory → ℕ → ℕ → Bytes → Type 0
 Laid d r i b = (j : ℕ) → j < 32 * i → b j ≡ root_sector d r j
 
-pub laid_more : (d : Directory) (r i n : ℕ) (b s new : Bytes) → n ≡ i → Laid d r i b → ((j : ℕ) → j < 32 → s j ≡ d (16 * r + i) j)
-    → new ≡ overlay 32 s (32 * n) b → Laid d r (i + 1) new
+pub laid_more : (d : Directory) (r i : ℕ) (b s new : Bytes) → Laid d r i b → ((j : ℕ) → j < 32 → s j ≡ d (16 * r + i) j)
+    → new ≡ overlay 32 s (32 * i) b → Laid d r (i + 1) new
 unfolding root_sector
-laid_more d r i n b s new e so own is j h =
-    ap (λ (x : Bytes). x j) is ∙ ap (λ (z : ℕ). overlay 32 s (32 * z) b j) e
+laid_more d r i b s new so own is j h =
+    ap (λ (x : Bytes). x j) is
     ∙ ⊎_elim
     (λ (l : j < 32 * i). overlay_below s (32 * i) b 32 j l ∙ so j l)
     (λ (l : 32 * i ≤ j).
@@ -182,10 +186,10 @@ module _ (l : Layout) (o : Change) (whole : l.entries % 16 ≡ 0) (fit : Slots l
   )
   turn_keeps r false = tt
 
-  pub turn_same : (limit k : ℕ) (e x : List ℕ) (m : ℕ) → c ≡ card_of e → Ran limit (up_to (root_turn l o c) k) e x m true → k < l.entries / 16
+  pub turn_same : {b left k : ℕ} {e x : List ℕ} → c ≡ card_of e → Spent b left (up_to (root_turn l o c) k) e x (Ok (tt {0})) → k < l.entries / 16
       → root_turn l o (card_of x) k ≡ root_turn l o c k
-  turn_same limit k e x m is so less =
-      let mixed : Mixed (card_of x) = subst Mixed (sym (ran_card limit (up_to (root_turn l o c) k) e x m so))
+  turn_same {b} {left} {k} {e} {x} is so less =
+      let mixed : Mixed (card_of x) = subst Mixed (sym (spent_card refl so))
       (after_keeps Mixed (up_to (root_turn l o c) k) (upto_all (Keeps Mixed) (root_turn l o c) k (λ i low. turn_keeps i (concerns o i))) (card_of e)
       (subst Mixed is (λ r low. inl refl))) in
       ap (λ (s : Store). pick (concerns o k) (s ∷ []) [])

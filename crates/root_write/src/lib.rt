@@ -9,11 +9,11 @@ ghost use Rattle.model.specs.Root.{slot_at};
 ghost use Rattle.model.specs.Long.{name_slots};
 ghost use Rattle.model.specs.Record.{with_text};
 ghost use Rattle.model.specs.Pending.{named_slots};
-ghost use Rattle.model.specs.Promises.{Held, Texted, Ran};
+ghost use Rattle.model.specs.Promises.{Held, Texted, Spent};
 ghost use Rattle.operations.specs.Finish.{Slots, set_stamp, mark_deleted, effect, root_sector, root_stores};
 ghost use Rattle.root_write.specs.Slots.{resized, root_turn};
 
-use model::{Layout, Operation, Progress};
+use model::{Layout, Operation, Stopped};
 
 // The 32 bytes of slot k.
 fn load_slot(w: &[u8], l: Layout, k: u32) -> [u8; 32]
@@ -29,11 +29,12 @@ fn load_slot(w: &[u8], l: Layout, k: u32) -> [u8; 32]
 fn resize(b: [u8; 32], moves: bool, first: u32, size: u32) -> [u8; 32]
     ensures { bytes_of result ≡ resized (bytes_of b) moves first size }
 {
-    if moves {
-        let m = sector_build::set(b, 26, 2, first);
-        return sector_build::set(m, 28, 4, size);
-    }
-    sector_build::set(b, 28, 4, size)
+    let moved = if moves {
+        sector_build::set(b, 26, 2, first)
+    } else {
+        b
+    };
+    sector_build::set(moved, 28, 4, size)
 }
 
 // The same, written at a stamp.
@@ -54,13 +55,7 @@ fn mark(b: [u8; 32]) -> [u8; 32]
 fn reaches(s: u32, n: u32, r: u32) -> bool
     ensures { result ≡ any (map (λ k. eqb (k / 16) r) (name_slots s n)) }
 {
-    if s / 16 < r {
-        return false;
-    }
-    if s / 16 == r {
-        return true;
-    }
-    root_names::has_slot(s, n, 16 * r + 15)
+    s / 16 == r || r < s / 16 && root_names::has_slot(s, n, 16 * r + 15)
 }
 
 // Whether an operation names a slot in root sector r.
@@ -68,10 +63,7 @@ fn concerns(o: Operation, r: u32) -> bool
     ensures { result ≡ any (map (λ k. eqb (k / 16) r) (named_slots o)) }
 {
     let a = root_names::slots_of(o);
-    if reaches(a.slot, a.count, r) {
-        return true;
-    }
-    a.to / 16 == r
+    reaches(a.slot, a.count, r) || a.to / 16 == r
 }
 
 // The 32 bytes of slot k after the edits of an operation with a text. The slots that they are made of may be edited already.
@@ -85,51 +77,33 @@ fn slot_after(w: &[u8], l: Layout, o: Operation, text: &[u8], k: u32) -> [u8; 32
         return b;
     }
     match o {
-        Operation::Create {
-            entry,
-            count: _,
-            stamp,
-        } => root_spell::name_slot(entry, stamp, text, k),
+        Operation::Create { entry, stamp, .. } => root_spell::name_slot(entry, stamp, text, k),
         Operation::Update {
-            entry: _,
             last,
             from,
             size,
             stamp,
+            ..
         } => rewrite(b, last == 0, from, size, stamp),
-        Operation::Delete {
-            entry: _,
-            count: _,
-            first: _,
-            size: _,
-        } => mark(b),
-        Operation::Truncate {
-            entry: _,
-            first: _,
-            from: _,
+        Operation::Truncate { size, stamp, .. } => rewrite(b, size == 0, 0, size, stamp),
+        Operation::Replace {
+            from,
             size,
             stamp,
-        } => rewrite(b, size == 0, 0, size, stamp),
+            ..
+        } => rewrite(b, true, from, size, stamp),
+        Operation::Delete { .. } => mark(b),
         Operation::Rename {
             entry,
             count,
-            first: _,
-            size: _,
-            to: _,
             renamed,
+            ..
         } => {
             if root_names::has_slot(entry.slot, count, k) {
                 return mark(b);
             }
             sector_build::set_name(load_slot(w, l, entry.slot), renamed)
         }
-        Operation::Replace {
-            entry: _,
-            first: _,
-            from,
-            size,
-            stamp,
-        } => rewrite(b, true, from, size, stamp),
     }
 }
 
@@ -140,11 +114,8 @@ fn load_edited(w: &[u8], l: Layout, o: Operation, text: &[u8], r: u32, buf: &mut
     ensures { (j : ℕ) → j < 512
         → get_or buf.new j 0 ≡ root_sector (effect (with_text o (bytes_of text.now)) (slot_at l (card_of w.now))) r j }
 {
-    let mut i = 0;
-    while i < 16 {
-        let b = slot_after(w, l, o, text, 16 * r + i);
-        sector::copy(buf, 32 * sector::index(i), &b, 0, 32);
-        i += 1;
+    for i in 0..16 {
+        sector_build::lay(buf, i as usize, &slot_after(w, l, o, text, 16 * r + i));
     }
 }
 
@@ -155,18 +126,14 @@ fn store_concerned(
     o: Operation,
     text: &[u8],
     r: u32,
-    limit: u32,
-) -> Progress
+    limit: &mut u32,
+) -> Result<(), Stopped>
     requires held { Held l w.old × (r < l.entries / 16) }
     requires slots { Slots l.entries (with_text o (bytes_of text.now)) × Texted text.now }
-    ensures { Ran limit (root_turn l (with_text o (bytes_of text.now)) (card_of w.old) r) w.old w.new result.made
-        result.whole }
+    ensures { Spent limit.old limit.new (root_turn l (with_text o (bytes_of text.now)) (card_of w.old) r) w.old w.new result }
 {
     if !concerns(o, r) {
-        return Progress {
-            made: 0,
-            whole: true,
-        };
+        return Ok(());
     }
     let mut buf = [0u8; 512];
     load_edited(w, l, o, text, r, &mut buf);
@@ -174,21 +141,19 @@ fn store_concerned(
 }
 
 // The root sectors that an operation with a text concerns, rising.
-pub fn store_root(w: &mut [u8], l: Layout, o: Operation, text: &[u8], limit: u32) -> Progress
+pub fn store_root(
+    w: &mut [u8],
+    l: Layout,
+    o: Operation,
+    text: &[u8],
+    limit: &mut u32,
+) -> Result<(), Stopped>
     requires held { Held l w.old }
     requires slots { Slots l.entries (with_text o (bytes_of text.now)) × Texted text.now }
-    ensures { Ran limit (root_stores l (with_text o (bytes_of text.now)) (card_of w.old)) w.old w.new result.made
-        result.whole }
+    ensures { Spent limit.old limit.new (root_stores l (with_text o (bytes_of text.now)) (card_of w.old)) w.old w.new result }
 {
-    let mut made = 0;
-    let mut r = 0;
-    while r < l.entries / 16 {
-        let p = store_concerned(w, l, o, text, r, limit - made);
-        made += p.made;
-        if !p.whole {
-            return Progress { made, whole: false };
-        }
-        r += 1;
+    for r in 0..l.entries / 16 {
+        store_concerned(w, l, o, text, r, limit)?;
     }
-    Progress { made, whole: true }
+    Ok(())
 }

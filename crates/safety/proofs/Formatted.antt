@@ -24,7 +24,7 @@ use Rattle.model.specs.Promises.{Shape}
 use Rattle.model.specs.declared.Fields.{Fields}
 use Rattle.model.specs.declared.Layout.{Layout}
 use Rattle.model.specs.declared.Ground.{Ground}
-use Rattle.model.specs.declared.Outcome.TheVariants.{Done}
+use Rattle.model.specs.Outcome.{Done}
 use Rattle.operations.specs.Program.{Program, stores}
 use Rattle.operations.specs.Outcome.{outcome, made, leaves, largest}
 use Rattle.operations.specs.Reading.{list, shown, directory_listing, filled_outcome, buffer_after}

@@ -11,7 +11,7 @@ use Rattle.model.specs.Ground.{Answer, refused, granted, ◌>>=◌}
 use Rattle.model.specs.Volume.{clean}
 use Rattle.model.specs.declared.File.{File}
 use Rattle.model.specs.declared.Layout.{Layout}
-use Rattle.model.specs.declared.Outcome.TheVariants.{Refused, Done}
+use Rattle.model.specs.Outcome.{Refused, Done}
 use Rattle.model.specs.declared.Volume.{Volume}
 use Rattle.model.specs.declared.Access.{Access}
 use Rattle.model.specs.declared.Ground.TheVariants as Ground

@@ -12,7 +12,7 @@ use Rattle.model.specs.Volume.{clean}
 use Rattle.model.specs.declared.Layout.{Layout}
 use Rattle.model.specs.declared.Pending.{Pending}
 use Rattle.model.specs.declared.Volume.{Volume}
-use Rattle.model.specs.declared.Outcome.TheVariants.{Done}
+use Rattle.model.specs.Outcome.{Done}
 use Rattle.operations.specs.Calls.{Call, plan, recovers}
 use Rattle.operations.specs.Outcome.{made, left, outcome, largest}
 use Rattle.safety.specs.Sound.{Sound}

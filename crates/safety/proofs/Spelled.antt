@@ -18,7 +18,7 @@ use Rattle.model.specs.declared.Layout.{Layout}
 use Rattle.model.specs.declared.Pending.{Pending}
 use Rattle.model.specs.declared.Volume.{Volume}
 use Rattle.model.specs.declared.Ground.TheVariants as Ground
-use Rattle.model.specs.declared.Outcome.TheVariants.{Done}
+use Rattle.model.specs.Outcome.{Done}
 use Rattle.operations.specs.Program.{Program}
 use Rattle.operations.specs.Finish.{new_entry}
 use Rattle.operations.specs.Plan.{slots_for, text_of}

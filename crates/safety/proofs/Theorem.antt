@@ -19,7 +19,7 @@ use Rattle.model.specs.declared.Ground.{Ground}
 use Rattle.model.specs.declared.Layout.{Layout}
 use Rattle.model.specs.declared.Pending.{Pending}
 use Rattle.model.specs.declared.Volume.{Volume}
-use Rattle.model.specs.declared.Outcome.TheVariants.{Refused, Done, Stopped}
+use Rattle.model.specs.Outcome.{Refused, Done, Stopped}
 use Rattle.operations.specs.Program.{Program, stores}
 use Rattle.operations.specs.Calls.{Call, plan, taken_by, released_by, recovers}
 use Rattle.operations.specs.Outcome.{made, left, outcome, largest}

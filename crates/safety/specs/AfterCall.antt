@@ -8,7 +8,7 @@ use Rattle.model.specs.Fat.{is_free, entry, fat1_of}
 use Rattle.model.specs.Ground.{granted}
 use Rattle.model.specs.Volume.{clean}
 use Rattle.model.specs.declared.Volume.{Volume}
-use Rattle.model.specs.declared.Outcome.TheVariants.{Done}
+use Rattle.model.specs.Outcome.{Done}
 use Rattle.operations.specs.Program.{Program, stores, ending}
 use Rattle.operations.specs.Calls.{Call, plan, released_by, taken_by, recovers}
 use Rattle.operations.specs.Outcome.{outcome, largest, left}

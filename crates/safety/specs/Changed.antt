@@ -8,7 +8,7 @@ use Rattle.model.specs.Ground.{granted}
 use Rattle.model.specs.Volume.{clean}
 use Rattle.model.specs.declared.Layout.{Layout}
 use Rattle.model.specs.declared.Volume.{Volume}
-use Rattle.model.specs.declared.Outcome.TheVariants.{Done}
+use Rattle.model.specs.Outcome.{Done}
 use Rattle.operations.specs.Program.{Program}
 use Rattle.operations.specs.Finish.{mark_deleted}
 use Rattle.operations.specs.Calls.{Call, deletes, renames, recovers, plan, old_slots, changed_by}

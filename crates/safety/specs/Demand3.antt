@@ -10,7 +10,7 @@ use Rattle.model.specs.Volume.{clean}
 use Rattle.model.specs.declared.Ground.{Ground}
 use Rattle.model.specs.declared.Layout.{Layout}
 use Rattle.model.specs.declared.Volume.{Volume}
-use Rattle.model.specs.declared.Outcome.TheVariants.{Refused, Done}
+use Rattle.model.specs.Outcome.{Refused, Done}
 use Rattle.operations.specs.Program.{ending}
 use Rattle.operations.specs.Calls.{recovers, Call, plan}
 use Rattle.operations.specs.Outcome.{left, largest, outcome}

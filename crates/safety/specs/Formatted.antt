@@ -8,7 +8,7 @@ use Rattle.model.specs.Fat.{fat1_of, entry, is_free}
 use Rattle.model.specs.Ground.{refused, granted}
 use Rattle.model.specs.Volume.{examine, clean}
 use Rattle.model.specs.declared.Volume.{Volume}
-use Rattle.model.specs.declared.Outcome.TheVariants.{Done}
+use Rattle.model.specs.Outcome.{Done}
 use Rattle.model.specs.declared.Ground.TheVariants as Ground
 use Rattle.operations.specs.Program.{Program, stores}
 use Rattle.operations.specs.Calls.{Call, plan}

@@ -7,7 +7,7 @@ use Rattle.model.specs.Sector.{Window, Card, Store, after}
 use Rattle.model.specs.Ground.{granted}
 use Rattle.model.specs.Volume.{clean}
 use Rattle.model.specs.declared.Volume.{Volume}
-use Rattle.model.specs.declared.Outcome.TheVariants.{Done}
+use Rattle.model.specs.Outcome.{Done}
 use Rattle.operations.specs.Calls.{Call, plan, recovers}
 use Rattle.operations.specs.Outcome.{left, largest, outcome}
 use Rattle.operations.specs.Reading.{read, filled_outcome, buffer_after}

@@ -8,7 +8,7 @@ use Rattle.model.specs.Ground.{refused, granted}
 use Rattle.model.specs.Volume.{clean}
 use Rattle.model.specs.declared.Volume.{Volume}
 use Rattle.model.specs.declared.Ground.TheVariants as Ground
-use Rattle.model.specs.declared.Outcome.TheVariants.{Done}
+use Rattle.model.specs.Outcome.{Done}
 use Rattle.operations.specs.Program.{Program}
 use Rattle.operations.specs.Calls.{creates_long, recovers, plan, old_slots, changed_by}
 use Rattle.operations.specs.Outcome.{outcome, left, largest}

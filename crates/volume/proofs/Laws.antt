@@ -1,5 +1,6 @@
 -- Grounds 5 to 7 by what the code finds: one law for each way that they end.
-use mathlib.Core.Path.{◌≡◌}
+use mathlib.Core.Path.{◌≡◌, refl}
+use Prim.Native.Nat.{ℕ}
 use mathlib.Core.Bool.{true, false}
 use Rattle.model.specs.Sector.{Card}
 use Rattle.model.specs.Fat.{fats_agree}
@@ -39,3 +40,13 @@ module _ (c : Card) (v : Volume) where
   pub settled_clean : is_held v.pending ≡ false → fats_agree v.layout c ≡ true → settled c v ≡ granted v
   unfolding settled ◌when◌ ◌>>◌
   settled_clean h d = rw (h, d)
+
+pub not_held : (p : Pending) → ((s : ℕ) → p ≡ Pending.Held s → ⊥) → is_held p ≡ false
+not_held Pending.Nothing h = refl
+not_held Pending.Broken h = refl
+not_held (Pending.Held s) h = absurd (h s refl)
+
+pub not_broken : (p : Pending) → (p ≡ Pending.Broken → ⊥) → is_broken p ≡ false
+not_broken Pending.Nothing h = refl
+not_broken Pending.Broken h = absurd (h refl)
+not_broken (Pending.Held s) h = refl

@@ -1,5 +1,5 @@
 -- A window that is opened; what a clean card is like: its FATs agree, and its log is the run that FAT1 marks.
-use mathlib.Core.Path.{◌≡◌, refl, sym, ap, ◌∙◌, subst}
+use mathlib.Core.Path.{◌≡◌, refl, sym, ◌∙◌, subst}
 use mathlib.Core.Bool.{true}
 use mathlib.Core.List.{List, []}
 use Prim.Native.Nat.{ℕ, ◌+◌, ◌*◌, ◌≤◌}
@@ -8,24 +8,24 @@ use Rattle.model.specs.Sector.{card_of, window_of}
 use Rattle.model.specs.Fat.{fat1_of, fat2_of, fats_agree, write_fat}
 use Rattle.model.specs.Log.{run, run_ok, area}
 use Rattle.model.specs.Calendar.{last_second}
-use Rattle.model.specs.Ground.{Answer}
+use Rattle.std.proofs.Common.{Result, Ok, Err}
+use Rattle.std.specs.Result.{IfOk}
+use Rattle.model.specs.Ground.{Answer, answer_of}
+use Rattle.model.specs.declared.Ground.{Ground}
 use Rattle.model.specs.Volume.{clean_at}
 use Rattle.model.specs.declared.Volume.{Volume}
 use Rattle.model.specs.declared.Pending.TheVariants as Pending
 use Rattle.model.proofs.Cards.{clip_clip}
 use Rattle.model.proofs.Fats.{agree_at, write_none}
 use Rattle.model.proofs.Volumes.{volume_of, cleaned, fit_run, timely}
-use Rattle.volume.specs.Examined.{examined_of, Carries}
+use Rattle.volume.specs.Examined.{Carried}
 use Rattle.volume.specs.Opened.{Opened, Ready}
-use Rattle.volume.specs.declared.Examined.{Examined}
-use Rattle.volume.specs.declared.Examined.TheVariants.{Granted}
 
 -- The grounds that a call asks give a volume.
-pub opened_with : (asked : Answer Volume) (xs : List ℕ) (r : Examined) → (examined_of r ≡ asked) × Carries xs r → (v : Volume) → r ≡ Granted v
-    → Opened asked v xs
-opened_with asked xs r h v e =
-    let k : Carries xs (Granted v) = rw e at h.1 in
-    record { passes = sym h.0 ∙ ap examined_of e; held = k.0; lies = k.1 }
+pub opened_with : {asked : Answer Volume} (xs : List ℕ) (r : Result Volume Ground) → answer_of r ≡ asked → IfOk r (λ v. Carried v xs)
+    → IfOk r (λ v. Opened asked v xs)
+opened_with xs (Err g) e k = tt
+opened_with xs (Ok v) e k = record { passes = sym e; held = k.held; lies = k.lies }
 
 module _ (v : Volume) (xs : List ℕ) (h : Ready v xs) where
   is_volume : volume_of (card_of xs) Pending.Nothing ≡ v

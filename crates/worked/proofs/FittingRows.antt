@@ -10,8 +10,7 @@ use Rattle.model.specs.Fat.{fat1_of, free_clusters}
 use Rattle.model.specs.Chain.{needed}
 use Rattle.model.specs.Ground.{granted}
 use Rattle.model.specs.Volume.{clean}
-use Rattle.model.specs.declared.Outcome.{Outcome}
-use Rattle.model.specs.declared.Outcome.TheVariants.{Refused, Done, No}
+use Rattle.model.specs.Outcome.{Outcome, Refused, Done, No}
 use Rattle.model.specs.declared.Ground.TheVariants as Ground
 use Rattle.operations.specs.Outcome.{left, outcome_number}
 use Rattle.operations.specs.Fitting.{fit, fits_on, fit_outcome}

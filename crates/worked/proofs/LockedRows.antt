@@ -9,8 +9,7 @@ use Rattle.model.specs.Sector.{Window}
 use Rattle.model.specs.Ground.{Answer, granted}
 use Rattle.model.specs.Calendar.{stamp_of, last_second}
 use Rattle.model.specs.Volume.{clean}
-use Rattle.model.specs.declared.Outcome.{Outcome}
-use Rattle.model.specs.declared.Outcome.TheVariants.{Refused, Done}
+use Rattle.model.specs.Outcome.{Outcome, Refused, Done}
 use Rattle.model.specs.declared.Ground.TheVariants as Ground
 use Rattle.operations.specs.Program.{Program}
 use Rattle.operations.specs.Calls.{plan}

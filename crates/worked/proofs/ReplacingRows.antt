@@ -11,7 +11,7 @@ use Rattle.model.specs.Calendar.{stamp_of, last_second}
 use Rattle.model.specs.Ground.{Answer}
 use Rattle.model.specs.Text.{ascii}
 use Rattle.model.specs.Listing.{log_text}
-use Rattle.model.specs.declared.Outcome.TheVariants.{Done, Stopped}
+use Rattle.model.specs.Outcome.{Done, Stopped}
 use Rattle.operations.specs.Program.{Program}
 use Rattle.operations.specs.Calls.{plan, replace_on}
 use Rattle.operations.specs.Outcome.{made, left, largest}

@@ -13,7 +13,7 @@ use Rattle.model.specs.Volume.{clean, mount}
 use Rattle.model.specs.Text.{ascii}
 use Rattle.model.specs.Listing.{log_text}
 use Rattle.model.specs.Root.{slot_at, file_size}
-use Rattle.model.specs.declared.Outcome.TheVariants.{Done, Stopped}
+use Rattle.model.specs.Outcome.{Done, Stopped}
 use Rattle.model.specs.declared.Ground.TheVariants as Ground
 use Rattle.operations.specs.Program.{Program}
 use Rattle.operations.specs.Calls.{creates, appends, truncates, deletes, renames, recovers, plan, append_on, rename_on, truncate_on}

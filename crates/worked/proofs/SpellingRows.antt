@@ -11,7 +11,7 @@ use Rattle.model.specs.Calendar.{stamp_of}
 use Rattle.model.specs.Ground.{Answer, granted}
 use Rattle.model.specs.Volume.{clean}
 use Rattle.model.specs.Text.{ascii}
-use Rattle.model.specs.declared.Outcome.TheVariants.{Done}
+use Rattle.model.specs.Outcome.{Done}
 use Rattle.operations.specs.Program.{Program}
 use Rattle.operations.specs.Calls.{plan, creates_long, create_long_on}
 use Rattle.operations.specs.Outcome.{made, left, largest}

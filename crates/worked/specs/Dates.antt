@@ -8,7 +8,7 @@ use Rattle.model.specs.Scan.{range}
 use Rattle.model.specs.Sector.{Card, Window, Store, store, put, after}
 use Rattle.model.specs.Root.{slot_at}
 use Rattle.model.specs.Ground.{Answer, refused}
-use Rattle.model.specs.declared.Outcome.TheVariants.{Refused, Done}
+use Rattle.model.specs.Outcome.{Refused, Done}
 use Rattle.model.specs.declared.Ground.TheVariants as Ground
 use Rattle.operations.specs.Program.{Program}
 use Rattle.operations.specs.Calls.{Call, creates, creates_long, appends, truncates, deletes, renames, replaces, recovers, plan}

@@ -4,8 +4,7 @@ use Rattle.std.specs.Prelude.{ℕ, ◌-◌, ◌≡◌, List, [], ◌∷◌, map,
 use Rattle.model.specs.Bytes.{Bytes, pick}
 use Rattle.model.specs.Scan.{between}
 use Rattle.model.specs.Sector.{Window, clip}
-use Rattle.model.specs.declared.Outcome.{Outcome}
-use Rattle.model.specs.declared.Outcome.TheVariants.{Refused, Done, No}
+use Rattle.model.specs.Outcome.{Outcome, Refused, Done, No}
 use Rattle.model.specs.declared.Ground.TheVariants as Ground
 use Rattle.operations.specs.Outcome.{left, outcome_number}
 use Rattle.operations.specs.Fitting.{fits, fit_outcome}

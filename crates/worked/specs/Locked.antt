@@ -4,8 +4,7 @@
 use Rattle.std.specs.Prelude.{◌≡◌, List, [], ◌∷◌, map, replicate}
 use Rattle.model.specs.Bytes.{Bytes, patch}
 use Rattle.model.specs.Sector.{Window, store, put}
-use Rattle.model.specs.declared.Outcome.{Outcome}
-use Rattle.model.specs.declared.Outcome.TheVariants.{Refused, Done}
+use Rattle.model.specs.Outcome.{Outcome, Refused, Done}
 use Rattle.model.specs.declared.Ground.TheVariants as Ground
 use Rattle.operations.specs.Calls.{Call, creates, appends, truncates, deletes, renames, replaces, plan}
 use Rattle.operations.specs.Outcome.{outcome, made, left, largest}

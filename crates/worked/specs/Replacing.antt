@@ -7,7 +7,7 @@ use Rattle.model.specs.Sector.{Store, store}
 use Rattle.model.specs.Fat.{entry, fat1_of}
 use Rattle.model.specs.Text.{ascii}
 use Rattle.model.specs.Listing.{log_text}
-use Rattle.model.specs.declared.Outcome.TheVariants.{Done, Stopped}
+use Rattle.model.specs.Outcome.{Done, Stopped}
 use Rattle.operations.specs.Calls.{Call, creates, replaces, plan}
 use Rattle.operations.specs.Outcome.{made, left, largest}
 use Rattle.worked.specs.CardK.{k, route, morning, afternoon, span, trace, Row, row, file}

@@ -7,8 +7,7 @@ use Rattle.model.specs.Sector.{Card, store, after}
 use Rattle.model.specs.Root.{slot_at}
 use Rattle.model.specs.Ground.{Answer}
 use Rattle.model.specs.Text.{ascii}
-use Rattle.model.specs.declared.Outcome.{Outcome}
-use Rattle.model.specs.declared.Outcome.TheVariants.{Done}
+use Rattle.model.specs.Outcome.{Outcome, Done}
 use Rattle.operations.specs.Program.{Program}
 use Rattle.operations.specs.Calls.{creates_long, recovers, plan}
 use Rattle.operations.specs.Outcome.{made, left, largest}

@@ -10,8 +10,7 @@ use Rattle.model.specs.Volume.{mount, clean}
 use Rattle.model.specs.Text.{ascii}
 use Rattle.model.specs.Listing.{log_text}
 use Rattle.model.specs.declared.Volume.{Volume}
-use Rattle.model.specs.declared.Outcome.{Outcome}
-use Rattle.model.specs.declared.Outcome.TheVariants.{Done, Stopped}
+use Rattle.model.specs.Outcome.{Outcome, Done, Stopped}
 use Rattle.model.specs.declared.Pending.TheVariants as Pending
 use Rattle.model.specs.declared.Ground.TheVariants as Ground
 use Rattle.operations.specs.Program.{Program}

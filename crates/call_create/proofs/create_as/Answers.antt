@@ -1,22 +1,19 @@
-use mathlib.Core.Path.{sym, ap, ◌∙◌}
+use Rattle.std.proofs.lemmas.Result.{err_from_is_err_and}
 use Rattle.model.specs.Ground.{◌>>=◌}
 use Rattle.call_outcome.proofs.Ends.{did_refused}
-use Rattle.root_lookup.specs.Found.{vacancy_of}
 use Rattle.operations.specs.Calls.{create_as}
 use Rattle.call_create.proofs.create_as.Goals as goal
 
 pub create_at-requires : goal.create_at-requires
 create_at-requires c =
-    let h = c.requires in
-    let the-new-slot = c.new_slot-p in
-    record { ready = h.ready; slot_and_names = (rw c.in-Slot.is at the-new-slot.ensures.1, h.names.0, h.names.1, h.names.2) }
+    let h = c.requires in record { ready = h.ready; slot_and_names = (c.in_ok-s.ensures.inside, h.names.0, h.names.1, h.names.2) }
 
-pub returns-in-Denied : goal.returns-in-Denied
+pub returns-in_err-s : goal.returns-in_err-s
 unfolding create_as ◌>>=◌
-returns-in-Denied c = rw (sym c.new_slot-p.ensures.0 ∙ ap vacancy_of c.in-Denied.is) (did_refused _ _ _)
+returns-in_err-s c =
+    let p = err_from_is_err_and c.from_residual.result c.from_residual.ensures.1 in
+    rw (p.1, p.2, ← c.in_err-s.ensures.answer) (did_refused _ _ _)
 
-pub returns-in-Slot : goal.returns-in-Slot
+pub returns : goal.returns
 unfolding create_as ◌>>=◌
-returns-in-Slot c =
-    let the-new-slot = c.new_slot-p in
-    rw (sym the-new-slot.ensures.0 ∙ ap vacancy_of c.in-Slot.is) c.create_at.ensures
+returns c = rw (← c.in_ok-s.ensures.answer) c.create_at.ensures

@@ -1,33 +1,15 @@
-use mathlib.Core.Path.{sym, ap, ◌∙◌}
-use Rattle.model.specs.Bytes.{view}
-use Rattle.model.specs.Sector.{window_of}
-use Rattle.volume.specs.Examined.{examined_of}
-use Rattle.volume.proofs.Ready.{opened_with, opened_at}
+use Rattle.std.proofs.lemmas.Result.{err_from_is_err_and}
+use Rattle.model.specs.Ground.{◌>>=◌}
 use Rattle.call_outcome.proofs.Ends.{did_refused}
-use Rattle.call_create.proofs.Laws.{long_refused, long_granted}
+use Rattle.operations.specs.Calls.{create_long}
 use Rattle.call_create.proofs.create_long.Goals as goal
 
-pub stamp-requires : goal.stamp-requires
-stamp-requires c =
-    (opened_at _ _ _ (opened_with _ _ _ c.clean_at-e.ensures _ c.in-Granted.is)).1
+pub returns-in_err-v : goal.returns-in_err-v
+unfolding create_long ◌>>=◌
+returns-in_err-v c =
+    let p = err_from_is_err_and c.from_residual.result c.from_residual.ensures.1 in
+    rw (p.1, p.2, ← c.in_err-v.ensures.answer) (did_refused _ _ _)
 
-pub create_long_on-requires : goal.create_long_on-requires
-create_long_on-requires c =
-    (opened_at _ _ _ (opened_with _ _ _ c.clean_at-e.ensures _ c.in-Granted.is)).0
-
-pub returns-in-Refused : goal.returns-in-Refused
-returns-in-Refused c =
-    let a = c.args in
-    let the-clean = c.clean_at-e in
-    rw (long_refused (window_of a.w.now) (view a.name.now) (view a.text.now) a.seconds _
-    (sym the-clean.ensures.0 ∙ ap examined_of c.in-Refused.is)) (did_refused _ _ _)
-
-pub returns-in-Granted : goal.returns-in-Granted
-returns-in-Granted c =
-    let a = c.args in
-    let the-clean = c.clean_at-e in
-    rw (
-      long_granted (window_of a.w.now) (view a.name.now) (view a.text.now) a.seconds _
-          (sym the-clean.ensures.0 ∙ ap examined_of c.in-Granted.is),
-      ← c.stamp.ensures,
-    ) c.create_long_on.ensures
+pub returns : goal.returns
+unfolding create_long ◌>>=◌
+returns c = rw (← c.in_ok-v.ensures.answer, ← c.stamp.ensures) c.create_long_on.ensures

@@ -1,25 +1,15 @@
-use mathlib.Core.Path.{sym, ap, ◌∙◌}
-use Rattle.model.specs.Bytes.{view}
-use Rattle.model.specs.Sector.{window_of}
-use Rattle.volume.specs.Examined.{examined_of}
-use Rattle.volume.proofs.Ready.{opened_with}
+use Rattle.std.proofs.lemmas.Result.{err_from_is_err_and}
+use Rattle.model.specs.Ground.{◌>>=◌}
 use Rattle.call_outcome.proofs.Ends.{did_refused}
-use Rattle.call_create.proofs.Laws.{rename_refused, rename_granted}
+use Rattle.operations.specs.Calls.{rename}
 use Rattle.call_create.proofs.rename.Goals as goal
 
-pub rename_on-requires : goal.rename_on-requires
-rename_on-requires c = opened_with _ _ _ c.clean-e.ensures _ c.in-Granted.is
+pub returns-in_err-v : goal.returns-in_err-v
+unfolding rename ◌>>=◌
+returns-in_err-v c =
+    let p = err_from_is_err_and c.from_residual.result c.from_residual.ensures.1 in
+    rw (p.1, p.2, ← c.in_err-v.ensures.answer) (did_refused _ _ _)
 
-pub returns-in-Refused : goal.returns-in-Refused
-returns-in-Refused c =
-    let a = c.args in
-    let clean = c.clean-e in
-    rw (rename_refused (window_of a.w.now) (view a.old.now) (view a.new.now) _
-    (sym clean.ensures.0 ∙ ap examined_of c.in-Refused.is)) (did_refused _ _ _)
-
-pub returns-in-Granted : goal.returns-in-Granted
-returns-in-Granted c =
-    let a = c.args in
-    let clean = c.clean-e in
-    rw (rename_granted (window_of a.w.now) (view a.old.now) (view a.new.now) _ (sym clean.ensures.0 ∙ ap examined_of c.in-Granted.is))
-    c.rename_on.ensures
+pub returns : goal.returns
+unfolding rename ◌>>=◌
+returns c = rw (← c.in_ok-v.ensures.answer) c.rename_on.ensures

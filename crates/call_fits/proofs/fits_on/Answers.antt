@@ -10,11 +10,11 @@ returns-then-n-eq0 c =
     let n = c.clusters_needed-n in
     rw (← n.ensures) (fits_none a.l (fat1_of a.l (card_of a.w.now)) n.result c.if-n-eq0.true)
 
-pub returns-then-wider-n : goal.returns-then-wider-n
-returns-then-wider-n c =
+pub returns-then-from-n : goal.returns-then-from-n
+returns-then-from-n c =
     let a = c.args in
     let n = c.clusters_needed-n in
-    rw (← n.ensures) (fits_over a.l (fat1_of a.l (card_of a.w.now)) n.result (omega (arith, c.wider.ensures)))
+    rw (← n.ensures) (fits_over a.l (fat1_of a.l (card_of a.w.now)) n.result (omega arith))
 
 pub returns-then-k-l : goal.returns-then-k-l
 returns-then-k-l c =

@@ -1,13 +1,8 @@
 use native.Mathlib.Omega.{arith}
 use mathlib.Core.Path.{◌∙◌, sym, ap}
 use Rattle.model.specs.Boot.{arrange, fat_holds}
-use Rattle.model.proofs.Scan.{sofar_none, sofar_more}
 use Rattle.call_format.proofs.Laws.{plain_with, narrow_with, fewest_here, fewest_past}
-use borrow.Author.Rules.{rules}
 use Rattle.call_format.proofs.fewest.Goals as goal
-
-pub loop-n-init : goal.loop-n-init
-loop-n-init c = (search rules, search rules, sofar_none _ _ _ _ (omega arith))
 
 pub fat_holds-requires : goal.fat_holds-requires
 fat_holds-requires c =
@@ -20,17 +15,8 @@ pub returns-then-fat_holds : goal.returns-then-fat_holds
 returns-then-fat_holds c =
     let a = c.args in
     let turn = c.loop-n in
-    fewest_here a.total a.factor turn.n turn.invariant.2 (omega arith) (omega arith)
+    fewest_here a.total a.factor turn.n turn.invariant (omega arith) (omega arith)
     (sym (ap (λ f. fat_holds (arrange f)) c.with_fats.ensures) ∙ sym c.fat_holds.ensures ∙ c.if-fat_holds.true)
 
-pub loop-n-preserved : goal.loop-n-preserved
-loop-n-preserved c =
-    let turn = c.loop-n in (
-      search rules,
-      search rules,
-      sofar_more _ _ _ _ turn.invariant.2
-          (sym (ap (λ f. fat_holds (arrange f)) c.with_fats.ensures) ∙ sym c.fat_holds.ensures ∙ c.if-fat_holds.false),
-    )
-
 pub returns : goal.returns
-returns c = let a = c.args in fewest_past a.total a.factor c.loop-n.n c.loop-n.invariant.2 (omega arith)
+returns c = let a = c.args in fewest_past a.total a.factor c.loop-n.n c.loop-n.invariant (omega arith)

@@ -1,25 +1,18 @@
+use mathlib.Core.Path.{refl}
+use mathlib.Core.Logic.{⊎_elim}
 use native.Mathlib.Omega.{arith}
-use mathlib.Core.Path.{◌≡◌, refl}
-use Rattle.call_format.proofs.Laws.{ran_same, table_fat1, table_fat2, table_zero}
+use Rattle.call_format.proofs.Laws.{spent_same, table_fat1, table_fat2, table_zero}
 use Rattle.call_format.proofs.store_table.Goals as goal
 
 pub returns-then-k-eq0 : goal.returns-then-k-eq0
 returns-then-k-eq0 c =
     let a = c.args in
-    let sh = c.requires.0.fits.shape in
-    let first : a.k ≡ 0 = omega arith in
-    ran_same _ _ _ _ _ _ _ _ _ (omega arith) (λ j less. table_fat1 a.l a.n a.k (omega (arith, sh)) first j) c.store_fat.ensures
-
-pub returns-then-k-l : goal.returns-then-k-l
-returns-then-k-l c =
-    let a = c.args in
-    let sh = c.requires.0.fits.shape in
-    let second : a.k ≡ a.l.fatsize = omega arith in
-    ran_same _ _ _ _ _ _ _ _ _ (omega (arith, sh.fat2_at)) (λ j less. table_fat2 a.l a.n a.k (omega (arith, sh)) second j)
-    c.store_fat-then-k-l.ensures
+    let some = c.requires.0.fits.shape in
+    spent_same refl
+    (λ j less. ⊎_elim (λ h. table_fat1 a.l a.n a.k (omega (arith, some)) h j) (λ h. table_fat2 a.l a.n a.k (omega (arith, some)) h.1 j) c.then-k-eq0.either)
+    c.store_fat.ensures
 
 pub returns : goal.returns
 returns c =
     let a = c.args in
-    ran_same _ _ _ _ _ _ _ _ _ refl (λ j less. table_zero a.l a.n a.k c.requires.2 (λ z. omega arith) (λ z. omega arith) j)
-    c.store_zeros.ensures
+    spent_same refl (λ j less. table_zero a.l a.n a.k c.requires.2 c.if-k-eq0.false c.if-k-l.false j) c.store_zeros.ensures

@@ -1,6 +1,6 @@
 use mathlib.Core.Path.{◌≡◌}
-use Prim.Native.Nat.{ℕ, ◌-◌, ◌≤◌}
-use lib.ListN.{length, get_or}
+use Prim.Native.Nat.{ℕ}
+use lib.ListN.{get_or}
 use Rattle.model.specs.Bytes.{bytes_of, overlay}
 use Rattle.model.specs.Sector.{card_of}
 use Rattle.model.specs.Root.{slot_at}
@@ -8,8 +8,4 @@ use Rattle.model.specs.LongName.{long_byte}
 use Rattle.call_read.proofs.copy_characters.Given as goal
 
 abbrev pub invariant-loop-i : goal.invariant-loop-i
-invariant-loop-i l =
-    (l.i ≤ l.end) × (l.i ≤ l.room) × (length l.out ≡ length l.initial.out) × ((j : ℕ) → get_or l.out j 0 ≡ overlay l.i (long_byte (slot_at l.l (card_of l.w)) l.s) 0 (bytes_of l.initial.out) j)
-
-abbrev pub decreases-loop-i : goal.decreases-loop-i
-decreases-loop-i l = l.end - l.i
+invariant-loop-i l = (j : ℕ) → get_or l.out j 0 ≡ overlay l.i (long_byte (slot_at l.l (card_of l.w)) l.s) 0 (bytes_of l.initial.out) j

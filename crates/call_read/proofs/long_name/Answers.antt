@@ -1,26 +1,15 @@
-use mathlib.Core.Path.{refl, sym, ap, ◌∙◌}
-use lib.ListN.{length}
-use Rattle.model.specs.Bytes.{view}
-use Rattle.model.specs.Sector.{window_of}
-use Rattle.operations.specs.Reading.{buffer_after, filled_outcome}
-use Rattle.volume.specs.Examined.{examined_of}
-use Rattle.call_read.proofs.Laws.{long_refused, long_granted}
+use Rattle.std.proofs.lemmas.Result.{err_from_is_err_and}
+use Rattle.model.specs.Ground.{◌>>=◌}
+use Rattle.operations.specs.Reading.{long_name}
+use Rattle.call_read.proofs.Gave.{gave_refused}
 use Rattle.call_read.proofs.long_name.Goals as goal
 
-pub long_name_on-requires : goal.long_name_on-requires
-long_name_on-requires c = (rw c.in-Granted.is at c.clean-e.ensures.1).0
+pub returns-in_err-v : goal.returns-in_err-v
+unfolding long_name ◌>>=◌
+returns-in_err-v c =
+    let p = err_from_is_err_and c.from_residual.result c.from_residual.ensures.1 in
+    rw (p.1, p.2) (gave_refused _ _ (rw (← c.in_err-v.ensures.answer)))
 
-pub returns-in-Refused : goal.returns-in-Refused
-unfolding buffer_after filled_outcome
-returns-in-Refused c =
-    let a = c.args in
-    let clean = c.clean-e in
-    let e = long_refused (window_of a.w.now) (view a.name.now) (length a.buffer.now) _
-    (sym clean.ensures.0 ∙ ap examined_of c.in-Refused.is) in record { answer = rw e; bytes = λ i. rw e refl }
-
-pub returns-in-Granted : goal.returns-in-Granted
-returns-in-Granted c =
-    let a = c.args in
-    let clean = c.clean-e in
-    let e = long_granted (window_of a.w.now) (view a.name.now) (length a.buffer.now) _
-    (sym clean.ensures.0 ∙ ap examined_of c.in-Granted.is) in rw e c.long_name_on.ensures
+pub returns : goal.returns
+unfolding long_name ◌>>=◌
+returns c = rw (← c.in_ok-v.ensures.answer) c.long_name_on.ensures

@@ -1,26 +1,15 @@
-use mathlib.Core.Path.{refl, sym, ap, ◌∙◌}
-use lib.ListN.{length}
-use Rattle.model.specs.Bytes.{view}
-use Rattle.model.specs.Sector.{window_of}
-use Rattle.operations.specs.Reading.{buffer_after, filled_outcome}
-use Rattle.volume.specs.Examined.{examined_of}
-use Rattle.call_read.proofs.Laws.{read_refused, read_granted}
+use Rattle.std.proofs.lemmas.Result.{err_from_is_err_and}
+use Rattle.model.specs.Ground.{◌>>=◌}
+use Rattle.operations.specs.Reading.{read}
+use Rattle.call_read.proofs.Gave.{gave_refused}
 use Rattle.call_read.proofs.read.Goals as goal
 
-pub read_from-requires : goal.read_from-requires
-read_from-requires c = (rw c.in-Granted.is at c.clean-e.ensures.1).0
+pub returns-in_err-v : goal.returns-in_err-v
+unfolding read ◌>>=◌
+returns-in_err-v c =
+    let p = err_from_is_err_and c.from_residual.result c.from_residual.ensures.1 in
+    rw (p.1, p.2) (gave_refused _ _ (rw (← c.in_err-v.ensures.answer)))
 
-pub returns-in-Refused : goal.returns-in-Refused
-unfolding buffer_after filled_outcome
-returns-in-Refused c =
-    let a = c.args in
-    let clean = c.clean-e in
-    let e = read_refused (window_of a.w.now) (view a.name.now) a.offset (length a.buffer.now) _
-    (sym clean.ensures.0 ∙ ap examined_of c.in-Refused.is) in record { answer = rw e; bytes = λ i. rw e refl }
-
-pub returns-in-Granted : goal.returns-in-Granted
-returns-in-Granted c =
-    let a = c.args in
-    let clean = c.clean-e in
-    let e = read_granted (window_of a.w.now) (view a.name.now) a.offset (length a.buffer.now) _
-    (sym clean.ensures.0 ∙ ap examined_of c.in-Granted.is) in rw e c.read_from.ensures
+pub returns : goal.returns
+unfolding read ◌>>=◌
+returns c = rw (← c.in_ok-v.ensures.answer) c.read_from.ensures

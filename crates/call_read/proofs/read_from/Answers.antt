@@ -1,25 +1,15 @@
-use mathlib.Core.Path.{refl, sym, ap, ◌∙◌}
+use Rattle.std.proofs.lemmas.Result.{err_from_is_err_and}
 use Rattle.model.specs.Ground.{◌>>=◌}
-use Rattle.model.specs.declared.Outcome.TheVariants.{Done}
-use Rattle.operations.specs.Reading.{read_on, buffer_after, filled_outcome}
-use Rattle.root_lookup.specs.Found.{found_of}
-use borrow.Author.Rules.{rules}
+use Rattle.operations.specs.Reading.{read_on}
+use Rattle.call_read.proofs.Gave.{gave_refused, gave_filled}
 use Rattle.call_read.proofs.read_from.Goals as goal
 
-pub read_file-requires : goal.read_file-requires
-read_file-requires c =
-    (search rules, (rw c.in-At.is at c.file_of-o.ensures.1).chain)
+pub returns-in_err-f : goal.returns-in_err-f
+unfolding read_on ◌>>=◌
+returns-in_err-f c =
+    let p = err_from_is_err_and c.from_residual.result c.from_residual.ensures.1 in
+    rw (p.1, p.2) (gave_refused _ _ (rw (← c.in_err-f.ensures.answer)))
 
-pub returns-in-Missing : goal.returns-in-Missing
-unfolding read_on ◌>>=◌ buffer_after filled_outcome
-returns-in-Missing c =
-    let file_of = c.file_of-o in
-    let e = sym file_of.ensures.0 ∙ ap found_of c.in-Missing.is in record { answer = rw e; bytes = λ i. rw e refl }
-
-pub returns-in-At : goal.returns-in-At
-unfolding read_on ◌>>=◌ buffer_after filled_outcome
-returns-in-At c =
-    let file_of = c.file_of-o in
-    let read-file = c.read_file in
-    let e = sym file_of.ensures.0 ∙ ap found_of c.in-At.is in record
-    { answer = rw e (ap Done read-file.ensures.counted); bytes = λ i. rw e (read-file.ensures.bytes i) }
+pub returns : goal.returns
+unfolding read_on ◌>>=◌
+returns c = gave_filled _ (rw (← c.in_ok-f.ensures.answer)) c.read_file.ensures

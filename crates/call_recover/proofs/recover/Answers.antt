@@ -1,22 +1,15 @@
-use mathlib.Core.Path.{sym, ap, ◌∙◌}
-use Rattle.model.specs.Sector.{window_of}
-use Rattle.volume.specs.Examined.{examined_of}
-use Rattle.volume.proofs.Ready.{opened_with}
-use Rattle.call_outcome.proofs.Ends.{did_refused}
-use Rattle.call_recover.proofs.Laws.{recover_refused, recover_granted}
+use Rattle.std.proofs.lemmas.Result.{err_from_is_err_and}
+use Rattle.model.specs.Ground.{◌>>=◌}
+use Rattle.operations.specs.Calls.{recover}
+use Rattle.call_outcome.proofs.Ends.{did_refused, did_spent}
 use Rattle.call_recover.proofs.recover.Goals as goal
 
-pub recover_on-requires : goal.recover_on-requires
-recover_on-requires c = opened_with _ _ _ c.examine-e.ensures _ c.in-Granted.is
+pub returns-in_err-v : goal.returns-in_err-v
+unfolding recover ◌>>=◌
+returns-in_err-v c =
+    let p = err_from_is_err_and c.from_residual.result c.from_residual.ensures.1 in
+    rw (p.1, p.2, ← c.in_err-v.ensures.answer) (did_refused _ _ _)
 
-pub returns-in-Refused : goal.returns-in-Refused
-returns-in-Refused c =
-    let a = c.args in
-    let examine = c.examine-e in
-    rw (recover_refused (window_of a.w.now) _ (sym examine.ensures.0 ∙ ap examined_of c.in-Refused.is)) (did_refused _ _ _)
-
-pub returns-in-Granted : goal.returns-in-Granted
-returns-in-Granted c =
-    let a = c.args in
-    let examine = c.examine-e in
-    rw (recover_granted (window_of a.w.now) _ (sym examine.ensures.0 ∙ ap examined_of c.in-Granted.is)) c.recover_on.ensures
+pub returns : goal.returns
+unfolding recover ◌>>=◌
+returns c = rw (← c.in_ok-v.ensures.answer, c.ended.ensures) (did_spent _ c.recover_on-stored.ensures)

@@ -1,21 +1,14 @@
-use mathlib.Core.Path.{sym, ap, ◌∙◌}
+use Rattle.std.proofs.lemmas.Result.{err_from_is_err_and}
 use Rattle.model.specs.Ground.{◌>>=◌}
-use Rattle.root_lookup.specs.Found.{found_of}
-use Rattle.call_outcome.proofs.Ends.{did_refused}
 use Rattle.operations.specs.Calls.{replace_on}
-use borrow.Author.Rules.{rules}
+use Rattle.call_outcome.proofs.Ends.{did_refused}
 use Rattle.call_replace.proofs.replace_on.Goals as goal
 
-pub replace_file-requires : goal.replace_file-requires
-replace_file-requires c = (search rules, rw c.in-At.is at c.file_of-o.ensures.1)
-
-pub returns-in-Missing : goal.returns-in-Missing
+pub returns-in_err-f : goal.returns-in_err-f
 unfolding replace_on ◌>>=◌
-returns-in-Missing c =
-    let a = c.args in
-    rw (sym c.file_of-o.ensures.0 ∙ ap found_of c.in-Missing.is) (did_refused a.limit _ a.w.now)
+returns-in_err-f c =
+    let p = err_from_is_err_and c.from_residual.result c.from_residual.ensures.1 in rw (p.1, p.2, ← c.in_err-f.ensures.answer) (did_refused _ _ _)
 
-pub returns-in-At : goal.returns-in-At
+pub returns : goal.returns
 unfolding replace_on ◌>>=◌
-returns-in-At c =
-    rw (sym c.file_of-o.ensures.0 ∙ ap found_of c.in-At.is) c.replace_file.ensures
+returns c = rw (← c.in_ok-f.ensures.answer) c.replace_file.ensures

@@ -1,25 +1,18 @@
-use mathlib.Core.Path.{sym, ap, ◌∙◌}
+use Rattle.std.proofs.lemmas.Result.{err_from_is_err_and}
 use Rattle.model.specs.Ground.{◌>>=◌}
-use Rattle.root_lookup.specs.Found.{found_of}
 use Rattle.call_outcome.proofs.Ends.{did_refused}
 use Rattle.operations.specs.Calls.{truncate_on}
 use Rattle.call_truncate.proofs.truncate_on.Goals as goal
 
 pub truncate_as-requires : goal.truncate_as-requires
-truncate_as-requires c =
-    let pre = c.requires in
-    let file_of = c.file_of-o in
-    record { ready = pre; chained = rw c.in-At.is at file_of.ensures.1 }
+truncate_as-requires c = record { ready = c.requires; chained = c.in_ok-f.ensures.chained }
 
-pub returns-in-Missing : goal.returns-in-Missing
+pub returns-in_err-f : goal.returns-in_err-f
 unfolding truncate_on ◌>>=◌
-returns-in-Missing c =
-    let a = c.args in
-    let file_of = c.file_of-o in
-    rw (sym file_of.ensures.0 ∙ ap found_of c.in-Missing.is) (did_refused a.limit _ a.w.now)
+returns-in_err-f c =
+    let p = err_from_is_err_and c.from_residual.result c.from_residual.ensures.1 in
+    rw (p.1, p.2, ← c.in_err-f.ensures.answer) (did_refused _ _ _)
 
-pub returns-in-At : goal.returns-in-At
+pub returns : goal.returns
 unfolding truncate_on ◌>>=◌
-returns-in-At c =
-    let file_of = c.file_of-o in
-    rw (sym file_of.ensures.0 ∙ ap found_of c.in-At.is) c.truncate_as.ensures
+returns c = rw (← c.in_ok-f.ensures.answer) c.truncate_as.ensures

@@ -2,7 +2,6 @@ use mathlib.Core.Path.{◌≡◌, refl, sym, ap, ◌∙◌}
 use Prim.Native.Nat.{ℕ, ◌+◌, ◌-◌}
 use native.Mathlib.Omega.{arith}
 use mathlib.Core.Bool.{false}
-use borrow.Author.Tests.{not-true, not-false}
 use Rattle.model.specs.Sector.{card_of}
 use Rattle.model.specs.Fat.{fat1_of, entry, in_range, is_end}
 use Rattle.model.specs.Chain.{ends_after}
@@ -20,13 +19,13 @@ returns-then-not-is_inside c =
     let e = entry (fat1_of a.l (card_of a.w.now)) in
     let turn = c.loop-left in
     let z : turn.k ≡ turn.k + 1 - 1 = omega arith in
-    let out : in_range a.l turn.k ≡ false = sym c.is_inside.ensures ∙ not-true _ c.if-not-is_inside.true-raw in
+    let out : in_range a.l turn.k ≡ false = sym c.is_inside.ensures ∙ c.if-not-is_inside.true in
     sym (turn.invariant ∙ ends_outside a.l e 1 turn.left turn.k (omega arith) (omega arith) (adjacent_one e turn.k) (rw z at out))
 
 pub run_length-m-requires : goal.run_length-m-requires
 run_length-m-requires c =
     let a = c.args in
-    let t = inside a.l c.loop-left.k (sym c.is_inside.ensures ∙ not-false _ c.if-not-is_inside.false-raw) in
+    let t = inside a.l c.loop-left.k (sym c.is_inside.ensures ∙ c.if-not-is_inside.false) in
     (search rules, omega (arith, t), search rules)
 
 pub returns-then-not-is_inside-2 : goal.returns-then-not-is_inside-2
@@ -36,7 +35,7 @@ returns-then-not-is_inside-2 c =
     let turn = c.loop-left in
     let run = c.run_length-m.ensures in
     sym (turn.invariant ∙ ends_outside a.l e c.run_length-m.result turn.left turn.k run.0 run.1 run.3
-    (sym c.is_inside-in-loop-left.ensures ∙ not-true _ c.if-not-is_inside-2.true-raw))
+    (sym c.is_inside-in-loop-left.ensures ∙ c.if-not-is_inside-2.true))
 
 pub entry_at-k-requires : goal.entry_at-k-requires
 entry_at-k-requires c =
@@ -51,9 +50,8 @@ returns-then-left-m c =
     let e = entry (fat1_of a.l (card_of a.w.now)) in
     let turn = c.loop-left in
     let run = c.run_length-m.ensures in
-    let low = sym c.is_inside.ensures
-    ∙ not-false _ c.if-not-is_inside.false-raw in
-    let high = sym c.is_inside-in-loop-left.ensures ∙ not-false _ c.if-not-is_inside-2.false-raw in
+    let low = sym c.is_inside.ensures ∙ c.if-not-is_inside.false in
+    let high = sym c.is_inside-in-loop-left.ensures ∙ c.if-not-is_inside-2.false in
     c.is_end.ensures ∙ ap is_end c.entry_at-k.ensures.0
     ∙ sym (turn.invariant ∙ ends_here a.l e _ turn.left turn.k run.0 run.1 run.3 low high c.if-left-m.true)
 
@@ -63,9 +61,8 @@ loop-left-preserved c =
     let e = entry (fat1_of a.l (card_of a.w.now)) in
     let turn = c.loop-left in
     let run = c.run_length-m.ensures in
-    let low = sym c.is_inside.ensures
-    ∙ not-false _ c.if-not-is_inside.false-raw in
-    let high = sym c.is_inside-in-loop-left.ensures ∙ not-false _ c.if-not-is_inside-2.false-raw in
+    let low = sym c.is_inside.ensures ∙ c.if-not-is_inside.false in
+    let high = sym c.is_inside-in-loop-left.ensures ∙ c.if-not-is_inside-2.false in
     turn.invariant ∙ ends_later a.l e _ turn.left turn.k run.0 run.1 run.3 low high c.if-left-m.false
     ∙ ap (ends_after a.l e (turn.left - c.run_length-m.result)) (sym c.entry_at-k.ensures.0)
 

@@ -1,34 +1,24 @@
-use mathlib.Core.Path.{◌≡◌, refl}
 use native.Mathlib.Omega.{arith}
-use borrow.Author.Tests.{not-true, not-false}
-use Rattle.model.proofs.Runs.{turns_none, turns_more, turns_cut}
+use Rattle.std.proofs.lemmas.Result.{err_from_is_err_and}
+use Rattle.model.proofs.Runs.{spends_none, spends_more, spends_cut}
 use Rattle.fat_copy.proofs.Copies.{copy_turn}
-use borrow.Author.Rules.{rules}
 use Rattle.fat_copy.proofs.copy_fat.Goals as goal
 
 pub loop-k-init : goal.loop-k-init
-loop-k-init c = (search rules, refl, turns_none _ _ _)
+loop-k-init c = spends_none _ _ _
 
-pub returns-then-not-p : goal.returns-then-not-p
-returns-then-not-p c =
-    let copy-changed = c.copy_changed-p in
+pub returns-in_err-copy_changed : goal.returns-in_err-copy_changed
+returns-in_err-copy_changed c =
     let a = c.args in
     let l = c.loop-k in
-    let t = copy_turn a.from a.to a.n l.k a.limit l.made a.w.now l.w (omega arith) (omega arith) l.invariant.2 in
-    turns_cut _ a.limit l.k a.w.now l.w _ l.made _ l.invariant.2 a.n (omega arith)
-    (rw (t, not-true copy-changed.result.whole c.if-not-p.true) at copy-changed.ensures)
+    let p = err_from_is_err_and c.from_residual.result c.from_residual.ensures.1 in
+    rw (p.1, p.2)
+    (spends_cut _ l.invariant (rw (copy_turn a.from a.to a.n l.k (omega arith) (omega arith) l.invariant) at c.copy_changed.ensures)
+    c.in_err-copy_changed.was a.n (omega arith))
 
 pub loop-k-preserved : goal.loop-k-preserved
 loop-k-preserved c =
-    let copy-changed = c.copy_changed-p in
     let a = c.args in
     let l = c.loop-k in
-    let t = copy_turn a.from a.to a.n l.k a.limit l.made a.w.now l.w (omega arith) (omega arith) l.invariant.2 in (
-      search rules,
-      search rules,
-      turns_more _ a.limit l.k a.w.now l.w _ l.made _ l.invariant.2
-          (rw (t, not-false copy-changed.result.whole c.if-not-p.false) at copy-changed.ensures),
-    )
-
-pub returns : goal.returns
-returns c = let end : c.loop-k.k ≡ c.args.n = omega arith in rw end at c.loop-k.invariant.2
+    spends_more _ l.invariant (rw (copy_turn a.from a.to a.n l.k (omega arith) (omega arith) l.invariant) at c.copy_changed.ensures)
+    c.in_ok-copy_changed.was

@@ -5,24 +5,22 @@ use Rattle.model.specs.Sector.{card_of}
 use Rattle.model.specs.Fat.{Fat, fat_at}
 use Rattle.fat_copy.proofs.Laws.{loaded, led, lead_none, lead_away}
 use Rattle.fat_copy.proofs.load_leading.Goals as goal
-
-pub returns-then-k-eq0 : goal.returns-then-k-eq0
-returns-then-k-eq0 c =
-    let a = c.args in
-    λ j h. loaded c.load-buf.result a.w.now (a.fat + a.s) c.load-buf.ensures j h
-    ∙ ap (λ (g : Fat). g a.s j) (sym (lead_none a.k a.v (fat_at (card_of a.w.now) a.fat) c.if-k-eq0.true))
+use Rattle.fat_copy.proofs.load_leading.Goals.{else-k-ne0-via-then-k-ne0+else-k-s, else-k-ne0-via-else-k-ne0}
 
 pub returns-then-k-s : goal.returns-then-k-s
 returns-then-k-s c =
     let a = c.args in
-    λ j h. loaded c.load-buf.result a.w.now (a.fat + a.s) c.load-buf.ensures j h
-    ∙ ap (λ (b : Bytes). b j) (sym (lead_away a.k a.v (fat_at (card_of a.w.now) a.fat) a.s (λ e. c.if-k-s.true (sym e))))
+    let buf = c.copy_from_slice in
+    λ j h. led buf.new.self c.put_entry.new.buf (fat_at (card_of a.w.now) a.fat) a.k a.v a.s j c.if-k-ne0.true (sym c.if-k-s.true)
+    (loaded buf.new.self a.w.now (a.fat + a.s) (rw (← buf.ensures.after) at c.bytes.ensures.1) j h) (c.put_entry.ensures j)
 
-pub returns : goal.returns
-returns c =
-    let load = c.load-buf in
-    let if1 = c.if-k-eq0 in
-    let if2 = c.if-k-s in
+pub returns-else-k-ne0 : goal.returns-else-k-ne0
+returns-else-k-ne0 c =
     let a = c.args in
-    λ j h. led load.result c.put_entry.new.buf (fat_at (card_of a.w.now) a.fat) a.k a.v a.s j if1.false (sym if2.false)
-    (loaded load.result a.w.now (a.fat + a.s) load.ensures j h) (c.put_entry.ensures j)
+    let buf = c.copy_from_slice in
+    let f = fat_at (card_of a.w.now) a.fat in
+    λ j h. loaded buf.new.self a.w.now (a.fat + a.s) (rw (← buf.ensures.after) at c.bytes.ensures.1) j h
+    ∙ elim c.else-k-ne0.branch [
+      | else-k-ne0-via-then-k-ne0+else-k-s w ↦ ap (λ (b : Bytes). b j) (sym (lead_away a.k a.v f a.s (λ e. w.if-k-s.false (sym e))))
+      | else-k-ne0-via-else-k-ne0 w ↦ ap (λ (g : Fat). g a.s j) (sym (lead_none a.k a.v f w.if-k-ne0.false))
+    ]

@@ -1,46 +1,27 @@
-use mathlib.Core.Path.{◌≡◌, sym, ap, ◌∙◌}
+use mathlib.Core.Path.{sym, ◌∙◌}
 use Prim.Native.Nat.{◌+◌}
 use native.Mathlib.Omega.{arith}
 use borrow.Author.Tests.{eq-eqb, ne_eqb}
-use Rattle.model.specs.Scan.{count_from}
 use Rattle.model.specs.Sector.{card_of}
 use Rattle.model.specs.Fat.{fat_at}
 use Rattle.model.proofs.Scan.{count_none}
 use Rattle.model.proofs.Searches.{count_hit, count_miss}
 use Rattle.fat_read.specs.Located.{holds}
 use Rattle.fat_read.proofs.Laws.{flat}
-use borrow.Author.Rules.{rules}
 use Rattle.fat_read.proofs.count_entries.Goals as goal
 use Rattle.fat_read.proofs.count_entries.Goals.{then-pair-v, else-pair-v}
 
 pub loop-i-init : goal.loop-i-init
-loop-i-init c = (search rules, search rules, sym (count_none _ _))
-
-pub overflow_add-found : goal.overflow_add-found
-overflow_add-found c = omega arith
+loop-i-init c = (omega arith, sym (count_none _ _))
 
 pub loop-i-preserved : goal.loop-i-preserved
 loop-i-preserved c =
     let o = c.loop-i in
     let a = c.args in
     let p = holds a.v (fat_at (card_of a.w.now) a.fat) in
-    let i = o.i in
-    let k = a.k + i in
+    let k = a.k + o.i in
     let e = flat a.w.now a.fat k _ _ (omega arith) c.pair.ensures.is in
     elim c.if-pair-v.branch [
-      | then-pair-v u ↦ (
-        search rules,
-        omega arith,
-        u.found-is ∙ count_hit p a.k i o.found k o.invariant.2 (omega arith) (eq-eqb _ _ (sym e ∙ u.if-pair-v.true)),
-      )
-      | else-pair-v u ↦ (
-        search rules,
-        omega arith,
-        u.found-is ∙ count_miss p a.k i o.found k o.invariant.2 (omega arith) (ne_eqb _ _ (λ q. u.if-pair-v.false (e ∙ q))),
-      )
+      | then-pair-v u ↦ (omega arith, u.found-is ∙ count_hit p a.k o.i o.found k o.invariant.1 (omega arith) (eq-eqb _ _ (sym e ∙ u.if-pair-v.true)))
+      | else-pair-v u ↦ (omega arith, u.found-is ∙ count_miss p a.k o.i o.found k o.invariant.1 (omega arith) (ne_eqb _ _ (λ q. u.if-pair-v.false (e ∙ q))))
     ]
-
-pub returns : goal.returns
-returns c = let a = c.args in
-    let e : c.loop-i.i ≡ a.n = omega arith in
-    (c.loop-i.invariant.2 ∙ ap (count_from (holds a.v (fat_at (card_of a.w.now) a.fat)) a.k) e, omega arith)

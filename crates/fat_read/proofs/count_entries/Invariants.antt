@@ -1,5 +1,5 @@
 use mathlib.Core.Path.{◌≡◌}
-use Prim.Native.Nat.{◌-◌, ◌≤◌}
+use Prim.Native.Nat.{◌≤◌}
 use Rattle.model.specs.Scan.{count_from}
 use Rattle.model.specs.Sector.{card_of}
 use Rattle.model.specs.Fat.{fat_at}
@@ -7,7 +7,4 @@ use Rattle.fat_read.specs.Located.{holds}
 use Rattle.fat_read.proofs.count_entries.Given as goal
 
 abbrev pub invariant-loop-i : goal.invariant-loop-i
-invariant-loop-i l = (l.i ≤ l.n) × (l.found ≤ l.i) × (l.found ≡ count_from (holds l.v (fat_at (card_of l.w) l.fat)) l.k l.i)
-
-abbrev pub decreases-loop-i : goal.decreases-loop-i
-decreases-loop-i l = l.n - l.i
+invariant-loop-i l = (l.found ≤ l.i) × (l.found ≡ count_from (holds l.v (fat_at (card_of l.w) l.fat)) l.k l.i)

@@ -1,16 +1,10 @@
 use mathlib.Core.Path.{sym, ◌∙◌}
 use native.Mathlib.Omega.{arith}
 use borrow.Author.Tests.{eq-eqb, ne_eqb}
-use Rattle.model.proofs.Scan.{first_is, first_none, sofar_none, sofar_more, sofar_cut}
+use Rattle.model.proofs.Scan.{first_is, first_none, sofar_more, sofar_cut}
 use Rattle.model.proofs.Searches.{sofar_over}
 use borrow.Author.Rules.{rules}
 use Rattle.fat_read.proofs.find_entry.Goals as goal
-
-pub loop-i-init : goal.loop-i-init
-loop-i-init c = (search rules, search rules, sofar_none _ _ _ _ (omega arith))
-
-pub overflow_add-i : goal.overflow_add-i
-overflow_add-i c = omega (arith, (c.is_bare.ensures c.if-is_bare.true).0)
 
 pub loop-i-preserved-then-is_bare : goal.loop-i-preserved-then-is_bare
 loop-i-preserved-then-is_bare c =

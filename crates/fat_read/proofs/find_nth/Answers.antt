@@ -1,10 +1,7 @@
 use mathlib.Core.Path.{◌∙◌}
 use native.Mathlib.Omega.{arith}
-use Rattle.model.proofs.Nths.{seeks_start, seeks_pass, seeks_within, seeks_end}
+use Rattle.model.proofs.Nths.{seeks_pass, seeks_within, seeks_end}
 use Rattle.fat_read.proofs.find_nth.Goals as goal
-
-pub loop-i-init : goal.loop-i-init
-loop-i-init c = seeks_start c.requires.2
 
 pub returns-then-left-found : goal.returns-then-left-found
 returns-then-left-found c =

@@ -1,6 +1,5 @@
 use mathlib.Core.Path.{◌≡◌}
 use mathlib.Core.Bool.{false}
-use Prim.Native.Nat.{◌-◌, ◌≤◌}
 use Rattle.model.specs.Scan.{count_from}
 use Rattle.model.specs.Sector.{card_of}
 use Rattle.model.specs.Fat.{fat_at}
@@ -8,7 +7,4 @@ use Rattle.fat_read.specs.Located.{holds}
 use Rattle.fat_read.proofs.is_among.Given as goal
 
 abbrev pub invariant-loop-i : goal.invariant-loop-i
-invariant-loop-i l = (l.i ≤ 256) × (l.seen ≡ false → count_from (holds l.v (fat_at (card_of l.w) l.fat)) l.k l.i ≡ 0)
-
-abbrev pub decreases-loop-i : goal.decreases-loop-i
-decreases-loop-i l = 256 - l.i
+invariant-loop-i l = l.seen ≡ false → count_from (holds l.v (fat_at (card_of l.w) l.fat)) l.k l.i ≡ 0

@@ -1,15 +1,13 @@
 use mathlib.Core.Path.{◌≡◌}
-use Prim.Native.Nat.{ℕ, ◌+◌, ◌-◌, ◌*◌, ◌/◌, ◌<◌, ◌≤◌}
+use Prim.Native.Nat.{ℕ, ◌+◌, ◌*◌, ◌/◌, ◌<◌, ◌≤◌}
 use lib.Dec.{eqb}
-use lib.ListN.{length, get_or}
+use lib.ListN.{get_or}
 use Rattle.model.specs.Bytes.{pick}
 use Rattle.fat_release.specs.Release.{mark_of}
 use Rattle.fat_release.proofs.clear_marked.Given as goal
 
 abbrev pub invariant-loop-k : goal.invariant-loop-k
-invariant-loop-k l = (l.k ≤ 32) × (length l.buf ≡ 512) ×
-    ((j : ℕ) → j < 16 * l.k → get_or l.buf j 0 ≡ pick (eqb (mark_of l.marks (l.at + j / 2)) 0) (get_or l.initial.buf j 0) 0)
-    × ((j : ℕ) → 16 * l.k ≤ j → get_or l.buf j 0 ≡ get_or l.initial.buf j 0)
-
-abbrev pub decreases-loop-k : goal.decreases-loop-k
-decreases-loop-k l = 32 - l.k
+invariant-loop-k l = record {
+  done : (j : ℕ) → j < 16 * l.k → get_or l.buf j 0 ≡ pick (eqb (mark_of l.marks (l.at + j / 2)) 0) (get_or l.initial.buf j 0) 0;
+  rest : (j : ℕ) → 16 * l.k ≤ j → get_or l.buf j 0 ≡ get_or l.initial.buf j 0;
+}

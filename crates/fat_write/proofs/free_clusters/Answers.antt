@@ -29,7 +29,10 @@ returns-then-m-eq0 c = let a = c.args in
 pub renew_all-requires-2 : goal.renew_all-requires-2
 renew_all-requires-2 c =
     let h0 = c.requires in
-    let a = c.args in record { held = (search rules, search rules, no_new _ _, rw (own_chain a.l (card_of a.w.now) h0.held.0.fits.shape a.m a.old h0.held.1) h0.held.1); marks_len = h0.marks_len }
+    let a = c.args in record {
+      held = (search rules, search rules, no_new _ _, rw (own_chain a.l (card_of a.w.now) h0.held.0.fits.shape a.m a.old h0.held.1) h0.held.1);
+      marks_len = h0.marks_len;
+    }
 
 pub returns : goal.returns
 returns c =

@@ -12,4 +12,4 @@ returns-then-x-p c =
 pub returns : goal.returns
 returns c =
     let a = c.args in
-    moved_on a.l (fat1_of a.l (card_of a.w.now)) a.p a.x c.find_entry-k.result (omega arith) c.find_entry-k.ensures.0
+    moved_on a.l (fat1_of a.l (card_of a.w.now)) a.p a.x c.next_free-cluster.result (omega arith) c.next_free-cluster.ensures.0

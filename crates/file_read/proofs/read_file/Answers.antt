@@ -3,7 +3,7 @@ use Rattle.model.specs.Sector.{card_of}
 use Rattle.file_read.proofs.Laws.{read_none}
 use Rattle.file_read.proofs.read_file.Goals as goal
 
-pub returns-then-wider-offset : goal.returns-then-wider-offset
-returns-then-wider-offset c =
+pub returns-then-from-offset : goal.returns-then-from-offset
+returns-then-from-offset c =
     let a = c.args in
     read_none a.l (card_of a.w.now) a.f a.offset _ a.buffer.now (omega arith)

@@ -1,6 +1,5 @@
-use mathlib.Core.Path.{◌≡◌}
-use Prim.Native.Nat.{ℕ, ◌+◌, ◌-◌, ◌/◌, ◌≤◌, ◌<◌}
-use lib.ListN.{length, get_or}
+use Rattle.std.proofs.Common.{◌≡◌, ℕ, ◌+◌, ◌-◌, ◌/◌, ◌≤◌, ◌<◌}
+use lib.ListN.{get_or}
 use Rattle.model.specs.Bytes.{bytes_of, overlay, part}
 use Rattle.model.specs.Sector.{card_of}
 use Rattle.model.specs.Fat.{entry, fat1_of}
@@ -9,10 +8,14 @@ use Rattle.file_read.proofs.Laws.{along}
 use Rattle.file_read.proofs.read_within.Given as goal
 
 abbrev pub invariant-loop-done : goal.invariant-loop-done
-invariant-loop-done l = (l.done ≤ l.count) × (length l.buffer ≡ length l.initial.buffer) ×
-    (l.cluster ≡ links (entry (fat1_of l.l (card_of l.w))) l.index l.initial.cluster) × (l.cluster < 65536)
-    × (l.index ≤ (l.offset + l.done) / 512 / l.l.factor)
-    × ((j : ℕ) → get_or l.buffer j 0 ≡ overlay l.done (part (along l.l (card_of l.w) l.initial.cluster) l.offset) 0 (bytes_of l.initial.buffer) j)
+invariant-loop-done l = record {
+  within : l.done ≤ l.count;
+  at : l.cluster ≡ links (entry (fat1_of l.l (card_of l.w))) l.index l.initial.cluster;
+  small : l.cluster < 65536;
+  low : l.index ≤ (l.offset + l.done) / 512 / l.l.factor;
+  bytes : (j : ℕ) → get_or l.buffer j 0
+      ≡ overlay l.done (part (along l.l (card_of l.w) l.initial.cluster) l.offset) 0 (bytes_of l.initial.buffer) j;
+}
 
 abbrev pub decreases-loop-done : goal.decreases-loop-done
 decreases-loop-done l = l.count - l.done

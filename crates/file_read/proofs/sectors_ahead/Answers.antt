@@ -1,34 +1,8 @@
 use native.Mathlib.Omega.{arith}
 use Rattle.model.specs.Sector.{card_of}
 use Rattle.model.specs.Fat.{entry, fat1_of}
-use Rattle.fat_chain.proofs.Links.{links_none}
 use Rattle.file_read.proofs.Laws.{run_ahead}
 use Rattle.file_read.proofs.sectors_ahead.Goals as goal
-
-pub run_length-requires : goal.run_length-requires
-run_length-requires c =
-    let pre = c.requires in
-    let a = c.args in
-    let first = (pre.1 0 (omega arith)).1 in
-    (pre.0, omega (arith, first, links_none (entry (fat1_of a.l (card_of a.w.now))) a.k, pre.0.fits.shape.few), omega arith)
-
-pub overflow_mul-result : goal.overflow_mul-result
-overflow_mul-result c =
-    let run = c.run_length in
-    let a = c.args in
-    let pre = c.requires in
-    let e = entry (fat1_of a.l (card_of a.w.now)) in
-    let h = run_ahead a.l pre.0.fits.shape e a.k a.q a.n run.result pre.1 run.ensures.0 run.ensures.1 run.ensures.3 in
-    omega (arith, h.1)
-
-pub overflow_sub-result : goal.overflow_sub-result
-overflow_sub-result c =
-    let run = c.run_length in
-    let a = c.args in
-    let pre = c.requires in
-    let e = entry (fat1_of a.l (card_of a.w.now)) in
-    let h = run_ahead a.l pre.0.fits.shape e a.k a.q a.n run.result pre.1 run.ensures.0 run.ensures.1 run.ensures.3 in
-    omega (arith, h.0)
 
 pub returns : goal.returns
 returns c =

@@ -1,14 +1,9 @@
-use native.Mathlib.Omega.{arith}
+use Rattle.std.proofs.Common.{arith}
 use Rattle.model.specs.Text.{ascii}
-use Rattle.listing_text.proofs.Buffer.{wrote_then}
+use Rattle.listing_text.proofs.Buffer.{put_then}
 use Rattle.listing_line.specs.Words.{size_text}
 use Rattle.listing_line.proofs.put_size.Goals as goal
 
 pub returns : goal.returns
 unfolding size_text ascii
-returns c = (
-  wrote_then _ _ _ _ _ _ _ _ c.put_field-size.ensures.0
-      (wrote_then _ _ _ _ _ _ _ _ c.put_field-end.ensures.0
-      c.put_byte.ensures),
-  omega arith,
-)
+returns c = (put_then c.field.ensures.0 (put_then c.field-2.ensures.0 c.byte.ensures), omega arith)

@@ -1,4 +1,3 @@
-use Prim.Native.Nat.{◌-◌, ◌≤◌}
 use mathlib.Core.Bool.{true}
 use Rattle.model.specs.Sector.{card_of}
 use Rattle.model.specs.Record.{record_at}
@@ -7,7 +6,4 @@ use Rattle.model.proofs.Scan.{Sofar}
 use Rattle.log_record.proofs.is_apart.Given as goal
 
 abbrev pub invariant-loop-i : goal.invariant-loop-i
-invariant-loop-i l = (l.i ≤ l.n) × Sofar (apart (record_at (card_of l.log l.s)) l.k) true 0 l.i
-
-abbrev pub decreases-loop-i : goal.decreases-loop-i
-decreases-loop-i l = l.n - l.i
+invariant-loop-i l = Sofar (apart (record_at (card_of l.log l.s)) l.k) true 0 l.i

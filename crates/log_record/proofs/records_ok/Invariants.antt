@@ -1,4 +1,3 @@
-use Prim.Native.Nat.{◌-◌, ◌≤◌}
 use mathlib.Core.Bool.{true}
 use Rattle.model.specs.Sector.{card_of}
 use Rattle.model.specs.Record.{record_at}
@@ -7,7 +6,4 @@ use Rattle.model.proofs.Scan.{Sofar}
 use Rattle.log_record.proofs.records_ok.Given as goal
 
 abbrev pub invariant-loop-k : goal.invariant-loop-k
-invariant-loop-k l = (1 ≤ l.k) × (l.k ≤ 16) × Sofar (part_ok l.entries l.z (record_at (card_of l.log l.s))) true 1 l.k
-
-abbrev pub decreases-loop-k : goal.decreases-loop-k
-decreases-loop-k l = l.m - l.k
+invariant-loop-k l = Sofar (part_ok l.entries l.z (record_at (card_of l.log l.s))) true 1 l.k

@@ -1,4 +1,3 @@
-use Prim.Native.Nat.{◌-◌, ◌≤◌}
 use mathlib.Core.Bool.{false}
 use lib.Dec.{eqb}
 use Rattle.model.specs.Bytes.{pick}
@@ -10,7 +9,4 @@ use Rattle.model.proofs.Scan.{Sofar}
 use Rattle.log_scan.proofs.end_past.Given as goal
 
 abbrev pub invariant-loop-k : goal.invariant-loop-k
-invariant-loop-k l = (l.k ≤ l.n) × Sofar (λ m. eqb (pick (among (named_slots l.o) m) 0xE5 (first_bytes l.l (card_of l.w) m)) 0) false 0 l.k
-
-abbrev pub decreases-loop-k : goal.decreases-loop-k
-decreases-loop-k l = l.n - l.k
+invariant-loop-k l = Sofar (λ m. eqb (pick (among (named_slots l.o) m) 0xE5 (first_bytes l.l (card_of l.w) m)) 0) false 0 l.k

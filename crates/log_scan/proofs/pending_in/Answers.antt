@@ -12,21 +12,21 @@ use Rattle.log_scan.proofs.pending_in.Goals as goal
 pub judge-requires : goal.judge-requires
 judge-requires c =
     let a = c.args in
-    let pre = c.requires in
-    let p = placed (first_pending a.a.sectors (card_of a.log.now)) a.a.sectors _ _ (sym pre.1 ∙ c.in-At.is) in
+    let p = placed (first_pending a.a.sectors (card_of a.log.now)) a.a.sectors _ (sym c.requires.1 ∙ c.in-Some.is) in
     (search rules, p.within, p.few, p.at)
 
-pub returns-in-Nowhere : goal.returns-in-Nowhere
+pub returns-in-None : goal.returns-in-None
 unfolding pending_in
-returns-in-Nowhere c =
+returns-in-None c =
     let a = c.args in
-    let pre = c.requires in
-    rw (le-ltb _ _ (nowhere (first_pending a.a.sectors (card_of a.log.now)) a.a.sectors (sym pre.1 ∙ c.in-Nowhere.is)))
+    rw (le-ltb _ _ (nowhere (first_pending a.a.sectors (card_of a.log.now)) a.a.sectors (sym c.requires.1 ∙ c.in-None.is)))
 
-pub returns-in-At : goal.returns-in-At
+pub returns-in-Some : goal.returns-in-Some
 unfolding pending_in judged
-returns-in-At c =
+returns-in-Some c =
     let a = c.args in
-    let pre = c.requires in
-    let n = a.a.sectors in let p = placed (first_pending n (card_of a.log.now)) n
-    c.in-At.s c.in-At.r (sym pre.1 ∙ c.in-At.is) in rw (p.at, lt-ltb (16 * c.in-At.s + c.in-At.r) (16 * n) (omega (arith, p.within, p.few))) c.judge.ensures
+    let n = a.a.sectors in
+    let s = c.in-Some.p.sector in
+    let r = c.in-Some.p.number in
+    let p = placed (first_pending n (card_of a.log.now)) n _ (sym c.requires.1 ∙ c.in-Some.is) in
+    rw (p.at, lt-ltb (16 * s + r) (16 * n) (omega (arith, p.within, p.few))) c.judge.ensures

@@ -1,36 +1,25 @@
 use mathlib.Core.List.{[], ◌∷◌}
-use borrow.Author.Tests.{not-true, not-false}
+use Rattle.std.proofs.lemmas.Result.{err_from_is_err_and}
 use Rattle.model.specs.Bytes.{bytes_of}
 use Rattle.model.specs.Sector.{card_of}
-use Rattle.model.specs.Record.{with_text, planned, commit}
-use Rattle.model.proofs.Runs.{ran_stop, ran_then}
-use Rattle.operations.specs.Finish.{finish}
+use Rattle.model.specs.Record.{planned, commit}
+use Rattle.model.proofs.Runs.{spent_stop, spent_then}
 use Rattle.operations.proofs.Roots.{redo_stores}
 use Rattle.log_steps.proofs.Kept.{group_kept}
 use Rattle.log_steps.proofs.redo.Goals as goal
 
-pub returns-then-not-done : goal.returns-then-not-done
-returns-then-not-done c =
+pub returns-in_err-finish : goal.returns-in_err-finish
+returns-in_err-finish c =
     let a = c.args in
-    let the-finish = c.finish-done in
-    let cut = not-true the-finish.result.whole c.if-not-done.true in
-    rw (cut, redo_stores a.l (planned a.p (bytes_of a.text.now)) (card_of a.w.now))
-    (ran_stop a.limit (finish a.l (with_text a.p.operation (bytes_of a.text.now)) (card_of a.w.now)) a.w.now
-    the-finish.new.w the-finish.result.made (rw cut at the-finish.ensures)
-    (commit (card_of a.w.now) (planned a.p (bytes_of a.text.now)) ∷ []))
+    let g = planned a.p (bytes_of a.text.now) in
+    let p = err_from_is_err_and c.from_residual.result c.from_residual.ensures.1 in
+    rw (p.1, redo_stores a.l g (card_of a.w.now)) (spent_stop c.in_err-finish.was c.finish.ensures (commit (card_of a.w.now) g ∷ []))
 
 pub returns : goal.returns
 unfolding commit
 returns c =
     let a = c.args in
     let h = c.requires in
-    let the-finish = c.finish-done in
-    let the-if1 = c.if-not-done in
-    let the-commit = c.commit-marked in
-    let one = rw (not-false the-finish.result.whole the-if1.false) at the-finish.ensures in
-    rw (c.joined.ensures.0, c.joined.ensures.1, redo_stores a.l (planned a.p (bytes_of a.text.now)) (card_of a.w.now))
-    (ran_then a.limit (finish a.l (with_text a.p.operation (bytes_of a.text.now)) (card_of a.w.now)) a.w.now
-    the-finish.new.w the-finish.result.made one (commit (card_of a.w.now) (planned a.p (bytes_of a.text.now)) ∷ [])
-    the-commit.new.w the-commit.result.made the-commit.result.whole
-    (rw (group_kept a.l h.held.fits.shape a.limit a.w.now the-finish.new.w the-finish.result.made _
-    (with_text a.p.operation (bytes_of a.text.now)) (planned a.p (bytes_of a.text.now)) h.group_within.0 one) at the-commit.ensures))
+    let g = planned a.p (bytes_of a.text.now) in
+    let same = group_kept a.l h.held.fits.shape g.change g h.group_within.0 c.finish.ensures in
+    rw (redo_stores a.l g (card_of a.w.now)) (spent_then c.in_ok-finish.was c.finish.ensures (rw same at c.commit.ensures))

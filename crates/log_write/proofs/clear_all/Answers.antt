@@ -1,35 +1,20 @@
-use mathlib.Core.Path.{refl}
 use native.Mathlib.Omega.{arith}
-use borrow.Author.Tests.{not-true, not-false}
-use Rattle.model.proofs.Runs.{turns_none, turns_more, turns_cut}
-use Rattle.log_write.proofs.Laws.{clear_turn, clear_turns, clear_end}
-use borrow.Author.Rules.{rules}
+use mathlib.Core.Path.{◌≡◌}
+use Rattle.std.proofs.lemmas.Result.{err_from_is_err_and}
+use Rattle.log_write.proofs.Laws.{clear_begun, clear_more, clear_cut, clear_ended}
 use Rattle.log_write.proofs.clear_all.Goals as goal
 
 pub loop-k-init : goal.loop-k-init
-loop-k-init c = (search rules, refl, turns_none _ _ _)
+loop-k-init c = clear_begun c.args.a _ _
 
-pub returns-then-not-p : goal.returns-then-not-p
-returns-then-not-p c =
-    let from-end = c.from_end in
-    let store-zeros = c.store_zeros-p in
-    let a = c.args in
-    let l = c.loop-k in
-    rw (clear_turns a.a)
-    (turns_cut (clear_turn a.a) a.limit l.k a.w.now l.w _ l.made _ l.invariant.2 a.a.sectors (omega arith)
-    (rw (from-end.ensures, not-true store-zeros.result.whole c.if-not-p.true) at store-zeros.ensures))
+pub returns-in_err-store_zeros : goal.returns-in_err-store_zeros
+returns-in_err-store_zeros c =
+    let p = err_from_is_err_and c.from_residual.result c.from_residual.ensures.1 in
+    rw p.1 (clear_cut c.args.a (omega arith) (omega arith) c.loop-k.invariant c.store_zeros.ensures c.in_err-store_zeros.was)
 
 pub loop-k-preserved : goal.loop-k-preserved
 loop-k-preserved c =
-    let from-end = c.from_end in
-    let store-zeros = c.store_zeros-p in
-    let a = c.args in
-    let l = c.loop-k in (
-      search rules,
-      search rules,
-      turns_more (clear_turn a.a) a.limit l.k a.w.now l.w _ l.made _ l.invariant.2
-          (rw (from-end.ensures, not-false store-zeros.result.whole c.if-not-p.false) at store-zeros.ensures),
-    )
+    clear_more c.args.a (omega arith) (omega arith) c.loop-k.invariant c.store_zeros.ensures c.in_ok-store_zeros.was
 
 pub returns : goal.returns
-returns c = clear_end c.args.a c.loop-k.k _ _ _ _ _ (omega arith) c.loop-k.invariant.2
+returns c = let e : c.loop-k.k ≡ 0 = omega arith in clear_ended c.args.a (rw e at c.loop-k.invariant)

@@ -8,8 +8,7 @@ use Rattle.log_write.proofs.encode_group.Goals as goal
 pub returns : goal.returns
 returns c =
     let a = c.args in
-    let laid = c.lay_records.new.buf in
-    let the_copy = c.copy in
-    text_laid a.o a.text.now (bytes_of laid) (bytes_of the_copy.new.out) c.lay_records.ensures
-    (λ j. the_copy.ensures j ∙ ap (λ (z : ℕ). overlay (length a.text.now) (part (bytes_of a.text.now) 0) (32 * z)
-    (bytes_of laid) j) (c.index.ensures ∙ c.records_of.ensures.0))
+    let laid = bytes_of c.lay_records.new.buf in
+    text_laid a.o a.text.now laid (bytes_of c.copy.new.out) c.lay_records.ensures
+    (λ j. c.copy.ensures j
+    ∙ ap (λ (m : ℕ). overlay (length a.text.now) (part (bytes_of a.text.now) 0) (32 * m) laid j) c.records_of.ensures.0)

@@ -1,5 +1,4 @@
 use mathlib.Core.Bool.{true}
-use Prim.Native.Nat.{◌-◌, ◌≤◌}
 use lib.Dec.{eqb}
 use Rattle.model.specs.Bytes.{bytes_of}
 use Rattle.model.specs.Sector.{card_of}
@@ -9,7 +8,4 @@ use Rattle.model.proofs.Scan.{Sofar}
 use Rattle.root_long.proofs.has_characters.Given as goal
 
 abbrev pub invariant-loop-q : goal.invariant-loop-q
-invariant-loop-q l = (l.q ≤ l.n) × Sofar (λ m. eqb (long_character (slot_at l.l (card_of l.w)) l.s m) (character (bytes_of l.t) m)) true 0 l.q
-
-abbrev pub decreases-loop-q : goal.decreases-loop-q
-decreases-loop-q l = l.n - l.q
+invariant-loop-q l = Sofar (λ m. eqb (long_character (slot_at l.l (card_of l.w)) l.s m) (character (bytes_of l.t) m)) true 0 l.q

@@ -6,18 +6,14 @@ use borrow.Author.Tests.{not-true, not-false}
 use Rattle.model.specs.Sector.{card_of}
 use Rattle.model.specs.Root.{Directory, slot_at}
 use Rattle.model.specs.Long.{is_long}
-use Rattle.model.proofs.Scan.{sofar_none, sofar_more}
+use Rattle.model.proofs.Scan.{sofar_more}
 use Rattle.model.proofs.Belong.{inner_test, count_past, count_over, count_found, count_broken}
-use borrow.Author.Rules.{rules}
 use Rattle.root_long.proofs.long_count.Goals as goal
-
-pub loop-i-init : goal.loop-i-init
-loop-i-init c = (search rules, search rules, sofar_none _ _ _ _ (omega arith))
 
 pub returns-then-s-i : goal.returns-then-s-i
 returns-then-s-i c =
     let a = c.args in
-    sym (count_past (slot_at a.l (card_of a.w.now)) a.s c.loop-i.i c.loop-i.invariant.2 c.if-s-i.true)
+    sym (count_past (slot_at a.l (card_of a.w.now)) a.s c.loop-i.i c.loop-i.invariant c.if-s-i.true)
 
 pub returns-then-is_long : goal.returns-then-is_long
 returns-then-is_long c =
@@ -25,8 +21,8 @@ returns-then-is_long c =
     let d : Directory = slot_at a.l (card_of a.w.now) in
     let s : ℕ = a.s in
     let i : ℕ = c.loop-i.i in
-    let sum = c.wide-sum.ensures.0 ∙ c.checksum.ensures in
-    sym (count_found d s i c.loop-i.invariant.2 c.loop-i.invariant.0 (omega arith) (omega arith)
+    let sum = c.from-sum.ensures ∙ c.checksum.ensures in
+    sym (count_found d s i c.loop-i.invariant c.loop-i.auto.i (omega arith) (omega arith)
     (ap (λ x. is_long x (0x40 + i) (d (s - i))) (sym sum) ∙ sym c.is_long.ensures ∙ c.if-is_long.true))
 
 pub returns-then-not-is_long : goal.returns-then-not-is_long
@@ -35,8 +31,8 @@ returns-then-not-is_long c =
     let d : Directory = slot_at a.l (card_of a.w.now) in
     let s : ℕ = a.s in
     let i : ℕ = c.loop-i.i in
-    let sum = c.wide-sum.ensures.0 ∙ c.checksum.ensures in
-    sym (count_broken d s i c.loop-i.invariant.2 c.loop-i.invariant.0
+    let sum = c.from-sum.ensures ∙ c.checksum.ensures in
+    sym (count_broken d s i c.loop-i.invariant c.loop-i.auto.i
     (ap (λ x. is_long x (0x40 + i) (d (s - i))) (sym sum) ∙ sym c.is_long.ensures ∙ c.if-is_long.false)
     (ap (λ x. is_long x i (d (s - i))) (sym sum) ∙ sym c.is_long-in-loop-i.ensures ∙ not-true _ c.if-not-is_long.true-raw))
 
@@ -46,14 +42,11 @@ loop-i-preserved c =
     let d : Directory = slot_at a.l (card_of a.w.now) in
     let s : ℕ = a.s in
     let i : ℕ = c.loop-i.i in
-    let sum = c.wide-sum.ensures.0 ∙ c.checksum.ensures in (
-      search rules,
-      search rules,
-      sofar_more (inner_test d s) true 1 i c.loop-i.invariant.2
-          (ap (λ x. is_long x i (d (s - i))) (sym sum) ∙ sym c.is_long-in-loop-i.ensures ∙ not-false _ c.if-not-is_long.false-raw),
-    )
+    let sum = c.from-sum.ensures ∙ c.checksum.ensures in
+    sofar_more (inner_test d s) true 1 i c.loop-i.invariant
+    (ap (λ x. is_long x i (d (s - i))) (sym sum) ∙ sym c.is_long-in-loop-i.ensures ∙ not-false _ c.if-not-is_long.false-raw)
 
 pub returns : goal.returns
 returns c =
     let a = c.args in
-    sym (count_over (slot_at a.l (card_of a.w.now)) a.s c.loop-i.i c.loop-i.invariant.2 (omega arith))
+    sym (count_over (slot_at a.l (card_of a.w.now)) a.s c.loop-i.i c.loop-i.invariant (omega arith))

@@ -1,4 +1,3 @@
-use Prim.Native.Nat.{◌-◌, ◌≤◌}
 use mathlib.Core.Bool.{true}
 use Rattle.model.specs.Sector.{card_of}
 use Rattle.model.specs.Root.{slot_at}
@@ -7,7 +6,4 @@ use Rattle.model.proofs.Belong.{inner_test}
 use Rattle.root_long.proofs.long_count.Given as goal
 
 abbrev pub invariant-loop-i : goal.invariant-loop-i
-invariant-loop-i l = (1 ≤ l.i) × (l.i ≤ 21) × Sofar (inner_test (slot_at l.l (card_of l.w)) l.s) true 1 l.i
-
-abbrev pub decreases-loop-i : goal.decreases-loop-i
-decreases-loop-i l = 21 - l.i
+invariant-loop-i l = Sofar (inner_test (slot_at l.l (card_of l.w)) l.s) true 1 l.i

@@ -1,5 +1,5 @@
 use mathlib.Core.Bool.{false}
-use Prim.Native.Nat.{◌*◌, ◌-◌, ◌≤◌}
+use Prim.Native.Nat.{◌*◌, ◌≤◌}
 use lib.Dec.{eqb}
 use Rattle.model.specs.Sector.{card_of}
 use Rattle.model.specs.Root.{slot_at}
@@ -8,7 +8,4 @@ use Rattle.model.proofs.Scan.{Sofar}
 use Rattle.root_long.proofs.long_length.Given as goal
 
 abbrev pub invariant-loop-q : goal.invariant-loop-q
-invariant-loop-q l = (l.q ≤ l.n) × (l.n ≤ 260) × (l.n ≤ 13 * l.s) × Sofar (λ m. eqb (long_character (slot_at l.l (card_of l.w)) l.s m) 0) false 0 l.q
-
-abbrev pub decreases-loop-q : goal.decreases-loop-q
-decreases-loop-q l = l.n - l.q
+invariant-loop-q l = (l.n ≤ 260) × (l.n ≤ 13 * l.s) × Sofar (λ m. eqb (long_character (slot_at l.l (card_of l.w)) l.s m) 0) false 0 l.q

@@ -8,6 +8,3 @@ returns-in-Absent c = rw c.in-Absent.is
 pub returns-in-Directory : goal.returns-in-Directory
 unfolding admit
 returns-in-Directory c = rw c.in-Directory.is
-
-pub returns-in-File : goal.returns-in-File
-returns-in-File c = rw c.in-File.is c.ask_mark.ensures

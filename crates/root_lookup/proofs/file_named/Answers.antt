@@ -10,4 +10,4 @@ unfolding file_named
 returns c =
     let a = c.args in
     let e = c.admit.ensures ∙ ap (admit a.a) c.look_up.ensures in
-    (e, sits a.v (card_of a.w.now) a.a (view a.name.now) c.admit.result e)
+    record { answer = e; seated = sits a.v (card_of a.w.now) a.a (view a.name.now) c.admit.result e }

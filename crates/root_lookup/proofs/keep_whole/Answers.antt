@@ -1,15 +1,11 @@
-use mathlib.Core.Path.{sym, ◌∙◌}
-use borrow.Author.Tests.{not-true, not-false}
 use Rattle.model.specs.Ground.{◌when◌, ◌>>◌}
 use Rattle.operations.specs.Calls.{whole}
 use Rattle.root_lookup.proofs.keep_whole.Goals as goal
 
-pub returns-then-not-keeps : goal.returns-then-not-keeps
+pub returns-then-not-keeps-clause-answer : goal.returns-then-not-keeps-clause-answer
 unfolding whole ◌when◌ ◌>>◌
-returns-then-not-keeps c = (rw (sym c.keeps.ensures ∙ not-true _ c.if-not-keeps.true-raw), tt)
+returns-then-not-keeps-clause-answer c = rw (← c.if-not-keeps.ensures)
 
-pub returns : goal.returns
+pub returns-clause-answer : goal.returns-clause-answer
 unfolding whole ◌when◌ ◌>>◌
-returns c =
-    let pre = c.requires in
-    let k = sym c.keeps.ensures ∙ not-false _ c.if-not-keeps.false-raw in (rw k, record { seated = pre.1; chain = k })
+returns-clause-answer c = rw (← c.if-not-keeps.ensures)

@@ -1,17 +1,13 @@
-use mathlib.Core.Path.{◌≡◌, ap, ◌∙◌}
+use mathlib.Core.Path.{ap, ◌∙◌}
 use native.Mathlib.Omega.{arith}
-use lib.ListN.{length}
-use borrow.Author.Tests.{eqb-true}
 use Rattle.model.specs.Sector.{card_of}
-use Rattle.model.specs.Root.{name_ok, find}
-use Rattle.model.proofs.Tests.{every_at}
+use Rattle.model.specs.Root.{find}
 use Rattle.operations.specs.Calls.{slot_of}
+use Rattle.root_lookup.proofs.Laws.{name_length}
 use Rattle.root_lookup.proofs.slot_of.Goals as goal
 
 pub name_of-requires : goal.name_of-requires
-unfolding name_ok
-name_of-requires c = let e : length c.args.name.now ≡ 11 = eqb-true _ _
-    (every_at _ c.requires.1 0) in omega arith
+name_of-requires c = let e = name_length c.args.name.now c.requires.1 in omega arith
 
 pub returns : goal.returns
 unfolding slot_of

@@ -1,10 +1,7 @@
-use Rattle.std.proofs.Common.{not, sym, ap, ◌∙◌, arith, rules}
+use Rattle.std.proofs.Common.{not, sym, ap, ◌∙◌, arith}
 use Rattle.model.specs.LongName.{forbidden, all_allowed}
-use Rattle.model.proofs.Scan.{sofar_none, sofar_more, sofar_cut, all_of, all_not}
+use Rattle.model.proofs.Scan.{sofar_cut, all_of, all_not}
 use Rattle.root_names.proofs.all_allowed.Goals as goal
-
-pub loop-q-init : goal.loop-q-init
-loop-q-init c = (search rules, sofar_none _ _ _ _ (omega arith))
 
 pub returns-then-is_forbidden : goal.returns-then-is_forbidden
 unfolding all_allowed
@@ -12,11 +9,6 @@ returns-then-is_forbidden c =
     let is = ap forbidden (sym c.character.ensures.0) ∙ sym c.is_forbidden.ensures ∙ c.if-is_forbidden.true in
     sym (all_not _ 0 _ c.loop-q.q (omega arith) (omega arith) (ap not is))
 
-pub loop-q-preserved : goal.loop-q-preserved
-loop-q-preserved c =
-    let is = ap forbidden (sym c.character.ensures.0) ∙ sym c.is_forbidden.ensures ∙ c.if-is_forbidden.false in
-    (search rules, sofar_more _ _ _ _ c.loop-q.invariant.1 (ap not is))
-
 pub returns : goal.returns
 unfolding all_allowed
-returns c = sym (all_of _ 0 _ (sofar_cut _ _ _ _ _ c.loop-q.invariant.1 (omega arith)))
+returns c = sym (all_of _ 0 _ (sofar_cut _ _ _ _ _ c.loop-q.invariant (omega arith)))

@@ -1,11 +1,8 @@
-use Rattle.std.proofs.Common.{◌-◌, ◌≤◌, true, not}
+use Rattle.std.proofs.Common.{true, not}
 use Rattle.model.specs.Bytes.{bytes_of}
 use Rattle.model.specs.LongName.{character, forbidden}
 use Rattle.model.proofs.Scan.{Sofar}
 use Rattle.root_names.proofs.all_allowed.Given as goal
 
 abbrev pub invariant-loop-q : goal.invariant-loop-q
-invariant-loop-q l = (l.q ≤ l.n) × Sofar (λ m. not (forbidden (character (bytes_of l.t) m))) true 0 l.q
-
-abbrev pub decreases-loop-q : goal.decreases-loop-q
-decreases-loop-q l = l.n - l.q
+invariant-loop-q l = Sofar (λ m. not (forbidden (character (bytes_of l.t) m))) true 0 l.q

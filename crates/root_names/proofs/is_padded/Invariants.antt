@@ -1,4 +1,4 @@
-use Rattle.std.proofs.Common.{◌+◌, ◌-◌, ◌≤◌, true, ◌||◌, eqb, ltb, get_or}
+use Rattle.std.proofs.Common.{◌+◌, ◌≤◌, true, ◌||◌, eqb, ltb, get_or}
 use Rattle.model.specs.Bytes.{bytes_of, part}
 use Rattle.model.specs.Root.{stem_length}
 use Rattle.model.proofs.Scan.{Sofar}
@@ -6,8 +6,5 @@ use Rattle.root_names.proofs.is_padded.Given as goal
 
 abbrev pub invariant-loop-i : goal.invariant-loop-i
 invariant-loop-i l =
-    (l.i ≤ l.n) × (stem_length l.n (part (bytes_of l.s) l.at) ≤ l.i) × Sofar (λ m. ltb m (stem_length l.n (part (bytes_of l.s) l.at)) || eqb (get_or l.s
+    (stem_length l.n (part (bytes_of l.s) l.at) ≤ l.i) × Sofar (λ m. ltb m (stem_length l.n (part (bytes_of l.s) l.at)) || eqb (get_or l.s
     (l.at + m) 0) 32) true 0 l.i
-
-abbrev pub decreases-loop-i : goal.decreases-loop-i
-decreases-loop-i l = l.n - l.i

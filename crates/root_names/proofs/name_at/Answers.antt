@@ -11,6 +11,6 @@ returns c =
       le_part 8 b a.j 0,
       le_part 3 b a.j 8,
       add-zero a.j,
-      c.le64-stem.ensures.is,
-      c.le24-extension.ensures.is,
+      c.le64.ensures.is,
+      c.le.ensures.is,
     )

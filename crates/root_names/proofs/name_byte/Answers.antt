@@ -8,7 +8,7 @@ use Rattle.root_names.proofs.name_byte.Goals as goal
 
 -- The single numbers among the patterns.
 abbrev keys : List ℕ
-keys = 33 ∷ 45 ∷ 64 ∷ 123 ∷ []
+keys = 33 ∷ 45 ∷ 123 ∷ []
 
 -- On the n numbers from lo on, but for the keys.
 on : (v : Bool) (lo n : ℕ) → all (λ k. like v (name_byte (lo + k)) || has_key keys (lo + k)) n ≡ true → (x : ℕ) → (OneOf keys x → ⊥)
@@ -16,12 +16,28 @@ on : (v : Bool) (lo n : ℕ) → all (λ k. like v (name_byte (lo + k)) || has_k
 on v lo n t x other l h = sym (ranged name_byte v keys lo n t x other l h)
 
 pub returns-in-65-to-90 : goal.returns-in-65-to-90
-unfolding name_byte any between all_from walk
-returns-in-65-to-90 c = on true 48 10 refl c.args.b c.in-65-to-90.in_default-own.rest.1 (omega arith) (omega arith)
+unfolding name_byte any between
+returns-in-65-to-90 c = sym (keyed name_byte true keys refl _ c.in-65-to-90.in-65-to-90-own.keys1)
 
 pub returns-in-65-to-90-2 : goal.returns-in-65-to-90-2
 unfolding name_byte any between all_from walk
-returns-in-65-to-90-2 c = on true 64 27 refl c.args.b c.in-65-to-90.in_default-own.rest.1 (omega arith) (omega arith)
+returns-in-65-to-90-2 c = on true 35 7 refl c.args.b c.in-65-to-90.in_default-own.rest.1 (omega arith) (omega arith)
+
+pub returns-in-65-to-90-3 : goal.returns-in-65-to-90-3
+unfolding name_byte any between all_from walk
+returns-in-65-to-90-3 c = on true 48 10 refl c.args.b c.in-65-to-90.in_default-own.rest.1 (omega arith) (omega arith)
+
+pub returns-in-65-to-90-4 : goal.returns-in-65-to-90-4
+unfolding name_byte any between all_from walk
+returns-in-65-to-90-4 c = on true 64 27 refl c.args.b c.in-65-to-90.in_default-own.rest.1 (omega arith) (omega arith)
+
+pub returns-in-65-to-90-5 : goal.returns-in-65-to-90-5
+unfolding name_byte any between all_from walk
+returns-in-65-to-90-5 c = on true 94 3 refl c.args.b c.in-65-to-90.in_default-own.rest.1 (omega arith) (omega arith)
+
+pub returns-in-65-to-90-6 : goal.returns-in-65-to-90-6
+unfolding name_byte any between all_from walk
+returns-in-65-to-90-6 c = on true 125 2 refl c.args.b c.in-65-to-90.in_default-own.rest.1 (omega arith) (omega arith)
 
 pub returns-in_default : goal.returns-in_default
 unfolding name_byte any between all_from walk
@@ -46,19 +62,3 @@ returns-in_default-5 c = on false 97 28 refl c.args.b c.in_default.in_default-ow
 pub returns-in_default-6 : goal.returns-in_default-6
 unfolding name_byte any between all_from walk
 returns-in_default-6 c = on false 127 129 refl c.args.b c.in_default.in_default-own.rest.1 (omega arith) (omega arith)
-
-pub returns-in-33 : goal.returns-in-33
-unfolding name_byte any between
-returns-in-33 c = sym (keyed name_byte true keys refl _ c.in-33.in-33-own.keys1)
-
-pub returns-in-33-2 : goal.returns-in-33-2
-unfolding name_byte any between all_from walk
-returns-in-33-2 c = on true 35 7 refl c.args.b c.in-33.in_default-own.rest.1 (omega arith) (omega arith)
-
-pub returns-in-33-3 : goal.returns-in-33-3
-unfolding name_byte any between all_from walk
-returns-in-33-3 c = on true 94 3 refl c.args.b c.in-33.in_default-own.rest.1 (omega arith) (omega arith)
-
-pub returns-in-33-4 : goal.returns-in-33-4
-unfolding name_byte any between all_from walk
-returns-in-33-4 c = on true 125 2 refl c.args.b c.in-33.in_default-own.rest.1 (omega arith) (omega arith)

@@ -1,11 +1,8 @@
-use Rattle.std.proofs.Common.{◌≡◌, ◌-◌, ◌/◌, ◌≤◌, false, eqb, length}
+use Rattle.std.proofs.Common.{◌≡◌, ◌/◌, false, eqb, length}
 use Rattle.model.specs.Bytes.{bytes_of}
 use Rattle.model.specs.LongName.{character}
 use Rattle.model.proofs.Scan.{Sofar}
 use Rattle.root_names.proofs.text_length.Given as goal
 
 abbrev pub invariant-loop-q : goal.invariant-loop-q
-invariant-loop-q l = (l.q ≤ l.n) × (l.n ≡ length l.t / 2) × Sofar (λ m. eqb (character (bytes_of l.t) m) 0) false 0 l.q
-
-abbrev pub decreases-loop-q : goal.decreases-loop-q
-decreases-loop-q l = l.n - l.q
+invariant-loop-q l = (l.n ≡ length l.t / 2) × Sofar (λ m. eqb (character (bytes_of l.t) m) 0) false 0 l.q

@@ -8,14 +8,14 @@ pub returns : goal.returns
 unfolding file_at entry_at slot_at
 returns c =
     let a = c.args in
-    let place = c.root_place-s in
+    let place = c.root_place-s.ensures.0 in
     let b = card_of a.w.now (root_place a.l (a.k / 16)) in
     let j = 32 * (a.k % 16) in
     rw (
       le_part 2 b j 26,
       le_part 4 b j 28,
-      rw place.ensures.0 at c.name_at-name.ensures,
-      rw place.ensures.0 at c.byte-attributes.ensures.0,
-      rw place.ensures.0 at c.le16-first.ensures.is,
-      rw place.ensures.0 at c.le32-size.ensures.is,
+      rw place at c.name_at.ensures,
+      rw place at c.byte.ensures.0,
+      rw place at c.le.ensures.is,
+      rw place at c.le-2.ensures.is,
     )

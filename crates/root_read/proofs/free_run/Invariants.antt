@@ -1,5 +1,5 @@
 use mathlib.Core.Bool.{true, false}
-use Prim.Native.Nat.{◌+◌, ◌-◌, ◌≤◌, ◌<◌}
+use Prim.Native.Nat.{◌+◌, ◌≤◌, ◌<◌}
 use Rattle.model.specs.Scan.{all_from}
 use Rattle.model.specs.Sector.{card_of}
 use Rattle.model.specs.Root.{slot_at, vacant}
@@ -8,8 +8,5 @@ use Rattle.root_read.proofs.free_run.Given as goal
 
 abbrev pub invariant-loop-k : goal.invariant-loop-k
 invariant-loop-k l =
-    (l.start ≤ l.k) × (l.k ≤ l.n) × (l.k < l.start + l.m) × Sofar (λ i. vacant (slot_at l.l (card_of l.w) i)) true l.start l.k
+    (l.start ≤ l.k) × (l.k < l.start + l.m) × Sofar (λ i. vacant (slot_at l.l (card_of l.w) i)) true l.start l.k
     × Sofar (λ j. all_from (λ i. vacant (slot_at l.l (card_of l.w) i)) j l.m) false 0 l.start
-
-abbrev pub decreases-loop-k : goal.decreases-loop-k
-decreases-loop-k l = l.n - l.k

@@ -1,16 +1,16 @@
-use mathlib.Core.Path.{◌≡◌, refl, sym, ◌∙◌}
+use mathlib.Core.Path.{◌≡◌, sym, ◌∙◌}
 use Prim.Native.Nat.{◌%◌}
 use native.Mathlib.Omega.{arith}
 use Rattle.model.specs.Sector.{card_of}
-use Rattle.model.proofs.Tests.{clash}
+use borrow.Author.Tests.{eqb-true}
 use Rattle.root_read.proofs.Laws.{blank_slots}
 use Rattle.root_read.proofs.is_blank.Goals as goal
 
-pub returns-then-k-ne0 : goal.returns-then-k-ne0
-returns-then-k-ne0 c = λ e. clash e refl
+pub returns-else-k-eq0 : goal.returns-else-k-eq0
+returns-else-k-eq0 c = λ e. absurd (c.if-k-eq0.false (eqb-true _ _ e))
 
-pub returns : goal.returns
-returns c = λ e.
+pub returns-then-k-eq0 : goal.returns-then-k-eq0
+returns-then-k-eq0 c = λ e.
     let a = c.args in
     let pre = c.requires in
     let z : a.k % 16 ≡ 0 = omega arith in

@@ -1,25 +1,13 @@
-use mathlib.Core.Path.{sym, ◌∙◌}
-use borrow.Author.Tests.{eq-eqb, ne_eqb}
-use Rattle.model.specs.Root.{listed, vacant, is_label}
+use Rattle.std.proofs.Common.{arith}
+use Rattle.std.proofs.lemmas.Grind.{common_steps}
+use Rattle.std.proofs.lemmas.Nat.Bits.{and_pow}
+use Rattle.model.specs.Root.{listed, is_label}
 use Rattle.root_read.proofs.is_listed.Goals as goal
 
-pub returns-then-b-eq0 : goal.returns-then-b-eq0
-unfolding listed vacant is_label
-returns-then-b-eq0 c = rw (eq-eqb _ _ (sym c.slot_byte-b.ensures.0 ∙ c.if-b-eq0.true))
+pub returns-then-not-is_vacant : goal.returns-then-not-is_vacant
+unfolding listed is_label
+returns-then-not-is_vacant c = grind (arith, common_steps, and_pow c.slot_byte.result 3)
 
-pub returns-then-b-eq229 : goal.returns-then-b-eq229
-unfolding listed vacant is_label
-returns-then-b-eq229 c =
-    rw (
-      ne_eqb _ _ (λ e. c.if-b-eq0.false (c.slot_byte-b.ensures.0 ∙ e)),
-      eq-eqb _ _ (sym c.slot_byte-b.ensures.0 ∙ c.if-b-eq229.true),
-    )
-
-pub returns : goal.returns
-unfolding listed vacant is_label
-returns c =
-    rw (
-      ne_eqb _ _ (λ e. c.if-b-eq0.false (c.slot_byte-b.ensures.0 ∙ e)),
-      ne_eqb _ _ (λ e. c.if-b-eq229.false (c.slot_byte-b.ensures.0 ∙ e)),
-      c.slot_byte.ensures.0,
-    )
+pub returns-else-not-is_vacant : goal.returns-else-not-is_vacant
+unfolding listed is_label
+returns-else-not-is_vacant c = grind (arith, common_steps)

@@ -1,6 +1,3 @@
-use Prim.Native.Nat.{◌-◌, ◌≤◌}
-use mathlib.Core.Path.{◌≡◌}
-use lib.ListN.{length}
 use Rattle.model.specs.Bytes.{bytes_of}
 use Rattle.model.specs.Sector.{card_of}
 use Rattle.model.specs.Root.{slot_at}
@@ -10,7 +7,4 @@ use Rattle.root_write.proofs.Laws.{Laid}
 use Rattle.root_write.proofs.load_edited.Given as goal
 
 abbrev pub invariant-loop-i : goal.invariant-loop-i
-invariant-loop-i l = (l.i ≤ 16) × (length l.buf ≡ 512) × Laid (effect (with_text l.o (bytes_of l.text)) (slot_at l.l (card_of l.w))) l.r l.i (bytes_of l.buf)
-
-abbrev pub decreases-loop-i : goal.decreases-loop-i
-decreases-loop-i l = 16 - l.i
+invariant-loop-i l = Laid (effect (with_text l.o (bytes_of l.text)) (slot_at l.l (card_of l.w))) l.r l.i (bytes_of l.buf)

@@ -1,4 +1,4 @@
-use mathlib.Core.Path.{◌≡◌, ap, ◌∙◌}
+use mathlib.Core.Path.{◌≡◌, refl, ap, ◌∙◌}
 use mathlib.Core.Bool.{Bool}
 use Prim.Native.Nat.{ℕ, ◌+◌, ◌*◌}
 use native.Mathlib.Omega.{arith}
@@ -17,18 +17,17 @@ loop-i-init c = (search rules, all_none _)
 pub loop-i-preserved : goal.loop-i-preserved
 loop-i-preserved c =
     let turn = c.loop-i in
-    let start : ℕ = 512 * c.index-start.result in
+    let start : ℕ = 512 * c.args.s in
     let w = c.args.w.now in
     (search rules, all_more (λ m. eqb (get_or w (start + 32 * m) 0) 0) turn.i turn.blank turn.invariant.1)
 
 pub returns : goal.returns
 returns c =
     let turn = c.loop-i in
-    let the-index = c.index-start in
     let a = c.args in
     let w = a.w.now in
-    let p : ℕ → Bool = λ m. eqb (get_or w (512 * the-index.result + 32 * m) 0) 0 in
+    let p : ℕ → Bool = λ m. eqb (get_or w (512 * a.s + 32 * m) 0) 0 in
     let e : turn.i ≡ 16 = omega arith in
     turn.invariant.1 ∙ ap (all_from p 0) e
     ∙ all_same p (λ m. eqb (card_of w a.s (32 * m)) 0) 0 16
-    (λ m low less. ap (λ b. eqb b 0) (in_sector w the-index.result a.s the-index.ensures (32 * m) (omega arith)))
+    (λ m low less. ap (λ b. eqb b 0) (in_sector w a.s a.s refl (32 * m) (omega arith)))

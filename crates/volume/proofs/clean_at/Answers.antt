@@ -1,25 +1,16 @@
-use mathlib.Core.Path.{sym, ap, ◌∙◌}
-use Rattle.model.specs.Sector.{window_of}
+use mathlib.Core.Path.{sym}
+use Rattle.std.proofs.lemmas.Result.{err_from_is_err_and}
 use Rattle.model.proofs.Volumes.{at_refused, at_late, at_granted}
-use Rattle.volume.specs.Examined.{examined_of}
 use Rattle.volume.proofs.clean_at.Goals as goal
 
-pub returns-then-seconds-gt-LAST_SECOND : goal.returns-then-seconds-gt-LAST_SECOND
-returns-then-seconds-gt-LAST_SECOND c =
-    let a = c.args in
-    let the-clean = c.clean-e in
-    let is = sym the-clean.ensures.0 ∙ ap examined_of c.in-Granted.is in
-    (sym (at_late (window_of a.w.now) a.seconds _ is c.if-seconds-gt-LAST_SECOND.true), tt)
+pub returns-in_err-v-clause-answer : goal.returns-in_err-v-clause-answer
+returns-in_err-v-clause-answer c =
+    let p = err_from_is_err_and c.from_residual.result c.from_residual.ensures.1 in
+    rw (p.1, p.2) (sym (at_refused _ _ _ (sym c.in_err-v.ensures.answer)))
 
-pub returns-in-Refused : goal.returns-in-Refused
-returns-in-Refused c =
-    let a = c.args in
-    let the-clean = c.clean-e in
-    (sym (at_refused (window_of a.w.now) a.seconds _ (sym the-clean.ensures.0 ∙ ap examined_of c.in-Refused.is)), tt)
+pub returns-then-seconds-gt-LAST_SECOND-clause-answer : goal.returns-then-seconds-gt-LAST_SECOND-clause-answer
+returns-then-seconds-gt-LAST_SECOND-clause-answer c =
+    sym (at_late _ c.args.seconds _ (sym c.in_ok-v.ensures.answer) c.if-seconds-gt-LAST_SECOND.true)
 
-pub returns-else-seconds-gt-LAST_SECOND : goal.returns-else-seconds-gt-LAST_SECOND
-returns-else-seconds-gt-LAST_SECOND c =
-    let a = c.args in
-    let the-clean = c.clean-e in
-    let is = sym the-clean.ensures.0 ∙ ap examined_of c.in-Granted.is in
-    (sym (at_granted (window_of a.w.now) a.seconds _ is c.if-seconds-gt-LAST_SECOND.false), rw c.in-Granted.is at the-clean.ensures.1)
+pub returns-clause-answer : goal.returns-clause-answer
+returns-clause-answer c = sym (at_granted _ c.args.seconds _ (sym c.in_ok-v.ensures.answer) c.if-seconds-gt-LAST_SECOND.false)

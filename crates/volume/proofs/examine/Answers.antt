@@ -1,18 +1,20 @@
-use mathlib.Core.Path.{sym, ap, ◌∙◌}
-use Rattle.model.specs.Ground.{◌>>=◌}
+use mathlib.Core.Path.{◌≡◌}
+use Rattle.std.proofs.lemmas.Result.{err_from_is_err_and}
+use Rattle.model.specs.Sector.{window_of}
+use Rattle.model.specs.Ground.{answer_of, ◌>>=◌}
 use Rattle.model.specs.Volume.{examine}
-use Rattle.volume.specs.Examined.{mounted_of, examine_on}
+use Rattle.volume.specs.Examined.{examine_on}
+use Rattle.volume.proofs.Ready.{opened_with}
 use Rattle.volume.proofs.examine.Goals as goal
 
-pub examine_log-requires : goal.examine_log-requires
-examine_log-requires c = rw c.in-Fit.is at c.mount-m.ensures.1
-
-pub returns-in-Unfit : goal.returns-in-Unfit
+pub returns-in_err-l-clause-answer : goal.returns-in_err-l-clause-answer
 unfolding examine ◌>>=◌
-returns-in-Unfit c = (let e = sym c.mount-m.ensures.0 ∙ ap mounted_of c.in-Unfit.is in rw e, tt)
+returns-in_err-l-clause-answer c =
+    let p = err_from_is_err_and c.from_residual.result c.from_residual.ensures.1 in rw (p.1, p.2, ← c.in_err-l.ensures.answer)
 
-pub returns-in-Fit : goal.returns-in-Fit
+pub returns : goal.returns
 unfolding examine examine_on ◌>>=◌
-returns-in-Fit c =
-    let mount = c.mount-m in
-    (let e = sym mount.ensures.0 ∙ ap mounted_of c.in-Fit.is in rw e c.examine_log.ensures.0, c.examine_log.ensures.1)
+returns c =
+    let r = c.examine_log in
+    let e : answer_of r.result ≡ examine (window_of c.args.w.now) = rw (← c.in_ok-l.ensures.answer) r.ensures.answer in
+    record { answer = e; legible = opened_with c.args.w.now r.result e r.ensures.carried }

@@ -1,27 +1,13 @@
-use mathlib.Core.Path.{sym, ◌∙◌}
-use Rattle.model.specs.Sector.{card_of}
-use Rattle.model.specs.Fat.{fat1_of}
+use mathlib.Core.Path.{sym}
 use Rattle.model.specs.Ground.{◌>>=◌}
 use Rattle.volume.specs.Examined.{examine_on}
 use Rattle.fat_read.proofs.Grounds.{locate_nowhere, locate_at}
-use borrow.Author.Rules.{rules}
 use Rattle.volume.proofs.examine_log.Goals as goal
 
-pub inspect-requires : goal.inspect-requires
-inspect-requires c = (search rules, rw c.in-At.is at c.locate-log.ensures.1)
-
-pub returns-in-Nowhere : goal.returns-in-Nowhere
+pub returns-in_default-clause-answer : goal.returns-in_default-clause-answer
 unfolding examine_on ◌>>=◌
-returns-in-Nowhere c =
-    let a = c.args in
-    (rw (locate_nowhere a.l (fat1_of a.l (card_of a.w.now)) (sym c.locate-log.ensures.0 ∙ c.in-Nowhere.is)), tt)
+returns-in_default-clause-answer c = rw (locate_nowhere c.args.l _ (sym c.in_default.ensures.0))
 
-pub returns-in-At : goal.returns-in-At
+pub returns-clause-answer : goal.returns-clause-answer
 unfolding examine_on ◌>>=◌
-returns-in-At c =
-    let a = c.args in
-    let locate = c.locate-log in (
-      rw (locate_at a.l (fat1_of a.l (card_of a.w.now)) _ (sym locate.ensures.0 ∙ c.in-At.is))
-          c.inspect.ensures.0,
-      c.inspect.ensures.1,
-    )
+returns-clause-answer c = rw (locate_at c.args.l _ _ (sym c.in-Some.ensures.0)) c.inspect.ensures.answer
